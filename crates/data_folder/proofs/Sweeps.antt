@@ -6,7 +6,7 @@ use Rattle.std.specs.Str.{bytes_eq}
 use Rattle.std.proofs.lemmas.List.Folds.{list_any-append}
 use Rattle.std.proofs.lemmas.Slice.Eq.{bytes_eq-Decides}
 use Rattle.journal.specs.Records.{file_of}
-use Rattle.data_folder.specs.Folders.{Elapses, HasFile, KeepsAll, KeepsOthers, Left, LeavesAll}
+use Rattle.data_folder.specs.Folders.{Elapses, KeepsAll, KeepsOthers, Left, LeavesAll}
 use Rattle.data_folder.specs.Folders.{LeavesOnly, LeavesOthers, MayLeaveOf}
 use Rattle.data_folder.specs.JournalFile.{journal_name}
 use Rattle.data_folder.specs.Rolls.{Keeps}
@@ -55,7 +55,7 @@ one_more names more name h =
     list_any-append (λ (other : List ℕ). bytes_eq other name) names more
     ∙ or_one (is_among names name) (is_among more name) h
 
-pub among_more : (names more : List (List ℕ)) (files : List Named) → AreAmong names files
+among_more : (names more : List (List ℕ)) (files : List Named) → AreAmong names files
     → AreAmong (names ++ more) files
 among_more names more [] among = tt
 among_more names more (file ∷ files) among =
@@ -63,28 +63,6 @@ among_more names more (file ∷ files) among =
 
 module _ {F : Type 0} (shows : F → List ℕ → Option (List ℕ) → Type 0)
     (kept : F → List ℕ → ℕ → Type 0) (sound : F → Bool) where
-  has_all : (name bytes : List ℕ) (old new : F) → KeepsAll shows kept old new
-      → HasFile shows kept name bytes old → HasFile shows kept name bytes new
-  has_all name bytes old new k h = record {
-    shown = k.same name (Some bytes) h.shown;
-    durable = k.durable name (length bytes) h.durable;
-  }
-
-  there_all : (files : List Named) (old new : F) → KeepsAll shows kept old new
-      → AreThere shows kept files old → AreThere shows kept files new
-  there_all [] old new k there = tt
-  there_all (file ∷ files) old new k there =
-      (has_all file.0 file.1 old new k there.0, there_all files old new k there.1)
-
-  all_left : (files : List Named) (old : F) (left : Left) → LeavesAll shows kept old left
-      → AreThere shows kept files old → HasFiles files left
-  all_left [] old left l there = tt
-  all_left (file ∷ files) old left l there = (
-    whole_left file.1 (left file.0)
-        (l file.0 (Some file.1) (length file.1) there.0.shown there.0.durable),
-    all_left files old left l there.1,
-  )
-
   still_there : (name : List ℕ) (names : List (List ℕ)) (old new : F) (files : List Named)
       → is_kept names name ≡ false → KeepsOthers shows kept name name old new
       → AreAmong names files → AreThere shows kept files old → AreThere shows kept files new
@@ -159,25 +137,72 @@ module _ {F : Type 0} (shows : F → List ℕ → Option (List ℕ) → Type 0)
     any_moment = λ contents files len h among there. at_rest f contents files len h there;
   }
 
-  -- all names have what they had
-  pub all_kept : (names : List (List ℕ)) (old new : F) → KeepsAll shows kept old new
+  -- one file was written or removed, or was not
+  pub one_changed : (name : List ℕ) (names : List (List ℕ)) (old new : F) (P : Left → Type 0)
+      → is_kept names name ≡ false → KeepsOthers shows kept name name old new → sound new ≡ true
+      → Elapses (moment old) (moment new) (left_since old) (left_since new)
+      (LeavesOthers shows kept name name old P)
+      → KeepsStore shows kept sound moment left_since names old new
+  one_changed name names old new P apart k s time =
+      let away = not_journal names name apart in
+      record {
+        journal = λ contents len h. still_kept shows kept sound name old new contents len away k s h;
+        files = λ files among there.
+            still_there shows kept sound name names old new files apart k among there;
+        any_moment = λ contents files len h among there.
+            goes_on moment left_since old old new (HasStore files contents)
+            (LeavesOthers shows kept name name old P) (at_rest old contents files len h there) time
+            (λ left l. record {
+              files = files_left shows kept sound name names old P left files apart l among there;
+              journal = journal_whole contents left h.each
+                  (whole_left (file_of contents) (left journal_name)
+                  (l.others journal_name (Some (file_of contents)) (length (file_of contents)) away
+                  away h.file.shown h.file.durable));
+            });
+      }
+
+  all_stay : (files : List Named) (old new : F) → KeepsAll shows kept old new
+      → AreThere shows kept files old → AreThere shows kept files new
+  all_stay [] old new k there = tt
+  all_stay (file ∷ files) old new k there = (
+    record {
+      shown = k.same file.0 (Some file.1) there.0.shown;
+      durable = k.durable file.0 (length file.1) there.0.durable;
+    },
+    all_stay files old new k there.1,
+  )
+
+  all_left : (files : List Named) (old : F) (left : Left) → LeavesAll shows kept old left
+      → AreThere shows kept files old → HasFiles files left
+  all_left [] old left l there = tt
+  all_left (file ∷ files) old left l there = (
+    whole_left file.1 (left file.0)
+        (l file.0 (Some file.1) (length file.1) there.0.shown there.0.durable),
+    all_left files old left l there.1,
+  )
+
+  -- no file was written or removed
+  pub none_changed : (names : List (List ℕ)) (old new : F) → KeepsAll shows kept old new
       → sound new ≡ true
       → Elapses (moment old) (moment new) (left_since old) (left_since new)
       (LeavesAll shows kept old)
       → KeepsStore shows kept sound moment left_since names old new
-  all_kept names old new k s time = record {
+  none_changed names old new k s time = record {
     journal = λ contents len h. record {
       each = h.each;
-      file = has_all shows kept sound journal_name (file_of contents) old new k h.file;
+      file = record {
+        shown = k.same journal_name (Some (file_of contents)) h.file.shown;
+        durable = k.durable journal_name (length (file_of contents)) h.file.durable;
+      };
       is_sound = s;
       counted = h.counted;
     };
-    files = λ files among there. there_all shows kept sound files old new k there;
+    files = λ files among there. all_stay files old new k there;
     any_moment = λ contents files len h among there.
         goes_on moment left_since old old new (HasStore files contents)
         (LeavesAll shows kept old) (at_rest old contents files len h there) time
         (λ left l. record {
-          files = all_left shows kept sound files old left l there;
+          files = all_left files old left l there;
           journal = journal_whole contents left h.each
               (whole_left (file_of contents) (left journal_name)
               (l journal_name (Some (file_of contents)) (length (file_of contents)) h.file.shown
@@ -195,30 +220,6 @@ module _ {F : Type 0} (shows : F → List ℕ → Option (List ℕ) → Type 0)
     any_moment = λ contents files len h among there.
         k.any_moment contents files len h (among_more names more files among) there;
   }
-
-  -- one file was removed or written, or was not
-  pub one_removed : (name : List ℕ) (names : List (List ℕ)) (old new : F) (P : Left → Type 0)
-      → is_kept names name ≡ false → KeepsOthers shows kept name name old new → sound new ≡ true
-      → Elapses (moment old) (moment new) (left_since old) (left_since new)
-      (LeavesOthers shows kept name name old P)
-      → KeepsStore shows kept sound moment left_since names old new
-  one_removed name names old new P apart k s time =
-      let away = not_journal names name apart in
-      record {
-        journal = λ contents len h. still_kept shows kept sound name old new contents len away k s h;
-        files = λ files among there.
-            still_there shows kept sound name names old new files apart k among there;
-        any_moment = λ contents files len h among there.
-            goes_on moment left_since old old new (HasStore files contents)
-            (LeavesOthers shows kept name name old P) (at_rest old contents files len h there) time
-            (λ left l. record {
-              files = files_left shows kept sound name names old P left files apart l among there;
-              journal = journal_whole contents left h.each
-                  (whole_left (file_of contents) (left journal_name)
-                  (l.others journal_name (Some (file_of contents)) (length (file_of contents)) away
-                  away h.file.shown h.file.durable));
-            });
-      }
 
   -- one call after another
   pub then_kept : (names : List (List ℕ)) (old mid new : F)

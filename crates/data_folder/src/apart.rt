@@ -1,12 +1,12 @@
 //! Files that are written beside a store.
 
-ghost use Rattle.std.specs.Prelude.{◌≡◌, ◌++◌, ◌∷◌, [], ℕ, List, true, Err, IsErrOf, OnErr, OnOk};
+ghost use Rattle.std.specs.Prelude.{◌≡◌, ◌++◌, ◌∷◌, [], true, Err, IsErrOf, OnErr, OnOk};
 ghost use Rattle.data_folder.specs.Folders.{HasFile};
 ghost use Rattle.data_folder.specs.Sweeping.{KeepsStore, is_kept, names_in};
 
+use crate::adding::add;
 use crate::folder::Folder;
 use crate::sweeping::is_kept;
-use journal::MediumError;
 use std::alloc::Global;
 
 /// Why a file is not written beside a store.
@@ -56,23 +56,11 @@ pub fn write_apart<F: Folder>(
         Ok(owned) => owned,
         Err(_) => return Err(ApartError::Memory),
     };
-    match folder.write(name, bytes) {
+    match add(folder, name, bytes) {
         Ok(()) => match kept.push(owned) {
             Ok(()) => Ok(()),
             Err(_) => Err(ApartError::Memory),
         },
         Err(_) => Err(ApartError::Medium),
     }
-}
-
-/// Makes a folder in this one, if it is not there. The journal and all files stay, also after a
-/// crash at any moment of the call.
-pub fn make_apart<F: Folder>(folder: &mut F, name: &str) -> Result<(), MediumError>
-    requires { F.sound folder.old ≡ true }
-    ensures failed { OnErr result (F.failed folder.new ≡ true) }
-    ensures sound { F.sound folder.new ≡ true }
-    ensures stays { (names : List (List ℕ)) → KeepsStore F.shows F.kept F.sound F.moment
-        F.left_since names folder.old folder.new }
-{
-    folder.make(name)
 }

@@ -4,6 +4,7 @@ pub mod Files
 pub mod Kept
 pub mod Litter
 pub mod OpenedBlocks
+pub mod Places
 pub mod Rolls
 pub mod Starts
 pub mod Told

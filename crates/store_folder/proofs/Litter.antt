@@ -40,7 +40,7 @@ or_first : (b c : Bool) → b ≡ true → (b || c) ≡ true
 or_first true c h = refl
 or_first false c h = absurd cc
 
-here : (name : List ℕ) (names : List (List ℕ)) → is_among (name ∷ names) name ≡ true
+pub here : (name : List ℕ) (names : List (List ℕ)) → is_among (name ∷ names) name ≡ true
 here name names =
     or_first (bytes_eq name name) (is_among names name) ((bytes_eq-Decides name name).1 refl)
 
@@ -133,7 +133,7 @@ block_more places next p old new is so_far more =
 
 module _ {F : Type 0} (shows : F → List ℕ → Option (List ℕ) → Type 0)
     (kept : F → List ℕ → ℕ → Type 0) where
-  among_at : (places : List Place) (parts : List BlockPart) (f : F)
+  pub among_at : (places : List Place) (parts : List BlockPart) (f : F)
       (at : AreAt shows kept places parts f)
       → AreAmong (names_at places) (files_at shows kept places parts f at)
   among_at [] [] f at = tt
@@ -147,7 +147,7 @@ module _ {F : Type 0} (shows : F → List ℕ → Option (List ℕ) → Type 0)
       (among_at places parts f at.1))
 
   -- the blocks stay, where their files do
-  at_again : (places : List Place) (parts : List BlockPart) (f g : F)
+  pub at_again : (places : List Place) (parts : List BlockPart) (f g : F)
       (at : AreAt shows kept places parts f)
       → AreThere shows kept (files_at shows kept places parts f at) g
       → AreAt shows kept places parts g
@@ -159,6 +159,18 @@ module _ {F : Type 0} (shows : F → List ℕ → Option (List ℕ) → Type 0)
       parted (λ (file : Named). HasFile shows kept file.0 file.1 g) (named_files p at.0.0)
       (files_at shows kept places parts f at.1) there in
       ((at.0.0, at.0.1, split.0), at_again places parts f g at.1 split.1)
+
+module _ {F : Type 0} (shows : F → List ℕ → Option (List ℕ) → Type 0)
+    (kept : F → List ℕ → ℕ → Type 0) (sound : F → Bool) (moment : F → ℕ)
+    (left_since : F → ℕ → Left → Type 0) where
+  pub blocks_kept : (places : List Place) (parts : List BlockPart) (old new : F)
+      → AreAt shows kept places parts old
+      → KeepsStore shows kept sound moment left_since (names_at places) old new
+      → AreAt shows kept places parts new
+  blocks_kept places parts old new at k =
+      at_again shows kept places parts old new at
+      (k.files (files_at shows kept places parts old at) (among_at shows kept places parts old at)
+      (there_at shows kept places parts old at))
 
 module _ {F : Type 0} (shows : F → List ℕ → Option (List ℕ) → Type 0)
     (kept : F → List ℕ → ℕ → Type 0) (sound : F → Bool) (moment : F → ℕ)
@@ -175,11 +187,12 @@ module _ {F : Type 0} (shows : F → List ℕ → Option (List ℕ) → Type 0)
   Sweeps names old new = KeepsStore shows kept sound moment left_since names old new
 
   pub holds_swept : (first : World) (old new : JournalFile F) (len : ℕ) (closed : Bool)
-      (events : List Event) (places : List Place) (names : List (List ℕ))
-      → HoldsAt shows kept sound moment left_since first old len closed events places
+      (events : List Event) (places : List Place) (parts : List BlockPart)
+      (names : List (List ℕ))
+      → HoldsAt shows kept sound moment left_since first old len closed events places parts
       → closed ≡ false → names ≡ names_at places → Sweeps names old.folder new.folder
-      → HoldsAt shows kept sound moment left_since first new len closed events places
-  holds_swept first old new len closed events places names at opened is k =
+      → HoldsAt shows kept sound moment left_since first new len closed events places parts
+  holds_swept first old new len closed events places parts names at opened is k =
       let h : HoldsAll first old len closed events = at.0 in
       let swept : Sweeps (names_at h.saved.places) old.folder new.folder =
       subst (λ (x : List (List ℕ)). Sweeps x old.folder new.folder)
@@ -194,6 +207,7 @@ module _ {F : Type 0} (shows : F → List ℕ → Option (List ℕ) → Type 0)
             (among_at shows kept h.saved.places h.parts old.folder h.blocks)
             (there_at shows kept h.saved.places h.parts old.folder h.blocks))),
         at.1,
+        at.2,
       )
 
   left_so : (first w : World) (old : JournalFile F) (len : ℕ) (closed : Bool)
@@ -208,11 +222,12 @@ module _ {F : Type 0} (shows : F → List ℕ → Option (List ℕ) → Type 0)
       (stands_in h.saved h.late left has.journal h.journal.each) found)
 
   pub swept_finds : (first : World) (old new : JournalFile F) (len : ℕ) (closed : Bool)
-      (events : List Event) (places : List Place) (names : List (List ℕ))
-      → HoldsAt shows kept sound moment left_since first old len closed events places
+      (events : List Event) (places : List Place) (parts : List BlockPart)
+      (names : List (List ℕ))
+      → HoldsAt shows kept sound moment left_since first old len closed events places parts
       → closed ≡ false → names ≡ names_at places → Sweeps names old.folder new.folder
       → StartFinds moment left_since old.folder new.folder first events
-  swept_finds first old new len closed events places names at opened is k =
+  swept_finds first old new len closed events places parts names at opened is k =
       let h : HoldsAll first old len closed events = at.0 in
       let swept : Sweeps (names_at h.saved.places) old.folder new.folder =
       subst (λ (x : List (List ℕ)). Sweeps x old.folder new.folder)

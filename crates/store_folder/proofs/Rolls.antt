@@ -41,7 +41,7 @@ parted P (x ∷ xs) ys h = let rest = parted P xs ys h.1 in ((h.0, rest.0), rest
 
 -- no file of a block is a journal
 
-begins_so : (rest name : List ℕ) → get_or name 0 0 ≡ 106 → codes "blocks/" ++ rest ≢ name
+pub begins_so : (rest name : List ℕ) → get_or name 0 0 ≡ 106 → codes "blocks/" ++ rest ≢ name
 begins_so rest name is e =
     absurd (let n : 98 ≡ 106 = ap (λ (xs : List ℕ). get_or xs 0 0) e ∙ is in omega (arith, n))
 
@@ -215,10 +215,12 @@ module _ {F : Type 0} (shows : F → List ℕ → Option (List ℕ) → Type 0)
       → ((files : List Named) → AllByRecursion IsApart files → AreThere shows kept files old.folder
       → AreThere shows kept files new.folder)
       → HoldsAt shows kept sound moment left_since first new new_len closed events saved.places
+      parts
   rolled first old new len new_len was closed saved parts events m head k stay = (
     after_head first new new_len closed saved parts events events [] (sym (append-nil events)) head
         tt m.world k
         (blocks_rolled shows kept saved.places parts old.folder new.folder stay m.blocks),
+    refl,
     refl,
   )
 

@@ -249,7 +249,7 @@ module _ {F : Type 0} (shows : F → List ℕ → Option (List ℕ) → Type 0)
     → kept f name n → left_since f (moment f) left → MayLeaveOf n x (left name))
     (earlier : (f : F) (t u : ℕ) (left : Left) → t ≤ u → u ≤ moment f → left_since f u left
     → left_since f t left) where
-  pub holds_nothing : (first : World) (m : JournalFile F) (len : ℕ) (closed : Bool)
+  abbrev pub holds_nothing : (first : World) (m : JournalFile F) (len : ℕ) (closed : Bool)
       → first ≡ world_of (opening_of []) → IsSaved nothing_saved
       → rolls.Keeps shows kept sound (contents_with (head_texts nothing_saved) []) m.folder len
       → HoldsAfterHead shows kept sound moment left_since first m len closed []

@@ -36,7 +36,8 @@ pub record HoldsAfterHead {F : Type 0} (shows : F → List ℕ → Option (List 
   pub all : events ≡ early ++ late
   pub head : IsSaved saved
   pub begins : replayed first early ≡ Ok (world_of (started saved parts))
-  pub journal : Holds (λ (j : JournalFile F) (bytes : List ℕ). shows j.folder journal_name (Some bytes))
+  pub journal : Holds
+      (λ (j : JournalFile F) (bytes : List ℕ). shows j.folder journal_name (Some bytes))
       (λ (j : JournalFile F) (n : ℕ). kept j.folder journal_name n)
       (λ (j : JournalFile F). sound j.folder) (λ (j : JournalFile F). moment j.folder)
       (λ (j : JournalFile F) (t : ℕ) (bytes : List ℕ). JournalLeft left_since j.folder t bytes)
@@ -55,7 +56,8 @@ pub record KeptLast {F : Type 0} (shows : F → List ℕ → Option (List ℕ) �
   pub all : events ≡ early ++ late
   pub head : IsSaved saved
   pub begins : replayed first early ≡ Ok (world_of (started saved parts))
-  pub journal : Holds (λ (j : JournalFile F) (bytes : List ℕ). shows j.folder journal_name (Some bytes))
+  pub journal : Holds
+      (λ (j : JournalFile F) (bytes : List ℕ). shows j.folder journal_name (Some bytes))
       (λ (j : JournalFile F) (n : ℕ). kept j.folder journal_name n)
       (λ (j : JournalFile F). sound j.folder) (λ (j : JournalFile F). moment j.folder)
       (λ (j : JournalFile F) (t : ℕ) (bytes : List ℕ). JournalLeft left_since j.folder t bytes)
@@ -66,13 +68,13 @@ pub record KeptLast {F : Type 0} (shows : F → List ℕ → Option (List ℕ) �
 abbrev pub FoundSince : {F : Type 0} → (F → ℕ → Left → Type 0) → F → ℕ → World → Type 0
 FoundSince left_since f t w = (left : Left) × left_since f t left × StartsWith left w
 
--- the same, and the blocks that the head names lie at these places
+-- the same, and these are the blocks that the head names, and where they lie
 abbrev pub HoldsAt : {F : Type 0} → (F → List ℕ → Option (List ℕ) → Type 0)
     → (F → List ℕ → ℕ → Type 0) → (F → Bool) → (F → ℕ) → (F → ℕ → Left → Type 0) → World
-    → JournalFile F → ℕ → Bool → List Event → List Place → Type 0
-HoldsAt shows kept sound moment left_since first m len closed events places =
+    → JournalFile F → ℕ → Bool → List Event → List Place → List BlockPart → Type 0
+HoldsAt shows kept sound moment left_since first m len closed events places parts =
     (h : HoldsAfterHead shows kept sound moment left_since first m len closed events)
-    × (h.saved.places ≡ places)
+    × (h.saved.places ≡ places) × (h.parts ≡ parts)
 
 -- The journal was lost on the way to a new head: nothing more is taken, and a start finds the world
 -- of these events.

@@ -1,3 +1,4 @@
+pub mod Adding
 pub mod Blocks
 pub mod Faults
 pub mod Finding

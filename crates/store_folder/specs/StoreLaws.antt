@@ -68,9 +68,11 @@ part_with range part = record { min = range.0; max = range.1; part = part }
 one_block : (files : BlockFiles) (b c : BlockPart) → IsBytes files.index
     → IsBytes files.tombstones → SpellBlock files b → SpellBlock files c → b ≡ c
 one_block files b c fits deleted x y =
-    let range : times_of b ≡ times_of c = same_times (times_of b) (times_of c) (sym x.range ∙ y.range) in
+    let range : times_of b ≡ times_of c =
+    same_times (times_of b) (times_of c) (sym x.range ∙ y.range) in
     let spelled : IsBlock (times_of c) files.index files.chunks files.tombstones b.part =
-    subst (λ (r : Times). IsBlock r files.index files.chunks files.tombstones b.part) range x.block in
+    subst (λ (r : Times). IsBlock r files.index files.chunks files.tombstones b.part) range
+    x.block in
     ap (λ (r : Times). part_with r b.part) range
     ∙ ap (part_with (times_of c)) (one_part (times_of c) files.index files.chunks files.tombstones
     b.part c.part fits deleted spelled y.block)

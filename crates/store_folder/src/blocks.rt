@@ -66,8 +66,8 @@ fn open_files(
     }
 }
 
-/// The block that its files spell, or the first check that fails: `B2` of `meta.json`, then those of
-/// `Block::open`.
+/// The block that its files spell, or the first check that fails: `B2` of `meta.json`, then those
+/// of `Block::open`.
 pub fn open_block(alloc: Global, files: BlockBytes) -> Result<Block, BlockError>
     // The range and the part are what the files spell.
     ensures found { IfOk result (λ b. SpellBlock (files_in files) (part_in b)) }

@@ -91,8 +91,8 @@ pub fn read_journal(alloc: Global, file: &[u8]) -> Result<FoundJournal, ReadErro
     ensures found { IfOk result (λ j. IsJournalOf file.now j.head j.events.items) }
     ensures len { IfOk result (λ j. j.len
         ≡ length (file_of (contents_with (head_texts j.head) j.events.items))) }
-    // A file that stands for a head and events gives these, unless memory runs out or a matcher of a
-    // deletion is refused.
+    // A file that stands for a head and events gives these, unless memory runs out or a matcher of
+    // a deletion is refused.
     ensures only { (saved : Saved) (events : List Change) → IsJournalOf file.now saved events
         → GivesJournal saved events result }
     // A refusal tells which check failed first, and where.

@@ -2,17 +2,18 @@
 //!
 //! A store is one journal and the files of the blocks that its head names: `IsState`, in
 //! `specs/States.antt`. [`read_store`] gives what a folder has of one, and [`resume_store`] goes on
-//! with it; [`StoreKeeper::create`] begins one. A [`StoreKeeper`] keeps the events of a running store
-//! there, begins its journal anew with a new head ([`StoreKeeper::roll`]), and removes files that are
-//! no longer the store's ([`StoreKeeper::sweep`]).
+//! with it; [`StoreKeeper::create`] begins one. A [`StoreKeeper`] keeps the events of a running
+//! store there, begins its journal anew with a new head ([`StoreKeeper::roll`]), and removes files
+//! that are no longer the store's ([`StoreKeeper::sweep`]).
 //!
 //! [`read_journal`] gives the head and the events of a journal's file, or the first fault, `J1` to
 //! `J14`; [`read_blocks`] gives the blocks at places, and [`open_block`] the block that files spell.
 //!
-//! It stands on `data_folder` for the folder, on `head_record` and `event_journal` for what a journal
-//! has, and on `head` for snapshots and the step of an event.
+//! It stands on `data_folder` for the folder, on `head_record` and `event_journal` for what a
+//! journal has, and on `head` for snapshots and the step of an event.
 #![tactic(auto)]
 
+mod adding;
 mod blocks;
 mod error;
 mod heads;

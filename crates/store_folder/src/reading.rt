@@ -100,8 +100,8 @@ fn with_found<F: Folder>(
     }
 }
 
-/// The store that a folder has, or `None` if it has no journal. Nothing in the folder is changed; the
-/// files are synced before they are read, so a crash leaves them.
+/// The store that a folder has, or `None` if it has no journal. Nothing in the folder is changed;
+/// the files are synced before they are read, so a crash leaves them.
 pub fn read_store<F: Folder>(
     alloc: Global,
     folder: &mut F,

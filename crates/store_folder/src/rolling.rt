@@ -39,7 +39,7 @@ impl<N: Beginning, F: Folder + Drop> StoreKeeper<N, F> {
             self.old.events.journal.closed events head.now parts
             → HoldsAt F.shows F.kept F.sound F.moment F.left_since N.first
             self.new.events.journal.medium self.new.events.journal.len
-            self.new.events.journal.closed events head.now.places) }
+            self.new.events.journal.closed events head.now.places parts) }
         // After a crash at any moment of the call, a start finds the world of these events.
         ensures any_moment { (events : List Change) (parts : List BlockPart)
             → MayRoll F.shows F.kept F.sound F.moment F.left_since N.first

@@ -72,6 +72,8 @@ impl<N: Beginning, F: Folder + Drop> StoreKeeper<N, F> {
         requires first { N.first ≡ world_of (opening_of []) }
         ensures holds { IfOk result (λ k. HoldsStore F.shows F.kept F.sound F.moment F.left_since
             N.first k.events.journal.medium k.events.journal.len k.events.journal.closed []) }
+        ensures places { IfOk result (λ k. HoldsAt F.shows F.kept F.sound F.moment F.left_since
+            N.first k.events.journal.medium k.events.journal.len k.events.journal.closed [] [] []) }
         ensures open { IfOk result (λ k. k.events.journal.closed ≡ false) }
         ensures any_moment { MatchResult result
             (λ k. LeavesOnly F.moment F.left_since folder k.events.journal.medium.folder
@@ -102,7 +104,7 @@ impl<N: Beginning, F: Folder + Drop> StoreKeeper<N, F> {
             → N.first ≡ world_of (started journal.head parts)
             → HoldsAt F.shows F.kept F.sound F.moment F.left_since N.first
             k.events.journal.medium k.events.journal.len k.events.journal.closed
-            journal.events.items journal.head.places) }
+            journal.events.items journal.head.places parts) }
         ensures open { IfOk result (λ k. k.events.journal.closed ≡ false) }
         ensures any_moment { (parts : List BlockPart)
             → IsFoundStore F.shows F.kept journal parts folder
@@ -123,8 +125,8 @@ impl<N: Beginning, F: Folder + Drop> StoreKeeper<N, F> {
 
 /// Goes on with the store that a folder has: its snapshot, and what keeps the events to come. The
 /// torn end of the journal is cut off, after all else was accepted; nothing else in the folder
-/// changes. `J17` if no snapshot has what the head and the blocks say, `J18` if an event is refused.
-/// An `Err` gives the folder back.
+/// changes. `J17` if no snapshot has what the head and the blocks say, `J18` if an event is
+/// refused. An `Err` gives the folder back.
 pub fn resume_store<N: Beginning, F: Folder + Drop>(
     alloc: Global,
     folder: F,
@@ -145,7 +147,8 @@ pub fn resume_store<N: Beginning, F: Folder + Drop>(
         found.journal.events.items) }
     ensures places { IfOk result (λ x. HoldsAt F.shows F.kept F.sound F.moment F.left_since
         N.first x.1.events.journal.medium x.1.events.journal.len x.1.events.journal.closed
-        found.journal.events.items found.journal.head.places) }
+        found.journal.events.items found.journal.head.places
+        (map part_in found.blocks.items)) }
     ensures open { IfOk result (λ x. x.1.events.journal.closed ≡ false) }
     ensures refused { IfErr result (λ e. (e.0 ≡ StartError.Medium)
         ⊎ DeniesStart found.journal.head (map part_in found.blocks.items)

@@ -2,6 +2,7 @@
 
 ghost use Rattle.std.specs.Prelude.{◌≡◌, ◌++◌, List, false, IfOk, OnOk};
 ghost use Rattle.data_folder.specs.Sweeping.{names_in};
+ghost use Rattle.head.specs.Heads.{BlockPart};
 ghost use Rattle.head.specs.Worlds.{Event as Change};
 ghost use Rattle.store_folder.specs.Holding.{HoldsAt};
 ghost use Rattle.store_folder.specs.Starting.{StartFinds};
@@ -37,8 +38,8 @@ fn file_names(alloc: Global, places: &[BlockPlace]) -> Result<Vec<String>, Alloc
 }
 
 impl<N: Beginning, F: Folder + Drop> StoreKeeper<N, F> {
-    /// Removes the files of these names that are neither the journal nor of a block at these places,
-    /// which are all that the journal's head names. How many could not be removed.
+    /// Removes the files of these names that are neither the journal nor of a block at these
+    /// places, which are all that the journal's head names. How many could not be removed.
     pub fn sweep(
         &mut self,
         alloc: Global,
@@ -46,20 +47,23 @@ impl<N: Beginning, F: Folder + Drop> StoreKeeper<N, F> {
         names: &[String],
     ) -> Result<usize, AllocError>
         requires open { self.old.events.journal.closed ≡ false }
-        requires held { (events : List Change) × HoldsAt F.shows F.kept F.sound F.moment
-            F.left_since N.first self.old.events.journal.medium self.old.events.journal.len
-            self.old.events.journal.closed events places.now }
-        ensures held { (events : List Change) → HoldsAt F.shows F.kept F.sound F.moment
-            F.left_since N.first self.old.events.journal.medium self.old.events.journal.len
-            self.old.events.journal.closed events places.now
-            → HoldsAt F.shows F.kept F.sound F.moment
-            F.left_since N.first self.new.events.journal.medium self.new.events.journal.len
-            self.new.events.journal.closed events places.now }
+        requires held { (events : List Change) × (parts : List BlockPart)
+            × HoldsAt F.shows F.kept F.sound F.moment F.left_since N.first
+            self.old.events.journal.medium self.old.events.journal.len
+            self.old.events.journal.closed events places.now parts }
+        ensures held { (events : List Change) (parts : List BlockPart)
+            → HoldsAt F.shows F.kept F.sound F.moment F.left_since N.first
+            self.old.events.journal.medium self.old.events.journal.len
+            self.old.events.journal.closed events places.now parts
+            → HoldsAt F.shows F.kept F.sound F.moment F.left_since N.first
+            self.new.events.journal.medium self.new.events.journal.len
+            self.new.events.journal.closed events places.now parts }
         ensures open { self.new.events.journal.closed ≡ false }
         // After a crash at any moment of the call, a start finds the world of the same events.
-        ensures any_moment { (events : List Change) → HoldsAt F.shows F.kept F.sound F.moment
-            F.left_since N.first self.old.events.journal.medium self.old.events.journal.len
-            self.old.events.journal.closed events places.now
+        ensures any_moment { (events : List Change) (parts : List BlockPart)
+            → HoldsAt F.shows F.kept F.sound F.moment F.left_since N.first
+            self.old.events.journal.medium self.old.events.journal.len
+            self.old.events.journal.closed events places.now parts
             → StartFinds F.moment F.left_since self.old.events.journal.medium.folder
             self.new.events.journal.medium.folder N.first events }
     {

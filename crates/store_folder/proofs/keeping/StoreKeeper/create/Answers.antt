@@ -1,4 +1,4 @@
-use Rattle.std.proofs.Common.{◌≡◌, ℕ, List, [], inl, subst, sym}
+use Rattle.std.proofs.Common.{◌≡◌, ℕ, List, [], inl, refl, subst, sym}
 use Rattle.event_journal.specs.Holding.{contents_with}
 use Rattle.head_record.specs.Saved.{Saved}
 use Rattle.head_record.specs.Spelling.{head_texts, IsSaved}
@@ -29,15 +29,23 @@ begin-requires-clause-whole g c = (
       c.in-Ok.ensures.text,
 )
 
+pub returns-in-Ok-begin-clause-places : goal.returns-in-Ok-begin-clause-places
+returns-in-Ok-begin-clause-places g c =
+    let f = g.F.Folder in
+    let j = c.in-Ok-begin.journal in (
+      holds_nothing f.shows f.kept f.sound f.moment f.left_since g.met.F.Folder.only_now
+          g.met.F.Folder.earlier g.N.Beginning.first j.medium j.len j.closed c.requires.first
+          (subst IsSaved c.nothing.ensures c.in-Ok.ensures.saved)
+          (c.in-Ok-begin.ensures.keeps new_contents
+          (given c.nothing.result _ _ c.nothing.ensures c.deref.ensures.value
+          c.in-Ok.ensures.text)),
+      refl,
+      refl,
+    )
+
 pub returns-in-Ok-begin-clause-holds : goal.returns-in-Ok-begin-clause-holds
 returns-in-Ok-begin-clause-holds g c =
-    let f = g.F.Folder in
-    let j = c.in-Ok-begin.journal in
-    inl (holds_nothing f.shows f.kept f.sound f.moment f.left_since g.met.F.Folder.only_now
-    g.met.F.Folder.earlier g.N.Beginning.first j.medium j.len j.closed c.requires.first
-    (subst IsSaved c.nothing.ensures c.in-Ok.ensures.saved)
-    (c.in-Ok-begin.ensures.keeps new_contents
-    (given c.nothing.result _ _ c.nothing.ensures c.deref.ensures.value c.in-Ok.ensures.text)))
+    let h = returns-in-Ok-begin-clause-places g c in inl h.0
 
 pub returns-in-Ok-begin-clause-any_moment : goal.returns-in-Ok-begin-clause-any_moment
 returns-in-Ok-begin-clause-any_moment g c =

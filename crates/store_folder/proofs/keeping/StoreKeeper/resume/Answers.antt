@@ -26,6 +26,7 @@ returns-in-Ok-clause-holds g c parts h begins =
           (events_found f.shows f.kept f.sound f.moment f.left_since g.met.F.Folder.only_now
           (record { folder = c.args.folder }) j parts h c.requires.sound)),
       refl,
+      refl,
     )
 
 pub returns-in-Ok-clause-any_moment : goal.returns-in-Ok-clause-any_moment
