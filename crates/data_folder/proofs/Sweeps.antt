@@ -1,13 +1,13 @@
 -- What a sweep leaves.
-use Rattle.std.proofs.Common.{◌≡◌, ◌≢◌, ℕ, Bool, true, false, List, [], ◌∷◌}
-use Rattle.std.proofs.Common.{Option, Some, length, refl, sym, subst}
+use Rattle.std.proofs.Common.{◌≡◌, ◌≢◌, ℕ, Bool, true, false, List, [], ◌∷◌, ◌++◌}
+use Rattle.std.proofs.Common.{Option, Some, length, refl, sym, subst, ap, ◌∙◌}
 use Rattle.std.specs.Prelude.{◌||◌}
 use Rattle.std.specs.Str.{bytes_eq}
+use Rattle.std.proofs.lemmas.List.Folds.{list_any-append}
 use Rattle.std.proofs.lemmas.Slice.Eq.{bytes_eq-Decides}
 use Rattle.journal.specs.Records.{file_of}
 use Rattle.data_folder.specs.Folders.{Elapses, KeepsAll, KeepsOthers, Left, LeavesAll}
-use Rattle.data_folder.specs.Folders.{LeavesOnly, LeavesOthers}
-use Rattle.data_folder.specs.Folders.{MayLeaveOf}
+use Rattle.data_folder.specs.Folders.{LeavesOnly, LeavesOthers, MayLeaveOf}
 use Rattle.data_folder.specs.JournalFile.{journal_name}
 use Rattle.data_folder.specs.Rolls.{Keeps}
 use Rattle.data_folder.specs.States.{AreThere, HasFiles, HasStore, Named}
@@ -43,6 +43,23 @@ not_file names name file apart among is =
     not_both (is_among names name)
     (subst (λ (x : List ℕ). is_among names x ≡ true) is among)
     (or_right (bytes_eq name journal_name) (is_among names name) apart)
+
+-- a name among these is among more of them
+
+or_one : (a b : Bool) → a ≡ true → (a || b) ≡ true
+or_one a b h = ap (λ (x : Bool). x || b) h
+
+one_more : (names more : List (List ℕ)) (name : List ℕ) → is_among names name ≡ true
+    → is_among (names ++ more) name ≡ true
+one_more names more name h =
+    list_any-append (λ (other : List ℕ). bytes_eq other name) names more
+    ∙ or_one (is_among names name) (is_among more name) h
+
+among_more : (names more : List (List ℕ)) (files : List Named) → AreAmong names files
+    → AreAmong (names ++ more) files
+among_more names more [] among = tt
+among_more names more (file ∷ files) among =
+    (one_more names more file.0 among.0, among_more names more files among.1)
 
 module _ {F : Type 0} (shows : F → List ℕ → Option (List ℕ) → Type 0)
     (kept : F → List ℕ → ℕ → Type 0) (sound : F → Bool) where
@@ -191,6 +208,17 @@ module _ {F : Type 0} (shows : F → List ℕ → Option (List ℕ) → Type 0)
               (l journal_name (Some (file_of contents)) (length (file_of contents)) h.file.shown
               h.file.durable));
         });
+  }
+
+  -- what keeps the files of more names keeps those of fewer
+  pub of_fewer : (names more : List (List ℕ)) (old new : F)
+      → KeepsStore shows kept sound moment left_since (names ++ more) old new
+      → KeepsStore shows kept sound moment left_since names old new
+  of_fewer names more old new k = record {
+    journal = k.journal;
+    files = λ files among there. k.files files (among_more names more files among) there;
+    any_moment = λ contents files len h among there.
+        k.any_moment contents files len h (among_more names more files among) there;
   }
 
   -- one call after another

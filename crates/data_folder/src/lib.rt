@@ -7,15 +7,17 @@
 //! its own, and then takes the journal's name. A crash at any moment of a roll leaves the old
 //! journal or the new one, and each file that either of them names.
 //!
-//! [`begin`] begins the first journal of a folder, [`add`] writes a file beside it, and [`sweep`]
-//! removes files that no journal names. [`HostFolder`] is a folder of the host, of whose files no
-//! clause tells; [`MemoryFolder`] is for tests, and stops at some call.
+//! [`begin`] begins the first journal of a folder, and [`sweep`] removes files that no journal
+//! names. [`add`] and [`add_folder`] write a file and make a folder beside the journal, and
+//! [`write_apart`] writes one beside files that are to be kept. [`HostFolder`] is a folder of the
+//! host, of whose files no clause tells; [`MemoryFolder`] is for tests, and stops at some call.
 //!
 //! It stands on `journal` for records and media. That a file is replaced by a rename after it was
 //! synced, and the folder synced after that, is what SQLite, LevelDB and Prometheus do.
 #![tactic(auto)]
 
 mod adding;
+mod apart;
 mod folder;
 mod host_folder;
 mod journal_file;
@@ -24,6 +26,7 @@ mod rolling;
 mod sweeping;
 
 pub use adding::{add, add_folder};
+pub use apart::{ApartError, write_apart};
 pub use folder::Folder;
 pub use host_folder::HostFolder;
 pub use journal_file::{JOURNAL, JournalFile};

@@ -18,7 +18,7 @@ fn is_among(names: &[String], name: &str) -> bool
 }
 
 /// Whether a name is the journal's, or one of these.
-fn is_kept(names: &[String], name: &str) -> bool
+pub(crate) fn is_kept(names: &[String], name: &str) -> bool
     ensures { result ≡ is_kept (names_in names.now) name.now }
 {
     name == JOURNAL || is_among(names, name)

@@ -1,7 +1,7 @@
 -- Why a store is not read.
 use Rattle.std.proofs.Common.{◌≡◌, inl, inr, ℕ, zero, suc, ◌+◌, ◌≤◌, Bool, List, [], ◌∷◌, ◌++◌, take, drop}
 use Rattle.std.proofs.Common.{Option, None, Some, length, refl, ap, subst, arith}
-use Rattle.std.specs.Prelude.{codes, decimal, slice_get}
+use Rattle.std.specs.Prelude.{codes, slice_get}
 use Rattle.head_record.specs.Saved.{Place}
 use Rattle.store_folder.specs.declared.error.BlockFault.{BlockFault}
 use Rattle.store_folder.specs.declared.error.BlockFault.TheVariants as faults
@@ -65,12 +65,12 @@ module _ {F : Type 0} (shows : F → List ℕ → Option (List ℕ) → Type 0) 
       lacks f p (name_in k (codes "chunks/000001")) (name_in p.0 (codes "chunks/000001")) e
       (ap (λ (n : ℕ). name_in n (codes "chunks/000001")) is) (λ none. inr (inr (inl none))) d
 
-  pub lacks_edition : (f : F) (p : Place) (e : BlockFault)
-      → DeniesName shows failed f (name_in p.0 (codes "tombstones." ++ decimal p.1)) e
+  pub lacks_tombstones : (f : F) (p : Place) (k : ℕ) (e : BlockFault) → k ≡ p.0
+      → DeniesName shows failed f (name_in k (codes "tombstones")) e
       → DeniesFiles shows failed f p e
-  lacks_edition f p e d =
-      let name = name_in p.0 (codes "tombstones." ++ decimal p.1) in
-      lacks f p name name e refl (λ none. inr (inr (inr none))) d
+  lacks_tombstones f p k e is d =
+      lacks f p (name_in k (codes "tombstones")) (name_in p.0 (codes "tombstones")) e
+      (ap (λ (n : ℕ). name_in n (codes "tombstones")) is) (λ none. inr (inr (inr none))) d
 
   -- so the block is not read
   pub no_files : (kept : F → List ℕ → ℕ → Type 0) (f : F) (p : Place) (e : BlockFault)

@@ -3,7 +3,7 @@ use Rattle.std.proofs.Common.{◌≡◌, inl, inr, ⊎_elim, ℕ, ◌≤◌, Boo
 use Rattle.std.proofs.Common.{Option, refl, sym, ap, subst, ◌∙◌, append_assoc}
 use Rattle.std.specs.declared.alloc.Global.{Global}
 use Rattle.std.specs.declared.string.String.{String}
-use Rattle.std.specs.Prelude.{◌||◌, codes, decimal, string_bytes}
+use Rattle.std.specs.Prelude.{◌||◌, codes, string_bytes}
 use Rattle.std.specs.Str.{bytes_eq}
 use Rattle.std.proofs.lemmas.List.{append-nil, map-append}
 use Rattle.std.proofs.lemmas.Slice.Eq.{bytes_eq-Decides}
@@ -61,7 +61,7 @@ among_own p files rest =
     let meta = name_in p.0 (codes "meta.json") in
     let index = name_in p.0 (codes "index") in
     let chunks = name_in p.0 (codes "chunks/000001") in
-    let deleted = name_in p.0 (codes "tombstones." ++ decimal p.1) in
+    let deleted = name_in p.0 (codes "tombstones") in
     let third = deleted ∷ rest in
     let second = chunks ∷ third in
     let first = index ∷ second in (
@@ -85,7 +85,7 @@ among_rest p names files h =
     let meta = name_in p.0 (codes "meta.json") in
     let index = name_in p.0 (codes "index") in
     let chunks = name_in p.0 (codes "chunks/000001") in
-    let deleted = name_in p.0 (codes "tombstones." ++ decimal p.1) in
+    let deleted = name_in p.0 (codes "tombstones") in
     let third = deleted ∷ names in
     let second = chunks ∷ third in
     let first = index ∷ second in

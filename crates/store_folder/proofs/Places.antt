@@ -97,7 +97,7 @@ none_of place p name fits too away =
       other (codes "meta.json"),
       (
         other (codes "index"),
-        (other (codes "chunks/000001"), (other (codes "tombstones." ++ decimal p.1), tt)),
+        (other (codes "chunks/000001"), (other (codes "tombstones"), tt)),
       ),
     )
 
@@ -137,9 +137,9 @@ meta_chunks =
     differ (codes "meta.json") (codes "chunks/000001") 109 99 refl refl
     (λ e. absurd (omega (arith, e)))
 
-pub meta_edition : (n : ℕ) → codes "meta.json" ≢ codes "tombstones." ++ decimal n
-meta_edition n =
-    differ (codes "meta.json") (codes "tombstones." ++ decimal n) 109 116 refl refl
+pub meta_tombstones : codes "meta.json" ≢ codes "tombstones"
+meta_tombstones =
+    differ (codes "meta.json") (codes "tombstones") 109 116 refl refl
     (λ e. absurd (omega (arith, e)))
 
 pub index_chunks : codes "index" ≢ codes "chunks/000001"
@@ -147,14 +147,14 @@ index_chunks =
     differ (codes "index") (codes "chunks/000001") 105 99 refl refl
     (λ e. absurd (omega (arith, e)))
 
-pub index_edition : (n : ℕ) → codes "index" ≢ codes "tombstones." ++ decimal n
-index_edition n =
-    differ (codes "index") (codes "tombstones." ++ decimal n) 105 116 refl refl
+pub index_tombstones : codes "index" ≢ codes "tombstones"
+index_tombstones =
+    differ (codes "index") (codes "tombstones") 105 116 refl refl
     (λ e. absurd (omega (arith, e)))
 
-pub chunks_edition : (n : ℕ) → codes "chunks/000001" ≢ codes "tombstones." ++ decimal n
-chunks_edition n =
-    differ (codes "chunks/000001") (codes "tombstones." ++ decimal n) 99 116 refl refl
+pub chunks_tombstones : codes "chunks/000001" ≢ codes "tombstones"
+chunks_tombstones =
+    differ (codes "chunks/000001") (codes "tombstones") 99 116 refl refl
     (λ e. absurd (omega (arith, e)))
 
 -- the numbers of places that are saved
@@ -187,22 +187,22 @@ module _ {F : Type 0} (shows : F → List ℕ → Option (List ℕ) → Type 0)
       → HasFile shows kept (name_in p.0 (codes "meta.json")) files.meta first
       → HasFile shows kept (name_in p.0 (codes "index")) files.index second
       → HasFile shows kept (name_in p.0 (codes "chunks/000001")) files.chunks third
-      → HasFile shows kept (name_in p.0 (codes "tombstones." ++ decimal p.1)) files.tombstones fourth
+      → HasFile shows kept (name_in p.0 (codes "tombstones")) files.tombstones fourth
       → ((names : List (List ℕ)) → is_kept names (name_in p.0 (codes "index")) ≡ false
       → KeepsStore shows kept sound moment left_since names first second)
       → ((names : List (List ℕ)) → is_kept names (name_in p.0 (codes "chunks/000001")) ≡ false
       → KeepsStore shows kept sound moment left_since names second third)
       → ((names : List (List ℕ))
-      → is_kept names (name_in p.0 (codes "tombstones." ++ decimal p.1)) ≡ false
+      → is_kept names (name_in p.0 (codes "tombstones")) ≡ false
       → KeepsStore shows kept sound moment left_since names third fourth)
       → AreThere shows kept (named_files p files) fourth
   four_here first second third fourth p files m i c t two three four =
       let meta = name_in p.0 (codes "meta.json") in
       let index = name_in p.0 (codes "index") in
       let chunks = name_in p.0 (codes "chunks/000001") in
-      let edition = codes "tombstones." ++ decimal p.1 in (
+      let deleted = codes "tombstones" in (
         one_stays meta files.meta third fourth
-            (four (meta ∷ []) (own_name p.0 (codes "meta.json") edition (meta_edition p.1)))
+            (four (meta ∷ []) (own_name p.0 (codes "meta.json") deleted meta_tombstones))
             (one_stays meta files.meta second third
             (three (meta ∷ [])
             (own_name p.0 (codes "meta.json") (codes "chunks/000001") meta_chunks))
@@ -210,14 +210,14 @@ module _ {F : Type 0} (shows : F → List ℕ → Option (List ℕ) → Type 0)
             (two (meta ∷ []) (own_name p.0 (codes "meta.json") (codes "index") meta_index)) m)),
         (
           one_stays index files.index third fourth
-              (four (index ∷ []) (own_name p.0 (codes "index") edition (index_edition p.1)))
+              (four (index ∷ []) (own_name p.0 (codes "index") deleted index_tombstones))
               (one_stays index files.index second third
               (three (index ∷ [])
               (own_name p.0 (codes "index") (codes "chunks/000001") index_chunks)) i),
           (
             one_stays chunks files.chunks third fourth
                 (four (chunks ∷ [])
-                (own_name p.0 (codes "chunks/000001") edition (chunks_edition p.1))) c,
+                (own_name p.0 (codes "chunks/000001") deleted chunks_tombstones)) c,
             (t, tt),
           ),
         ),
@@ -228,13 +228,13 @@ module _ {F : Type 0} (shows : F → List ℕ → Option (List ℕ) → Type 0)
       → HasFile shows kept (name_in k (codes "meta.json")) files.meta first
       → HasFile shows kept (name_in k (codes "index")) files.index second
       → HasFile shows kept (name_in k (codes "chunks/000001")) files.chunks third
-      → HasFile shows kept (name_in p.0 (codes "tombstones." ++ decimal p.1)) files.tombstones fourth
+      → HasFile shows kept (name_in k (codes "tombstones")) files.tombstones fourth
       → ((names : List (List ℕ)) → is_kept names (name_in k (codes "index")) ≡ false
       → KeepsStore shows kept sound moment left_since names first second)
       → ((names : List (List ℕ)) → is_kept names (name_in k (codes "chunks/000001")) ≡ false
       → KeepsStore shows kept sound moment left_since names second third)
       → ((names : List (List ℕ))
-      → is_kept names (name_in p.0 (codes "tombstones." ++ decimal p.1)) ≡ false
+      → is_kept names (name_in k (codes "tombstones")) ≡ false
       → KeepsStore shows kept sound moment left_since names third fourth)
       → AreThere shows kept (named_files p files) fourth
   four_written first second third fourth p k files is m i c t two three four =
@@ -242,10 +242,15 @@ module _ {F : Type 0} (shows : F → List ℕ → Option (List ℕ) → Type 0)
       (subst (λ (n : ℕ). HasFile shows kept (name_in n (codes "meta.json")) files.meta first) is m)
       (subst (λ (n : ℕ). HasFile shows kept (name_in n (codes "index")) files.index second) is i)
       (subst (λ (n : ℕ). HasFile shows kept (name_in n (codes "chunks/000001")) files.chunks third)
-      is c) t
+      is c)
+      (subst (λ (n : ℕ). HasFile shows kept (name_in n (codes "tombstones")) files.tombstones fourth)
+      is t)
       (subst (λ (n : ℕ). (names : List (List ℕ))
       → is_kept names (name_in n (codes "index")) ≡ false
       → KeepsStore shows kept sound moment left_since names first second) is two)
       (subst (λ (n : ℕ). (names : List (List ℕ))
       → is_kept names (name_in n (codes "chunks/000001")) ≡ false
-      → KeepsStore shows kept sound moment left_since names second third) is three) four
+      → KeepsStore shows kept sound moment left_since names second third) is three)
+      (subst (λ (n : ℕ). (names : List (List ℕ))
+      → is_kept names (name_in n (codes "tombstones")) ≡ false
+      → KeepsStore shows kept sound moment left_since names third fourth) is four)

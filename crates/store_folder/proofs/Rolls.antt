@@ -56,7 +56,7 @@ all_apart p files =
         apart (of (codes "index")) files.index,
         (
           apart (of (codes "chunks/000001")) files.chunks,
-          (apart (of (codes "tombstones." ++ decimal p.1)) files.tombstones, tt),
+          (apart (of (codes "tombstones")) files.tombstones, tt),
         ),
       ),
     )

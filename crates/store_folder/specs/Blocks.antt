@@ -13,7 +13,7 @@ use Rattle.head_record.specs.Saved.{Place}
 use Rattle.store_folder.specs.declared.blocks.BlockBytes.{BlockBytes}
 use Rattle.wire.specs.Outcome.{◌>>=◌}
 
--- the files of a block: the last are one edition of its deletions
+-- the files of a block
 pub record BlockFiles : Type 0 where
   pub meta : List ℕ
   pub index : List ℕ
@@ -32,13 +32,13 @@ files_in files = record {
 abbrev pub name_in : ℕ → List ℕ → List ℕ
 name_in number name = codes "blocks/" ++ (decimal number ++ (codes "/" ++ name))
 
--- where the files of a block lie: its deletions by the number of their edition
+-- where the files of a block lie
 abbrev pub named_files : Place → BlockFiles → List Named
 named_files place files =
     (name_in place.0 (codes "meta.json"), files.meta)
     ∷ (name_in place.0 (codes "index"), files.index)
     ∷ (name_in place.0 (codes "chunks/000001"), files.chunks)
-    ∷ (name_in place.0 (codes "tombstones." ++ decimal place.1), files.tombstones)
+    ∷ (name_in place.0 (codes "tombstones"), files.tombstones)
     ∷ []
 
 -- these files spell the block

@@ -1,6 +1,6 @@
 -- Why a store is not read.
 use Rattle.std.specs.Prelude.{◌≡◌, ◌⊎◌, ⊤, ℕ, Bool, true, List, ◌∷◌, ◌++◌, map, Option, None, Some}
-use Rattle.std.specs.Prelude.{Result, Ok, Err, Vec, codes, decimal}
+use Rattle.std.specs.Prelude.{Result, Ok, Err, Vec, codes}
 use Rattle.std.specs.declared.alloc.Global.{Global}
 use Rattle.block.specs.declared.error.BlockError.TheVariants.{Memory as NoMemory}
 use Rattle.block.specs.Blocks.{Shown}
@@ -35,7 +35,7 @@ LacksOne shows f p =
     shows f (name_in p.0 (codes "meta.json")) None
     ⊎ (shows f (name_in p.0 (codes "index")) None
     ⊎ (shows f (name_in p.0 (codes "chunks/000001")) None
-    ⊎ shows f (name_in p.0 (codes "tombstones." ++ decimal p.1)) None))
+    ⊎ shows f (name_in p.0 (codes "tombstones")) None))
 
 -- the files of the block at a place are not read so
 abbrev pub DeniesFiles : {F : Type 0} → (F → List ℕ → Option (List ℕ) → Type 0) → (F → Bool) → F

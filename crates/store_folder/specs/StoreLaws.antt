@@ -223,7 +223,7 @@ not_one p files =
         not_the_journal (of (codes "index")),
         (
           not_the_journal (of (codes "chunks/000001")),
-          (not_the_journal (of (codes "tombstones." ++ decimal p.1)), tt),
+          (not_the_journal (of (codes "tombstones")), tt),
         ),
       ),
     )

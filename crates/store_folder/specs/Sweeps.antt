@@ -1,5 +1,5 @@
 -- The names of the files of a store.
-use Rattle.std.specs.Prelude.{ℕ, List, [], ◌∷◌, ◌++◌, codes, decimal}
+use Rattle.std.specs.Prelude.{ℕ, List, [], ◌∷◌, ◌++◌, codes}
 use Rattle.head_record.specs.Saved.{Place}
 use Rattle.store_folder.specs.Blocks.{name_in}
 
@@ -8,7 +8,7 @@ names_of p =
     name_in p.0 (codes "meta.json")
     ∷ name_in p.0 (codes "index")
     ∷ name_in p.0 (codes "chunks/000001")
-    ∷ name_in p.0 (codes "tombstones." ++ decimal p.1)
+    ∷ name_in p.0 (codes "tombstones")
     ∷ []
 
 -- the names of the files of the blocks at these places

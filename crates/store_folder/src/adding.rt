@@ -1,6 +1,6 @@
 //! Blocks that come to a folder.
 
-ghost use Rattle.std.specs.Prelude.{◌≡◌, ◌++◌, ◌∷◌, [], ℕ, List, true, false, codes, decimal};
+ghost use Rattle.std.specs.Prelude.{◌≡◌, ◌∷◌, [], ℕ, List, true, false};
 ghost use Rattle.std.specs.Prelude.{string_bytes, IfOk, OnOk};
 ghost use Rattle.data_folder.specs.Folders.{HasFile};
 ghost use Rattle.data_folder.specs.States.{AreThere};
@@ -14,7 +14,7 @@ ghost use Rattle.store_folder.specs.Holding.{AreAt, HoldsAt};
 ghost use Rattle.store_folder.specs.Starting.{StartFinds};
 ghost use Rattle.store_folder.specs.Sweeps.{names_at};
 
-use crate::blocks::{BlockBytes, edition_name, name_in};
+use crate::blocks::{BlockBytes, name_in};
 use crate::error::BlockFault;
 use crate::keeping::{Beginning, StoreKeeper};
 use data_folder::{Folder, add, add_folder};
@@ -87,27 +87,6 @@ fn add_file<F: Folder>(
     }
 }
 
-/// Writes the deletions of a block, in the edition of its place.
-fn add_edition<F: Folder>(
-    alloc: Global,
-    folder: &mut F,
-    place: BlockPlace,
-    bytes: &[u8],
-) -> Result<(), BlockFault>
-    requires { F.sound folder.old ≡ true }
-    ensures written { OnOk result (HasFile F.shows F.kept
-        (name_in place.0 (codes "tombstones." ++ decimal place.1)) bytes.now folder.new) }
-    ensures sound { F.sound folder.new ≡ true }
-    ensures kept { (names : List (List ℕ))
-        → is_kept names (name_in place.0 (codes "tombstones." ++ decimal place.1)) ≡ false
-        → KeepsStore F.shows F.kept F.sound F.moment F.left_since names folder.old folder.new }
-{
-    match edition_name(alloc, place.tombstones()) {
-        Ok(name) => add_file(alloc, folder, place.folder(), name.as_str(), bytes),
-        Err(_) => Err(BlockFault::Memory),
-    }
-}
-
 /// Writes the files of a block to a place.
 fn add_files<F: Folder>(
     alloc: Global,
@@ -141,7 +120,7 @@ fn add_files<F: Folder>(
         Ok(()) => {}
         Err(fault) => return Err(fault),
     }
-    add_edition(alloc, folder, place, &files.tombstones)
+    add_file(alloc, folder, number, "tombstones", &files.tombstones)
 }
 
 impl<N: Beginning, F: Folder + Drop> StoreKeeper<N, F> {

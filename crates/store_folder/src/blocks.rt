@@ -1,6 +1,6 @@
 //! The files of a block.
 
-ghost use Rattle.std.specs.Prelude.{◌≡◌, ◌++◌, IfOk, IfErr, List, OnOk, codes, decimal};
+ghost use Rattle.std.specs.Prelude.{◌≡◌, IfOk, IfErr, List, OnOk};
 ghost use Rattle.std.specs.Prelude.{map, string_bytes, true};
 ghost use Rattle.block.specs.Outcome.{Gives};
 ghost use Rattle.data_folder.specs.Folders.{HasFile, KeepsAll};
@@ -28,7 +28,7 @@ pub struct BlockBytes {
     pub index: Vec<u8>,
     /// The file `chunks/000001`.
     pub chunks: Vec<u8>,
-    /// The file of deletions, in the edition that the head names.
+    /// The file `tombstones`.
     pub tombstones: Vec<u8>,
 }
 
@@ -92,13 +92,6 @@ pub(crate) fn name_in(alloc: Global, number: u64, name: &str) -> Result<String, 
     format!(in alloc; "blocks/{number}/{name}")
 }
 
-/// The name of an edition of a block's deletions, in its folder.
-pub(crate) fn edition_name(alloc: Global, edition: u64) -> Result<String, AllocError>
-    ensures { IfOk result (λ text. string_bytes text ≡ codes "tombstones." ++ decimal edition) }
-{
-    format!(in alloc; "tombstones.{edition}")
-}
-
 /// The bytes of a file, which has to be there.
 fn read_file<F: Folder>(alloc: Global, folder: &mut F, name: &str) -> Result<Vec<u8>, BlockFault>
     requires { F.sound folder.old ≡ true }
@@ -139,26 +132,6 @@ fn read_in<F: Folder>(
     }
 }
 
-/// The deletions of a block in this edition.
-fn read_edition<F: Folder>(
-    alloc: Global,
-    folder: &mut F,
-    place: BlockPlace,
-) -> Result<Vec<u8>, BlockFault>
-    requires { F.sound folder.old ≡ true }
-    ensures found { IfOk result (λ bytes. HasFile F.shows F.kept
-        (name_in place.0 (codes "tombstones." ++ decimal place.1)) bytes.items folder.new) }
-    ensures sound { OnOk result (F.sound folder.new ≡ true) }
-    ensures all { KeepsAll F.shows F.kept folder.old folder.new }
-    ensures refused { IfErr result (λ e. DeniesName F.shows F.failed folder.new
-        (name_in place.0 (codes "tombstones." ++ decimal place.1)) e) }
-{
-    match edition_name(alloc, place.tombstones()) {
-        Ok(name) => read_in(alloc, folder, place.folder(), name.as_str()),
-        Err(_) => Err(BlockFault::Memory),
-    }
-}
-
 /// The bytes of the files of the block at a place.
 fn read_files<F: Folder>(
     alloc: Global,
@@ -176,7 +149,7 @@ fn read_files<F: Folder>(
     let meta = read_in(alloc, folder, number, "meta.json")?;
     let index = read_in(alloc, folder, number, "index")?;
     let chunks = read_in(alloc, folder, number, "chunks/000001")?;
-    let tombstones = read_edition(alloc, folder, place)?;
+    let tombstones = read_in(alloc, folder, number, "tombstones")?;
     Ok(BlockBytes {
         meta,
         index,

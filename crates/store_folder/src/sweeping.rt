@@ -8,7 +8,7 @@ ghost use Rattle.store_folder.specs.Holding.{HoldsAt};
 ghost use Rattle.store_folder.specs.Starting.{StartFinds};
 ghost use Rattle.store_folder.specs.Sweeps.{names_at, names_of};
 
-use crate::blocks::{edition_name, name_in};
+use crate::blocks::name_in;
 use crate::keeping::{Beginning, StoreKeeper};
 use data_folder::{Folder, sweep};
 use head_record::BlockPlace;
@@ -18,11 +18,10 @@ fn push_files(alloc: Global, names: &mut Vec<String>, place: BlockPlace) -> Resu
     ensures { OnOk result (names_in names.new.items ≡ names_in names.old.items ++ names_of place) }
 {
     let number = place.folder();
-    let edition = edition_name(alloc, place.tombstones())?;
     names.push(name_in(alloc, number, "meta.json")?)?;
     names.push(name_in(alloc, number, "index")?)?;
     names.push(name_in(alloc, number, "chunks/000001")?)?;
-    names.push(name_in(alloc, number, edition.as_str())?)?;
+    names.push(name_in(alloc, number, "tombstones")?)?;
     Ok(())
 }
 

@@ -1,5 +1,5 @@
 use Rattle.std.proofs.Common.{◌<◌, ◌^◌, ◌++◌, arith, refl, rules, subst}
-use Rattle.std.specs.Prelude.{codes, decimal}
+use Rattle.std.specs.Prelude.{codes}
 use Rattle.data_folder.specs.Folders.{HasFile}
 use Rattle.data_folder.proofs.Sweeps.{then_kept}
 use Rattle.store_folder.specs.Blocks.{files_in, name_in}
@@ -71,7 +71,7 @@ returns-clause-kept g c places fit free =
     let p = c.args.place in
     let k = c.folder-number.result in
     let small : k < 2 ^ 64 = omega arith in
-    on old c.add_file-3.new.folder c.add_edition.new.folder
+    on old c.add_file-3.new.folder c.add_file-4.new.folder
     (on old c.add_file-2.new.folder c.add_file-3.new.folder
     (on old c.add_file.new.folder c.add_file-2.new.folder
     (on old c.add_folders.new.folder c.add_file.new.folder
@@ -82,9 +82,8 @@ returns-clause-kept g c places fit free =
     (free_name p k (codes "index") places c.folder-number.ensures small fit free)))
     (c.add_file-3.ensures.kept (names_at places)
     (free_name p k (codes "chunks/000001") places c.folder-number.ensures small fit free)))
-    (c.add_edition.ensures.kept (names_at places)
-    (free_name p p.0 (codes "tombstones." ++ decimal p.1) places refl
-    (subst (λ n. n < 2 ^ 64) c.folder-number.ensures small) fit free))
+    (c.add_file-4.ensures.kept (names_at places)
+    (free_name p k (codes "tombstones") places c.folder-number.ensures small fit free))
 
 pub returns-clause-written : goal.returns-clause-written
 returns-clause-written g c =
@@ -98,12 +97,12 @@ returns-clause-written g c =
     c.add_file-2.new.folder = search rules in
     let chunks : HasFile f.shows f.kept (name_in k (codes "chunks/000001")) files.chunks
     c.add_file-3.new.folder = search rules in
-    on_ok c.add_edition.result _ _
+    on_ok c.add_file-4.result _ _
     (λ deleted. four_written f.shows f.kept f.sound f.moment f.left_since c.add_file.new.folder
-    c.add_file-2.new.folder c.add_file-3.new.folder c.add_edition.new.folder p k files
+    c.add_file-2.new.folder c.add_file-3.new.folder c.add_file-4.new.folder p k files
     c.folder-number.ensures meta index chunks
     (subst (λ bytes. HasFile f.shows f.kept
-    (name_in p.0 (codes "tombstones." ++ decimal p.1)) bytes c.add_edition.new.folder)
+    (name_in k (codes "tombstones")) bytes c.add_file-4.new.folder)
     (search rules) deleted)
-    c.add_file-2.ensures.kept c.add_file-3.ensures.kept c.add_edition.ensures.kept)
-    c.add_edition.ensures.written
+    c.add_file-2.ensures.kept c.add_file-3.ensures.kept c.add_file-4.ensures.kept)
+    c.add_file-4.ensures.written

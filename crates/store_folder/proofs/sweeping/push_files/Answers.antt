@@ -1,5 +1,5 @@
-use Rattle.std.proofs.Common.{ℕ, List, ◌++◌, ap, ◌∙◌}
-use Rattle.std.specs.Prelude.{codes, decimal}
+use Rattle.std.proofs.Common.{ℕ, ap, ◌∙◌}
+use Rattle.std.specs.Prelude.{codes}
 use Rattle.data_folder.specs.Sweeping.{names_in}
 use Rattle.store_folder.specs.Blocks.{name_in}
 use Rattle.store_folder.proofs.Litter.{four_more, name_more}
@@ -13,7 +13,7 @@ returns c =
     (names_in c.push-2.new.self.items) (names_in c.push-3.new.self.items)
     (names_in c.push-4.new.self.items) (name_in p.0 (codes "meta.json"))
     (name_in p.0 (codes "index")) (name_in p.0 (codes "chunks/000001"))
-    (name_in p.0 (codes "tombstones." ++ decimal p.1))
+    (name_in p.0 (codes "tombstones"))
     (name_more _ _ _ _ c.in_ok-push.ensures.items (c.in_ok-name_in.ensures
     ∙ ap (λ (k : ℕ). name_in k (codes "meta.json")) number))
     (name_more _ _ _ _ c.in_ok-push-2.ensures.items (c.in_ok-name_in-2.ensures
@@ -21,7 +21,4 @@ returns c =
     (name_more _ _ _ _ c.in_ok-push-3.ensures.items (c.in_ok-name_in-3.ensures
     ∙ ap (λ (k : ℕ). name_in k (codes "chunks/000001")) number))
     (name_more _ _ _ _ c.in_ok-push-4.ensures.items (c.in_ok-name_in-4.ensures
-    ∙ (ap (λ (n : List ℕ). name_in c.folder-number.result n) (c.as_str.ensures.value
-    ∙ (c.in_ok-edition.ensures
-    ∙ ap (λ (k : ℕ). codes "tombstones." ++ decimal k) c.tombstones.ensures))
-    ∙ ap (λ (k : ℕ). name_in k (codes "tombstones." ++ decimal p.1)) number)))
+    ∙ ap (λ (k : ℕ). name_in k (codes "tombstones")) number))
