@@ -10,6 +10,7 @@ pub mod Chunks
 pub mod Orders
 pub mod Slots
 pub mod Shown
+pub mod Counts
 pub mod Kinds
 pub mod Index
 pub mod IndexLaws
@@ -24,6 +25,7 @@ pub mod Kept
 pub mod Cuts
 pub mod Removing
 pub mod Snapshots
+pub mod Resuming
 pub mod Replaying
 pub mod Codes
 pub mod Outcomes

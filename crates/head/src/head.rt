@@ -9,10 +9,11 @@ ghost use Rattle.head.specs.Index.{IsIndexOf};
 ghost use Rattle.head.specs.Orders.{sets_of, Extends, IsOrderOf};
 ghost use Rattle.labels.proofs.PartProps.{IsPart-prop};
 
-use crate::MAX_SERIES;
 use crate::index::Index;
 use crate::order::Order;
+use crate::saved::SavedSeries;
 use crate::series::{Series, SeriesList};
+use crate::{MAX_SAMPLES, MAX_SERIES};
 use labels::{LabelSet, Row, Sample, SeriesRef};
 use pages::PagedList;
 use std::alloc::{AllocError, Global};
@@ -36,6 +37,8 @@ impl HeadView {
     ghost use Rattle.head.specs.Shown.{series_of, part_of, copied_of};
     ghost use Rattle.head.specs.Heads.{HeadSeries};
     ghost use Rattle.head.specs.HeadRows.{numbered_row};
+    ghost use Rattle.head.specs.Counts.{sample_count};
+    ghost use Rattle.std.specs.List.{All};
     ghost use Rattle.std.specs.Prelude.{◌+◌, slice_index_or};
 
     pub(crate) fn empty(alloc: Global) -> Result<HeadView, AllocError>
@@ -92,6 +95,25 @@ impl HeadView {
         ensures { IsOrderOf result.now (series_of self.now) }
     {
         &self.order
+    }
+
+    /// How many series there are.
+    pub fn series_count(&self) -> usize
+        ensures { result ≡ length (series_of self.now) }
+    {
+        self.series.len()
+    }
+
+    /// How many samples the series hold. It looks at each series, and at no sample.
+    pub(crate) fn sample_count(&self) -> u64
+        requires { All (λ h. length h.samples ≤ MAX_SAMPLES) (series_of self.now) }
+        ensures { result ≡ sample_count (series_of self.now) }
+    {
+        let mut samples = 0;
+        for place in 0..self.series.len() {
+            samples += self.series.at(place).count();
+        }
+        samples
     }
 
     /// How many old samples the event that made this version copied.
@@ -164,5 +186,18 @@ impl HeadView {
             rows.push(self.row_at(alloc, place)?)?;
         }
         Ok(rows)
+    }
+
+    /// What is saved of each series, in order of creation; also of a series without a sample. It
+    /// copies the samples; the texts of the label sets are shared.
+    pub fn saved(&self, alloc: Global) -> Result<Vec<SavedSeries>, AllocError>
+        ensures all { IfOk result (λ all. all.items ≡ series_of self.now) }
+        ensures few { IfOk result (λ all. length all.items ≤ MAX_SERIES) }
+    {
+        let mut all = Vec::with_capacity(alloc, self.series.len())?;
+        for place in 0..self.series.len() {
+            all.push(self.series.at(place).saved(alloc)?)?;
+        }
+        Ok(all)
     }
 }
