@@ -6,5 +6,7 @@ pub mod Litter
 pub mod OpenedBlocks
 pub mod Places
 pub mod Rolls
+pub mod Saves
 pub mod Starts
 pub mod Told
+pub mod Writes

@@ -7,7 +7,9 @@ pub mod Journals
 pub mod KeeperLaws
 pub mod Rewriting
 pub mod Rolls
+pub mod Saving
 pub mod Starting
 pub mod States
 pub mod StoreLaws
 pub mod Sweeps
+pub mod Writing

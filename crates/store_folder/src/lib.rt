@@ -21,11 +21,13 @@ mod journals;
 mod keeping;
 mod reading;
 mod rolling;
+mod saving;
 mod starting;
 mod sweeping;
+mod writing;
 
 pub use blocks::{BlockBytes, open_block, read_blocks};
-pub use error::{BlockFault, ReadError, RollFault, StartError};
+pub use error::{BlockFault, ReadError, RollFault, StartError, WriteFault};
 pub use journals::{FoundJournal, read_journal};
 pub use keeping::{Beginning, StoreKeeper};
 pub use reading::{FoundStore, read_store};
