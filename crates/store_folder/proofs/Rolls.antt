@@ -322,3 +322,16 @@ module _ {F : Type 0} (shows : F → List ℕ → Option (List ℕ) → Type 0)
               )),
         );
       })
+
+-- one call after another
+module _ {F : Type 0} (moment : F → ℕ) (left_since : F → ℕ → Left → Type 0) where
+  pub finds_on : (first : World) (events : List Event) (a b c : F)
+      → StartFinds moment left_since a b first events → StartFinds moment left_since b c first events
+      → StartFinds moment left_since a c first events
+  finds_on first events a b c one two = record {
+    later = omega (arith, one.later, two.later);
+    each = λ w had. ⊎_elim (λ past. one.each w past) (λ now. now)
+        (two.before (moment a) w one.later had);
+    before = λ t w le had. ⊎_elim (λ past. one.before t w le past) (λ now. inr now)
+        (two.before t w (omega (arith, le, one.later)) had);
+  }

@@ -183,6 +183,22 @@ found_store first w saved parts early late bytes left head begins lie has stands
     ∙ world)) in
     joined_from (Ok first) early late (world_of (started saved parts)) w begins here
 
+-- so it finds one world
+pub one_world : (left : Left) (v w : World) → StartsWith left v → StartsWith left w → v ≡ w
+one_world left v w one two =
+    let saved = one.1.0 in
+    let parts = one.1.1 in
+    let events = one.1.2 in
+    let state = one.1.3 in
+    let first = world_of (started saved parts) in
+    let mine : replayed first events ≡ Ok v = one.1.4 in
+    same_world v w (sym mine ∙ found_store first w saved parts [] events state.journal.0 left
+    state.head refl state.blocks state.journal.1 (record {
+      before = in_front saved;
+      each = state.each;
+      recovers = state.journal.2;
+    }) two)
+
 -- files that are there for good are left
 
 pub whole_left : (bytes : List ℕ) (found : Option (List ℕ))

@@ -3,11 +3,13 @@
 //! A store is one journal and the files of the blocks that its head names: `IsState`, in
 //! `specs/States.antt`. [`read_store`] gives what a folder has of one, and [`resume_store`] goes on
 //! with it; [`StoreKeeper::create`] begins one. A [`StoreKeeper`] keeps the events of a running
-//! store there, begins its journal anew with a new head ([`StoreKeeper::roll`]), and removes files
-//! that are no longer the store's ([`StoreKeeper::sweep`]).
+//! store there, writes the files of new blocks ([`StoreKeeper::add_block`]), begins its journal anew
+//! with a head that names them ([`StoreKeeper::roll`]), and removes files that are no longer the
+//! store's ([`StoreKeeper::sweep`]); [`StoreKeeper::renew`] does the last two.
 //!
 //! [`read_journal`] gives the head and the events of a journal's file, or the first fault, `J1` to
-//! `J14`; [`read_blocks`] gives the blocks at places, and [`open_block`] the block that files spell.
+//! `J14`; [`read_blocks`] gives the blocks at places, and [`open_block`] the block that files
+//! spell. What a crash leaves of a store makes one world ([`one_world`]).
 //!
 //! It stands on `data_folder` for the folder, on `head_record` and `event_journal` for what a
 //! journal has, and on `head` for snapshots and the step of an event.
@@ -19,7 +21,9 @@ mod error;
 mod heads;
 mod journals;
 mod keeping;
+mod laws;
 mod reading;
+mod renewing;
 mod rolling;
 mod saving;
 mod starting;
@@ -30,5 +34,6 @@ pub use blocks::{BlockBytes, open_block, read_blocks};
 pub use error::{BlockFault, ReadError, RollFault, StartError, WriteFault};
 pub use journals::{FoundJournal, read_journal};
 pub use keeping::{Beginning, StoreKeeper};
+pub use laws::{one_world, rewritten_blocks};
 pub use reading::{FoundStore, read_store};
 pub use starting::resume_store;

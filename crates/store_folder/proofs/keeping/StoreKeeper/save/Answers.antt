@@ -3,8 +3,8 @@ use Rattle.head.specs.Heads.{BlockPart}
 use Rattle.head_record.specs.Saved.{Place}
 use Rattle.store_folder.specs.Holding.{HoldsAt}
 use Rattle.store_folder.specs.Writing.{places_from}
-use Rattle.store_folder.proofs.Saves.{enough, is_sound, like_made, may_roll, still_held, then_finds}
-use Rattle.store_folder.proofs.Saves.{writing_finds}
+use Rattle.store_folder.proofs.Saves.{enough, is_sound, like_made, may_roll, still_held, writing_finds}
+use Rattle.store_folder.proofs.Rolls.{finds_on}
 use Rattle.store_folder.proofs.keeping.StoreKeeper.save.Goals as goal
 
 pub write_saved-requires-clause-blocks : goal.write_saved-requires-clause-blocks
@@ -179,7 +179,7 @@ returns-in-Ok-roll-clause-any_moment g c events parts may opened =
     (record { folder = c.write_saved.new.folder }) old.len old.closed events s held parts same
     (places_from c.args.next (length s.blocks - same)) there.0 c.in-Ok.head may c.if-self.false
     c.write_saved.ensures.stays there.1 there.2 c.in-Ok.ensures.saved in
-    then_finds f.shows f.kept f.sound f.moment f.left_since met.only_now met.earlier first events old.medium.folder c.write_saved.new.folder
+    finds_on f.moment f.left_since first events old.medium.folder c.write_saved.new.folder
     c.roll.new.self.events.journal.medium.folder
     (writing_finds f.shows f.kept f.sound f.moment f.left_since met.only_now met.earlier first old.medium
     (record { folder = c.write_saved.new.folder }) old.len old.closed events s held parts same may c.if-self.false
@@ -234,7 +234,7 @@ returns-clause-any_moment g c events parts may opened =
     (record { folder = c.write_saved.new.folder }) old.len old.closed events s held parts same
     (places_from c.args.next (length s.blocks - same)) there.0 c.in-Ok.head may c.if-self.false
     c.write_saved.ensures.stays there.1 there.2 c.in-Ok.ensures.saved in
-    then_finds f.shows f.kept f.sound f.moment f.left_since met.only_now met.earlier first events old.medium.folder c.write_saved.new.folder
+    finds_on f.moment f.left_since first events old.medium.folder c.write_saved.new.folder
     c.roll.new.self.events.journal.medium.folder
     (writing_finds f.shows f.kept f.sound f.moment f.left_since met.only_now met.earlier first old.medium
     (record { folder = c.write_saved.new.folder }) old.len old.closed events s held parts same may c.if-self.false
