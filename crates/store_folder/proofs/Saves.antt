@@ -1,5 +1,5 @@
 -- A snapshot that is saved.
-use Rattle.std.proofs.Common.{◌≡◌, ◌≤◌, ⊎_elim, inl, inr, ℕ, zero, suc, Bool, false, List, []}
+use Rattle.std.proofs.Common.{◌≡◌, ◌≤◌, inl, ℕ, zero, suc, Bool, true, false, List, []}
 use Rattle.std.proofs.Common.{◌∷◌, ◌++◌, Option, drop, take, length, refl, sym, ap, subst, ◌∙◌, arith}
 use Rattle.std.proofs.lemmas.List.{take-append-drop}
 use Rattle.block_rewriter.proofs.Full.{same_points}
@@ -190,15 +190,3 @@ module _ {F : Type 0} (shows : F → List ℕ → Option (List ℕ) → Type 0)
       → AreRewritten (drop same s.blocks) news → AreLike s.blocks (take same parts ++ news)
   like_made first old len closed events s held parts same news may anew =
       made_like same s.blocks parts news may.front anew
-
-  -- one run of calls after another
-  pub then_finds : (first : World) (events : List Event) (a b c : F)
-      → StartFinds moment left_since a b first events
-      → StartFinds moment left_since b c first events
-      → StartFinds moment left_since a c first events
-  then_finds first events a b c one two = record {
-    later = omega (arith, one.later, two.later);
-    each = λ w had. ⊎_elim (one.each w) (λ p. p) (two.before (moment a) w one.later had);
-    before = λ t w le had. ⊎_elim (one.before t w le) (λ p. inr p)
-        (two.before t w (omega (arith, le, one.later)) had);
-  }

@@ -10,7 +10,7 @@ use Rattle.std.proofs.lemmas.Slice.Eq.{bytes_eq-Decides}
 use Rattle.data_folder.specs.Folders.{HasFile, Left, MayLeaveOf}
 use Rattle.data_folder.specs.States.{AreThere, Named}
 use Rattle.data_folder.specs.Sweeping.{AreAmong, KeepsStore, is_among}
-use Rattle.data_folder.proofs.Sweeps.{among_more, of_fewer, then_kept}
+use Rattle.data_folder.proofs.Sweeps.{of_fewer, then_kept}
 use Rattle.head.specs.Heads.{BlockPart}
 use Rattle.head_record.specs.Saved.{Place}
 use Rattle.store_folder.specs.Blocks.{BlockFiles, name_in, named_files}
