@@ -325,7 +325,9 @@ def strangers(them, looks):
     looks.at("what stays", stays, {name: now.get(name) for name in stays})
     files = ("chunks/", "chunks/000001", "index", "meta.json", "tombstones")
     wanted = {f"blocks/{n}/{name}" for n in (1, 2, 3) for name in files} | {"journal", "blocks/"} | set(stays)
-    wanted |= {f"{os.path.dirname(name)}/" for name in wanted if os.path.dirname(name)}
+    for name in list(wanted):
+        while name := os.path.dirname(name.rstrip("/")):
+            wanted.add(f"{name}/")
     looks.at("what is there", sorted(wanted), sorted(now))
     names = [f"{folder}/blocks/{n}" for n in (1, 2, 3)]
     looks.at("check of the blocks", (0, 3), (lambda done: (done[0], done[1].count(": ok ")))(run([them.querier, "check", *names])))

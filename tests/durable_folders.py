@@ -144,7 +144,7 @@ def refused_folders(looks, querier, work, blocks):
         server = Server(querier, "--data", folder, "--journal-mb", word)
         server.wait()
         looks.at(f"--journal-mb {word!r}", (2, True, False),
-                 (server.end(), "--journal-mb" in server.told, os.path.exists(folder)))
+                 (server.end(), "error: " in server.told, os.path.exists(folder)))
     status, _, told = run([querier, "journal", f"{work}/none"])
     looks.at("journal of what is not there", (3, f"cannot read {work}/none\n"), (status, told))
     status, _, told = run([querier, "journal"])

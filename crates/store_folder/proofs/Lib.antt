@@ -6,6 +6,7 @@ pub mod Kept
 pub mod Litter
 pub mod OpenedBlocks
 pub mod Places
+pub mod Plains
 pub mod Refusals
 pub mod Rolls
 pub mod Saves

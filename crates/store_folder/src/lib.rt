@@ -24,7 +24,7 @@ mod journals;
 mod keeping;
 mod kinds;
 mod laws;
-mod litter;
+mod leftovers;
 mod plain;
 mod reading;
 mod renewing;

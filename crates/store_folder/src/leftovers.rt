@@ -108,15 +108,17 @@ fn sweep_apart<F: Folder>(
     ensures kept { KeepsStore F.shows F.kept F.sound F.moment F.left_since (names_at places.now)
         folder.old folder.new }
 {
-    let Ok(kept) = file_names(alloc, places) else {
-        return Err(BlockFault::Memory);
+    let kept = match file_names(alloc, places) {
+        Ok(kept) => kept,
+        Err(_) => return Err(BlockFault::Memory),
     };
     let folders = match list_names(alloc, folder, "blocks") {
         Ok(folders) => folders,
         Err(_) => return Err(BlockFault::Medium),
     };
-    let Ok(names) = litter_names(alloc, &folders, places) else {
-        return Err(BlockFault::Memory);
+    let names = match litter_names(alloc, &folders, places) {
+        Ok(names) => names,
+        Err(_) => return Err(BlockFault::Memory),
     };
     Ok(sweep(folder, &names, &kept))
 }
