@@ -67,19 +67,26 @@ fn unwritable(alloc: Global, folder: &str) -> Fault
     }
 }
 
+/// A folder, and the store that it has, if it has one.
+#[derive(Drop)]
+struct FoundData<H: Drop> {
+    disk: H,
+    found: Option<FoundStore>,
+}
+
 /// The store that a folder has, if it has one, and the folder.
 fn read_data<H: Folder + Drop>(
     alloc: Global,
-    data: H,
+    disk: H,
     folder: &str,
-) -> Result<(H, Option<FoundStore>), Fault>
-    requires { H.sound data ≡ true }
-    ensures read { IfOk result (λ x. IsRead H.shows H.kept H.sound x.0 x.1) }
+) -> Result<FoundData<H>, Fault>
+    requires { H.sound disk ≡ true }
+    ensures read { IfOk result (λ x. IsRead H.shows H.kept H.sound x.disk x.found) }
     ensures err { IfErr result (IsDataFault folder.now) }
 {
-    let mut data = data;
-    match open_store(alloc, &mut data) {
-        Ok(found) => Ok((data, found)),
+    let mut disk = disk;
+    match open_store(alloc, &mut disk) {
+        Ok(found) => Ok(FoundData { disk, found }),
         Err(error) => Err(match error.cause() {
             StartCause::Memory => Fault::Memory,
             StartCause::Folder => unreadable(alloc, folder, error),
@@ -93,12 +100,12 @@ fn read_watched<R: Threads + Clock + Eprint + Sync, F: ReadFiles, H: Folder + Dr
     rt: &R,
     alloc: Global,
     files: &F,
-    data: H,
+    disk: H,
     folder: &str,
     listener: &TcpListener,
-) -> Result<(H, Option<FoundStore>), Fault>
-    requires { H.sound data ≡ true }
-    ensures read { IfOk result (λ x. IsRead H.shows H.kept H.sound x.0 x.1) }
+) -> Result<FoundData<H>, Fault>
+    requires { H.sound disk ≡ true }
+    ensures read { IfOk result (λ x. IsRead H.shows H.kept H.sound x.disk x.found) }
     ensures err { IfErr result (IsDataFault folder.now) }
 {
     let process = Process { alloc, files };
@@ -106,12 +113,12 @@ fn read_watched<R: Threads + Clock + Eprint + Sync, F: ReadFiles, H: Folder + Dr
     let over = AtomicBool::new(false);
     let (watch, ended) = (&watch, &over);
     let apart = || report_opening(rt, alloc, watch, ended);
-    let here = || -> Result<(H, Option<FoundStore>), Fault>
-        requires { IsSync R.row × IsSync F.row × IsSend H.row × (H.sound data ≡ true) }
-        ensures read { IfOk result (λ x. IsRead H.shows H.kept H.sound x.0 x.1) }
+    let here = || -> Result<FoundData<H>, Fault>
+        requires { IsSend H.row × (H.sound disk ≡ true) }
+        ensures read { IfOk result (λ x. IsRead H.shows H.kept H.sound x.disk x.found) }
         ensures err { IfErr result (IsDataFault folder.entry.now) }
     {
-        let read = read_data(alloc, data, folder);
+        let read = read_data(alloc, disk, folder);
         ended.store(true, Ordering::SeqCst);
         read
     };
@@ -124,17 +131,17 @@ fn read_beside<R: Threads + Clock + Eprint + Sync, F: ReadFiles, H: Folder + Dro
     rt: &R,
     alloc: Global,
     files: &F,
-    data: H,
+    disk: H,
     folder: &str,
     beside: Option<&TcpListener>,
-) -> Result<(H, Option<FoundStore>), Fault>
-    requires { H.sound data ≡ true }
-    ensures read { IfOk result (λ x. IsRead H.shows H.kept H.sound x.0 x.1) }
+) -> Result<FoundData<H>, Fault>
+    requires { H.sound disk ≡ true }
+    ensures read { IfOk result (λ x. IsRead H.shows H.kept H.sound x.disk x.found) }
     ensures err { IfErr result (IsDataFault folder.now) }
 {
     match beside {
-        Some(listener) => read_watched(rt, alloc, files, data, folder, listener),
-        None => read_data(alloc, data, folder),
+        Some(listener) => read_watched(rt, alloc, files, disk, folder, listener),
+        None => read_data(alloc, disk, folder),
     }
 }
 
@@ -225,10 +232,10 @@ fn not_started(alloc: Global, folder: &str, error: StartError) -> Fault
 fn begin_data<R: Eprint, N: Beginning, H: Folder + Drop>(
     rt: &R,
     alloc: Global,
-    data: H,
+    disk: H,
     folder: &str,
 ) -> Result<StartedStore<N, H>, Fault>
-    requires read { IsRead H.shows H.kept H.sound data None }
+    requires read { IsRead H.shows H.kept H.sound disk None }
     requires first { N.first ≡ world_of (opening_of []) }
     ensures world { IfOk result (λ x. replayed N.first x.journal.events.items
         ≡ Ok (world_of x.snapshot)) }
@@ -237,7 +244,7 @@ fn begin_data<R: Eprint, N: Beginning, H: Folder + Drop>(
         x.keeper.events.journal.closed x.journal.events.items) }
     ensures err { IfErr result (IsDataFault folder.now) }
 {
-    match begin_store(alloc, data) {
+    match begin_store(alloc, disk) {
         Ok(kept) => {
             tell_begun(rt, folder);
             Ok(kept)
@@ -250,14 +257,14 @@ fn begin_data<R: Eprint, N: Beginning, H: Folder + Drop>(
 fn resume_data<R: Eprint, N: Beginning, H: Folder + Drop>(
     rt: &R,
     alloc: Global,
-    data: H,
+    disk: H,
     found: FoundStore,
     folder: &str,
     most: u64,
 ) -> Result<StartedStore<N, H>, Fault>
-    requires sound { H.sound data ≡ true }
+    requires sound { H.sound disk ≡ true }
     requires found { IsFoundStore H.shows H.kept found.journal (map part_in found.blocks.items)
-        data }
+        disk }
     requires first { N.first
         ≡ world_of (started found.journal.head (map part_in found.blocks.items)) }
     ensures world { IfOk result (λ x. replayed N.first x.journal.events.items
@@ -267,7 +274,7 @@ fn resume_data<R: Eprint, N: Beginning, H: Folder + Drop>(
         x.keeper.events.journal.closed x.journal.events.items) }
     ensures err { IfErr result (IsDataFault folder.now) }
 {
-    match resume_store(alloc, data, found) {
+    match resume_store(alloc, disk, found) {
         Ok(kept) => {
             tell_recovered(rt, &kept.journal);
             roll_data(rt, alloc, folder, most, kept)
@@ -281,12 +288,12 @@ fn resume_data<R: Eprint, N: Beginning, H: Folder + Drop>(
 fn start_data<R: Eprint, N: Beginning, H: Folder + Drop>(
     rt: &R,
     alloc: Global,
-    data: H,
+    disk: H,
     found: Option<FoundStore>,
     folder: &str,
     most: u64,
 ) -> Result<StartedStore<N, H>, Fault>
-    requires read { IsRead H.shows H.kept H.sound data found }
+    requires read { IsRead H.shows H.kept H.sound disk found }
     requires first { N.first ≡ first_of found }
     ensures world { IfOk result (λ x. replayed N.first x.journal.events.items
         ≡ Ok (world_of x.snapshot)) }
@@ -296,8 +303,8 @@ fn start_data<R: Eprint, N: Beginning, H: Folder + Drop>(
     ensures err { IfErr result (IsDataFault folder.now) }
 {
     match found {
-        Some(found) => resume_data(rt, alloc, data, found, folder, most),
-        None => begin_data(rt, alloc, data, folder),
+        Some(found) => resume_data(rt, alloc, disk, found, folder, most),
+        None => begin_data(rt, alloc, disk, folder),
     }
 }
 
@@ -311,13 +318,13 @@ fn start_watched<
     rt: &R,
     alloc: Global,
     files: &F,
-    data: H,
+    disk: H,
     found: Option<FoundStore>,
     folder: &str,
     most: u64,
     listener: &TcpListener,
 ) -> Result<StartedStore<N, H>, Fault>
-    requires read { IsRead H.shows H.kept H.sound data found }
+    requires read { IsRead H.shows H.kept H.sound disk found }
     requires first { N.first ≡ first_of found }
     ensures world { IfOk result (λ x. replayed N.first x.journal.events.items
         ≡ Ok (world_of x.snapshot)) }
@@ -332,8 +339,8 @@ fn start_watched<
     let (watch, ended) = (&watch, &over);
     let apart = || report_opening(rt, alloc, watch, ended);
     let here = || -> Result<StartedStore<N, H>, Fault>
-        requires { IsSync R.row × IsSync F.row × IsSend H.row
-            × IsRead H.shows H.kept H.sound data found × (N.first ≡ first_of found) }
+        requires { IsSync R.row × IsSend H.row
+            × IsRead H.shows H.kept H.sound disk found × (N.first ≡ first_of found) }
         ensures world { IfOk result (λ x. replayed N.first x.journal.events.items
             ≡ Ok (world_of x.snapshot)) }
         ensures held { IfOk result (λ x. HoldsStore H.shows H.kept H.sound H.moment
@@ -341,7 +348,7 @@ fn start_watched<
             x.keeper.events.journal.closed x.journal.events.items) }
         ensures err { IfErr result (IsDataFault folder.entry.now) }
     {
-        let started = start_data(rt, alloc, data, found, folder, most);
+        let started = start_data(rt, alloc, disk, found, folder, most);
         ended.store(true, Ordering::SeqCst);
         started
     };
@@ -359,13 +366,13 @@ fn start_beside<
     rt: &R,
     alloc: Global,
     files: &F,
-    data: H,
+    disk: H,
     found: Option<FoundStore>,
     folder: &str,
     most: u64,
     beside: Option<&TcpListener>,
 ) -> Result<StartedStore<N, H>, Fault>
-    requires read { IsRead H.shows H.kept H.sound data found }
+    requires read { IsRead H.shows H.kept H.sound disk found }
     requires first { N.first ≡ first_of found }
     ensures world { IfOk result (λ x. replayed N.first x.journal.events.items
         ≡ Ok (world_of x.snapshot)) }
@@ -376,9 +383,9 @@ fn start_beside<
 {
     match beside {
         Some(listener) => {
-            start_watched(rt, alloc, files, data, found, folder, most, listener)
+            start_watched(rt, alloc, files, disk, found, folder, most, listener)
         }
-        None => start_data(rt, alloc, data, found, folder, most),
+        None => start_data(rt, alloc, disk, found, folder, most),
     }
 }
 
@@ -443,7 +450,7 @@ fn serve_found<
     rt: &R,
     alloc: Global,
     files: &F,
-    data: H,
+    disk: H,
     found: Option<FoundStore>,
     folder: &str,
     rules: &Rules,
@@ -451,7 +458,7 @@ fn serve_found<
     serving: Serving<'_>,
     out: &mut W,
 ) -> Result<Vec<u64>, Fault>
-    requires read { IsRead H.shows H.kept H.sound data found }
+    requires read { IsRead H.shows H.kept H.sound disk found }
     requires first { N.first ≡ first_of found }
     ensures ok { OnOk result (TellsPort (W.contents out.old) (W.contents out.new)) }
     ensures workers { IfOk result (λ counts. vec_len counts ≡ serving.entry.workers) }
@@ -461,7 +468,7 @@ fn serve_found<
 {
     let most = serving.journal_mb.saturating_mul(MB);
     let kept = start_beside::<R, N, F, H>(
-        rt, alloc, files, data, found, folder, most, beside,
+        rt, alloc, files, disk, found, folder, most, beside,
     )?;
     let name = Store::new();
     let shifts = serve_kept::<Brand, N, H, R, F, W>(
@@ -481,23 +488,23 @@ fn serve_folder<
     rt: &R,
     alloc: Global,
     files: &F,
-    data: H,
+    disk: H,
     folder: &str,
     rules: &Rules,
     beside: Option<&TcpListener>,
     serving: Serving<'_>,
     out: &mut W,
 ) -> Result<Vec<u64>, Fault>
-    requires { H.sound data ≡ true }
+    requires { H.sound disk ≡ true }
     ensures ok { OnOk result (TellsPort (W.contents out.old) (W.contents out.new)) }
     ensures workers { IfOk result (λ counts. vec_len counts ≡ serving.entry.workers) }
     ensures served { IfOk result (λ counts. All (λ n. n ≡ serving.entry.requests) counts.items) }
     ensures err { IfErr result (λ fault. IsKeepingFault folder.now serving.entry
         (W.contents out.old) (W.contents out.new) fault) }
 {
-    let (data, found) = read_beside(rt, alloc, files, data, folder, beside)?;
+    let FoundData { disk, found } = read_beside(rt, alloc, files, disk, folder, beside)?;
     serve_found::<Brand, H, R, F, W>(
-        rt, alloc, files, data, found, folder, rules, beside, serving, out,
+        rt, alloc, files, disk, found, folder, rules, beside, serving, out,
     )
 }
 
@@ -527,9 +534,9 @@ pub(crate) fn serve_data<
         return Err(cannot_write(alloc, folder));
     };
     let lock = lock_data(alloc, host, folder)?;
-    let data = HostFolder::new(host, alloc, folder);
+    let disk = HostFolder::new(host, alloc, folder);
     let counts = serve_folder(
-        rt, alloc, files, data, folder, rules, beside, serving, out,
+        rt, alloc, files, disk, folder, rules, beside, serving, out,
     )?;
     drop(lock);
     Ok(counts)
