@@ -27,11 +27,7 @@ pub(crate) fn path_in(alloc: Global, folder: &str, name: &str) -> Result<String,
 }
 
 /// The path of the folder of the block with this number.
-pub(crate) fn block_path_in(
-    alloc: Global,
-    folder: &str,
-    number: u64,
-) -> Result<String, AllocError>
+pub(crate) fn block_path_in(alloc: Global, folder: &str, number: u64) -> Result<String, AllocError>
     ensures { IfOk result (λ path.
         string_bytes path ≡ path_in folder.now (codes "blocks/" ++ decimal number)) }
 {

@@ -11,11 +11,11 @@ use labels::LabelError;
 use matchers::{MatcherError, QueryError, SelectorError};
 use server::ServeError;
 use snapshots::{OpenError, SnapshotError};
-use store_folder::StartError;
 use std::alloc::{AllocError, AllocFailed};
 use std::error::Error;
 use std::fmt;
 use std::io::{self, Write};
+use store_folder::StartError;
 
 /// What was refused, and why.
 #[derive(Clone, Copy, Debug, PartialEq, Eq, Drop)]

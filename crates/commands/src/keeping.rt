@@ -75,11 +75,7 @@ struct FoundData<H: Drop> {
 }
 
 /// The store that a folder has, if it has one, and the folder.
-fn read_data<H: Folder + Drop>(
-    alloc: Global,
-    disk: H,
-    folder: &str,
-) -> Result<FoundData<H>, Fault>
+fn read_data<H: Folder + Drop>(alloc: Global, disk: H, folder: &str) -> Result<FoundData<H>, Fault>
     requires { H.sound disk ≡ true }
     ensures read { IfOk result (λ x. IsRead H.shows H.kept H.sound x.disk x.found) }
     ensures err { IfErr result (IsDataFault folder.now) }
@@ -382,9 +378,7 @@ fn start_beside<
     ensures err { IfErr result (IsDataFault folder.now) }
 {
     match beside {
-        Some(listener) => {
-            start_watched(rt, alloc, files, disk, found, folder, most, listener)
-        }
+        Some(listener) => { start_watched(rt, alloc, files, disk, found, folder, most, listener) }
         None => start_data(rt, alloc, disk, found, folder, most),
     }
 }
@@ -467,9 +461,7 @@ fn serve_found<
         (W.contents out.old) (W.contents out.new) fault) }
 {
     let most = serving.journal_mb.saturating_mul(MB);
-    let kept = start_beside::<R, N, F, H>(
-        rt, alloc, files, disk, found, folder, most, beside,
-    )?;
+    let kept = start_beside::<R, N, F, H>(rt, alloc, files, disk, found, folder, most, beside)?;
     let name = Store::new();
     let shifts = serve_kept::<Brand, N, H, R, F, W>(
         rt, alloc, files, name, kept, rules, beside, serving, out,
@@ -535,9 +527,7 @@ pub(crate) fn serve_data<
     };
     let lock = lock_data(alloc, host, folder)?;
     let disk = HostFolder::new(host, alloc, folder);
-    let counts = serve_folder(
-        rt, alloc, files, disk, folder, rules, beside, serving, out,
-    )?;
+    let counts = serve_folder(rt, alloc, files, disk, folder, rules, beside, serving, out)?;
     drop(lock);
     Ok(counts)
 }

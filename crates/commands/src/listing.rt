@@ -26,8 +26,10 @@ use labels::{LabelSet, Sample};
 use matchers::{Matcher, Op};
 use std::alloc::{AllocError, Global};
 use std::io::Write;
-use store_folder::{FoundJournal, ReadError as JournalFault, StartCause, StartError};
-use store_folder::{begins_plain, read_journal, read_plain};
+use store_folder::{
+    FoundJournal, ReadError as JournalFault, StartCause, StartError, begins_plain, read_journal,
+    read_plain,
+};
 
 /// The most bytes of a journal.
 const MOST: usize = 1 << 62;
