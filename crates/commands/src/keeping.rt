@@ -23,7 +23,7 @@ use crate::data_folder::{DataFolder, cannot_write, open_folder};
 use crate::fault::Fault;
 use crate::files::ReadFiles;
 use crate::process::Process;
-use crate::serve::{counts_of, passes_of, serve_workers, watch_at};
+use crate::serve::{counts_of, passes_of, seats_of, serve_workers, watch_at, with_cuts};
 use event_journal::{JournalKeeper, StartError, read_journal};
 use guard::Rules;
 use head::{CommitError, Event, RefusedEvent, Snapshot, replay};
@@ -273,12 +273,13 @@ fn serve_kept<
         torn: _,
     } = kept;
     drop(events);
-    let count = serving.workers as usize;
+    let seats = seats_of(serving);
     let passes = passes_of(serving);
     let found = (snapshot, keeper);
-    let workers = Workers::<J, &R, JournalKeeper<M>>::resume(
-        rt, alloc, store, found, passes, count,
+    let opened = Workers::<J, &R, JournalKeeper<M>>::resume(
+        rt, alloc, store, found, passes, seats,
     )?;
+    let workers = with_cuts(opened, serving);
     serve_workers(rt, alloc, files, workers, rules, beside, serving, out)
 }
 
