@@ -279,6 +279,23 @@ module _ {F : Type 0} (shows : F → List ℕ → Option (List ℕ) → Type 0)
     before = λ t w le had. inl had;
   }
 
+  -- after an error, if the old journal goes on, its head is the one before
+  pub same_head : (first : World) (old new : JournalFile F) (len new_len : ℕ)
+      (was closed : Bool) (events : List Event) (places : List Place) (parts : List BlockPart)
+      (at : HoldsAt shows kept sound moment left_since first old len was events places parts)
+      → KeepsHere (contents_with (head_texts at.0.saved) at.0.late) new new_len
+      → ((files : List Named) → AllByRecursion IsApart files → AreThere shows kept files old.folder
+      → AreThere shows kept files new.folder)
+      → HoldsAt shows kept sound moment left_since first new new_len closed events places parts
+  same_head first old new len new_len was closed events places parts at k stay =
+      let h : HoldsAll first old len was events = at.0 in (
+        after_head first new new_len closed h.saved h.parts events h.early h.late h.all h.head
+            h.journal.each h.begins k
+            (blocks_rolled shows kept h.saved.places h.parts old.folder new.folder stay h.blocks),
+        at.1,
+        at.2,
+      )
+
   -- after an error the old journal goes on, or it is closed
   pub not_rolled : (first : World) (old new : JournalFile F) (len new_len : ℕ)
       (was closed : Bool) (events : List Event) (h : HoldsAll first old len was events)

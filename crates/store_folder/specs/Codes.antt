@@ -3,6 +3,8 @@ use Rattle.std.specs.Prelude.{ℕ, List, ◌++◌, codes, decimal}
 use Rattle.block.specs.declared.error.BlockError.{BlockError}
 use Rattle.block.specs.declared.error.BlockError.TheVariants as block
 use Rattle.block.specs.Codes as blocks
+use Rattle.data_folder.specs.declared.rolling.RollError.{RollError}
+use Rattle.data_folder.specs.declared.rolling.RollError.TheVariants as rolls
 use Rattle.event_journal.specs.Codes.{journal_place}
 use Rattle.event_text.specs.Codes as text
 use Rattle.event_text.specs.declared.error.EventError.{EventError}
@@ -21,6 +23,8 @@ use Rattle.store_folder.specs.declared.error.BlockFault.{BlockFault}
 use Rattle.store_folder.specs.declared.error.BlockFault.TheVariants as faults
 use Rattle.store_folder.specs.declared.error.ReadError.{ReadError}
 use Rattle.store_folder.specs.declared.error.ReadError.TheVariants.{Journal, Head, Event}
+use Rattle.store_folder.specs.declared.error.RollFault.{RollFault}
+use Rattle.store_folder.specs.declared.error.RollFault.TheVariants as roll
 use Rattle.store_folder.specs.declared.error.StartCause.{StartCause}
 use Rattle.store_folder.specs.declared.error.StartCause.TheVariants as causes
 use Rattle.store_folder.specs.declared.error.StartError.{StartError}
@@ -181,3 +185,26 @@ start_text (errors.Head e) = resume_text e
 start_text (errors.Event refused) =
     codes "J18: the event after "
     ++ (decimal refused.at ++ (codes " events is refused: " ++ commit_text refused.error))
+
+-- why a journal does not begin with a new head, for people
+
+abbrev pub unsaved_text : JournalError → List ℕ
+unsaved_text journal.Memory = codes "no memory"
+unsaved_text journal.Magic = codes "no memory"
+unsaved_text journal.Version = codes "no memory"
+unsaved_text (journal.Checksum at) = codes "no memory"
+unsaved_text (journal.Length at) = codes "no memory"
+unsaved_text journal.Size = codes "a series is too long to be saved"
+unsaved_text journal.Medium = codes "no memory"
+unsaved_text journal.Closed = codes "no memory"
+
+abbrev pub unrolled_text : RollError → List ℕ
+unrolled_text rolls.Closed = codes "the journal is closed"
+unrolled_text rolls.NotWritten = codes "the next journal is not written"
+unrolled_text rolls.Lost = codes "the journal is lost until the next start"
+
+abbrev pub roll_text : RollFault → List ℕ
+roll_text (roll.Text e) = unsaved_text e
+roll_text (roll.Folder e) = unrolled_text e
+roll_text roll.Memory = codes "no memory"
+roll_text (roll.Block fault) = codes "a block is not written"

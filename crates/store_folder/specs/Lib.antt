@@ -6,9 +6,14 @@ pub mod Finding
 pub mod Holding
 pub mod Journals
 pub mod KeeperLaws
+pub mod Kinds
+pub mod Plain
+pub mod Refusals
 pub mod Rewriting
 pub mod Rolls
+pub mod Saving
 pub mod Starting
 pub mod States
 pub mod StoreLaws
 pub mod Sweeps
+pub mod Writing

@@ -5,8 +5,9 @@ ghost use Rattle.store_folder.specs.Codes.{block_cause, block_code, event_cause,
 ghost use Rattle.store_folder.specs.Codes.{read_cause, read_code, read_place, refused_cause};
 ghost use Rattle.store_folder.specs.Codes.{refused_code, step_cause};
 
-use crate::error::{BlockFault, ReadError, StartCause, StartError, UnreadBlock};
+use crate::error::{BlockFault, ReadError, RollFault, StartCause, StartError, UnreadBlock};
 use block::BlockError;
+use data_folder::RollError;
 use event_journal::Refused;
 use event_text::{EventError, TextError};
 use head::{CommitError, RefusedEvent, ResumeError};
@@ -241,3 +242,24 @@ impl fmt::Display for StartError {
 }
 
 impl Error for StartError {}
+
+impl fmt::Display for RollFault {
+    ghost use Rattle.std.specs.Prelude.{Some};
+    ghost use Rattle.store_folder.specs.Codes.{roll_text};
+
+    ghost output = { λ fault. Some (roll_text fault) };
+
+    fn fmt<W: fmt::Write>(&self, f: &mut fmt::Formatter<W>) -> fmt::Result {
+        let text = match self {
+            RollFault::Text(JournalError::Size) => "a series is too long to be saved",
+            RollFault::Text(_) | RollFault::Memory => "no memory",
+            RollFault::Folder(RollError::Lost) => "the journal is lost until the next start",
+            RollFault::Folder(RollError::Closed) => "the journal is closed",
+            RollFault::Folder(RollError::NotWritten) => "the next journal is not written",
+            RollFault::Block(_) => "a block is not written",
+        };
+        write!(f, "{text}")
+    }
+}
+
+impl Error for RollFault {}

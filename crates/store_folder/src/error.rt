@@ -1,7 +1,8 @@
 //! Why a store is not started.
 
 use block::BlockError;
-use data_folder::RollError;
+use block_rewriter::RewriteError;
+use data_folder::{ApartError, RollError};
 use event_journal::Refused;
 use head::{RefusedEvent, ResumeError};
 use head_record::RefusedHead;
@@ -68,6 +69,21 @@ pub enum StartCause {
     Refused,
 }
 
+/// Why a block is not written.
+#[derive(Clone, Copy, Debug, PartialEq, Eq, Drop)]
+pub enum WriteFault {
+    /// No memory is left.
+    Memory,
+    /// A folder could not be made.
+    Medium,
+    /// A file is not written, for this cause.
+    File(ApartError),
+    /// No files of it are made, for this cause.
+    Block(RewriteError),
+    /// There is no number left for its folder.
+    Numbers,
+}
+
 /// Why a journal does not begin with a new head.
 #[derive(Clone, Copy, Debug, PartialEq, Eq, Drop)]
 pub enum RollFault {
@@ -75,4 +91,8 @@ pub enum RollFault {
     Text(JournalError),
     /// The next journal was not written, or could not take the journal's name.
     Folder(RollError),
+    /// No memory is left for what is saved. The journal goes on.
+    Memory,
+    /// A block is not written. The journal goes on.
+    Block(WriteFault),
 }

@@ -22,17 +22,27 @@ mod error;
 mod heads;
 mod journals;
 mod keeping;
+mod kinds;
 mod laws;
+mod litter;
+mod plain;
 mod reading;
 mod renewing;
 mod rolling;
+mod saving;
+mod started;
 mod starting;
 mod sweeping;
+mod writing;
 
 pub use blocks::{BlockBytes, open_block, read_blocks};
-pub use error::{BlockFault, ReadError, RollFault, StartCause, StartError, UnreadBlock};
+pub use error::{
+    BlockFault, ReadError, RollFault, StartCause, StartError, UnreadBlock, WriteFault,
+};
 pub use journals::{FoundJournal, read_journal};
 pub use keeping::{Beginning, StoreKeeper};
 pub use laws::{one_world, rewritten_blocks};
-pub use reading::{FoundStore, read_store};
-pub use starting::resume_store;
+pub use plain::{begins_plain, read_plain};
+pub use reading::{FoundStore, open_store, read_store};
+pub use kinds::{has_cut, has_deletion};
+pub use starting::{StartedStore, begin_store, resume_store};

@@ -1,8 +1,9 @@
 //! A journal that begins with a new head.
 
-ghost use Rattle.std.specs.Prelude.{◌≡◌, List, false, true, Err, OnOk};
+ghost use Rattle.std.specs.Prelude.{◌≡◌, List, false, true, Err, OnErr, OnOk};
 ghost use Rattle.head.specs.Heads.{BlockPart};
 ghost use Rattle.head.specs.Worlds.{Event as Change};
+ghost use Rattle.head_record.specs.Saved.{Place};
 ghost use Rattle.store_folder.specs.Holding.{HoldsAt, HoldsStore};
 ghost use Rattle.store_folder.specs.Rolls.{MayRoll};
 ghost use Rattle.store_folder.specs.Starting.{StartFinds};
@@ -40,6 +41,16 @@ impl<N: Beginning, F: Folder + Drop> StoreKeeper<N, F> {
             → HoldsAt F.shows F.kept F.sound F.moment F.left_since N.first
             self.new.events.journal.medium self.new.events.journal.len
             self.new.events.journal.closed events head.now.places parts) }
+        // Where it fails and goes on, the head is the one before.
+        ensures err { OnErr result ((events : List Change) (places : List Place)
+            (parts : List BlockPart)
+            → HoldsAt F.shows F.kept F.sound F.moment F.left_since N.first
+            self.old.events.journal.medium self.old.events.journal.len
+            self.old.events.journal.closed events places parts
+            → self.new.events.journal.closed ≡ false
+            → HoldsAt F.shows F.kept F.sound F.moment F.left_since N.first
+            self.new.events.journal.medium self.new.events.journal.len
+            self.new.events.journal.closed events places parts) }
         // After a crash at any moment of the call, a start finds the world of these events.
         ensures any_moment { (events : List Change) (parts : List BlockPart)
             → MayRoll F.shows F.kept F.sound F.moment F.left_since N.first

@@ -26,7 +26,7 @@ fn push_files(alloc: Global, names: &mut Vec<String>, place: BlockPlace) -> Resu
 }
 
 /// The names of the files of the blocks at these places.
-fn file_names(alloc: Global, places: &[BlockPlace]) -> Result<Vec<String>, AllocError>
+pub(crate) fn file_names(alloc: Global, places: &[BlockPlace]) -> Result<Vec<String>, AllocError>
     ensures { IfOk result (λ names. names_in names.items ≡ names_at places.now) }
 {
     let mut names = Vec::new(alloc);

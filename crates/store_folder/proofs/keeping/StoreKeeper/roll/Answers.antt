@@ -4,7 +4,7 @@ use Rattle.head_record.specs.Spelling.{head_texts}
 use Rattle.journal.specs.Group.{IsJournalText}
 use Rattle.store_folder.specs.KeeperLaws.{open_head}
 use Rattle.store_folder.proofs.Rolls.{apart_both, files_of_both, keeps_now, not_rolled, roll_finds}
-use Rattle.store_folder.proofs.Rolls.{rolled, stays_so, there_both}
+use Rattle.store_folder.proofs.Rolls.{rolled, same_head, stays_so, there_both}
 use Rattle.store_folder.proofs.keeping.StoreKeeper.roll.Goals as goal
 
 pub roll-requires-clause-kept : goal.roll-requires-clause-kept
@@ -111,7 +111,28 @@ returns-clause-held g c events parts m =
     g.N.Beginning.first old.medium old.len old.closed events h opened))
     c.in-Err-roll.ensures.files (returns-clause-any_moment g c events parts m opened)
 
+pub returns-clause-err : goal.returns-clause-err
+returns-clause-err g c events places parts at goes_on =
+    let f = g.F.Folder in
+    let met = g.met.F.Folder in
+    let old = c.args.self.now.events.journal in
+    let made = c.roll.new.journal in
+    let h = at.0 in
+    same_head f.shows f.kept f.sound f.moment f.left_since met.only_now met.earlier
+    g.N.Beginning.first old.medium made.medium old.len made.len old.closed made.closed events places
+    parts at
+    (c.in-Err-roll.ensures.err (contents_with (head_texts h.saved) h.late)
+    (keeps_now f.shows f.kept f.sound f.moment f.left_since met.only_now met.earlier
+    g.N.Beginning.first old.medium old.len old.closed events h c.if-self.false) goes_on)
+    c.in-Err-roll.ensures.files
+
 -- where nothing was done
+
+pub returns-then-self-clause-err : goal.returns-then-self-clause-err
+returns-then-self-clause-err g c events places parts at goes_on = at
+
+pub returns-in-Err-clause-err : goal.returns-in-Err-clause-err
+returns-in-Err-clause-err g c events places parts at goes_on = at
 
 pub returns-then-self-clause-held : goal.returns-then-self-clause-held
 returns-then-self-clause-held g c events parts m = m.holds
