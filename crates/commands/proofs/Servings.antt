@@ -27,15 +27,15 @@ pub room_counted : (passes seats p s : ℕ) → passes ≡ min p 184467440737095
     → seats ≡ min s 18446744073709551615 → IsRoom p s → IsRoom passes seats
 room_counted passes seats p s is_p is_s room = (
   omega (arith, is_p, is_s, room.0),
-  omega (arith, is_p, is_s, room.1.0),
-  omega (arith, is_p, is_s, room.1.1.0),
-  omega (arith, is_p, is_s, room.1.1.1),
+  omega (arith, is_p, is_s, room.1),
+  omega (arith, is_p, is_s, room.2),
+  omega (arith, is_p, is_s, room.3),
 )
 
 -- of seats for which there is room, none was left out when they were counted
 pub seats_counted : (passes seats opened s : ℕ) → seats ≡ min s 18446744073709551615
     → opened ≡ seats → IsRoom passes seats → opened ≡ s
-seats_counted passes seats opened s is same room = omega (arith, is, same, room.1.1.1)
+seats_counted passes seats opened s is same room = omega (arith, is, same, room.3)
 
 -- a store that is not opened
 pub not_opened : (serving : Serving) (e : OpenError)

@@ -373,13 +373,20 @@ fn check<'a>(alloc: Global) -> Result<Command<'a>, AllocError>
         .arg(blocks(alloc))
 }
 
-/// The options of `serve` with a number.
-fn counts<'a>(alloc: Global) -> Result<Command<'a>, AllocError>
-    ensures { IfOk result (λ command. app_of command ≡ counts_app) }
+/// `serve`, without its options.
+fn bare_serve<'a>(alloc: Global) -> Command<'a>
+    ensures { app_of result ≡ new_app (codes "serve") }
 {
     Command::new(alloc, "serve")
         .about("Serves a store over blocks to HTTP clients of this machine")
         .after_help(SERVES)
+}
+
+/// The options of `serve` with a number.
+fn counts<'a>(alloc: Global) -> Result<Command<'a>, AllocError>
+    ensures { IfOk result (λ command. app_of command ≡ counts_app) }
+{
+    bare_serve(alloc)
         .arg(port(alloc))?
         .arg(count(alloc, "workers", "W", (1, 64), WORKERS))?
         .arg(count(alloc, "requests", "N", (0, u64::MAX), REQUESTS))?

@@ -73,8 +73,8 @@ fn sync_folder(host: &HostRuntime, folder: &str) -> io::Result<()> {
 }
 
 /// Makes a folder if nothing stands there, and syncs the one that it stands in, whoever made it: a
-/// start that made it may have ended before that. If it was there, nothing fails by that sync, since
-/// whoever may pass the folder above may not always open it.
+/// start that made it may have ended before that. If it was there, nothing fails by that sync,
+/// since whoever may pass the folder above may not always open it.
 fn make_folder(host: &HostRuntime, folder: &str) -> io::Result<()> {
     let stood = match fs::create_dir(host, folder) {
         Ok(()) => false,

@@ -1,6 +1,7 @@
 //! The times of cuts.
 
-ghost use Rattle.std.specs.Prelude.{◌≡◌, ◌≤◌, ◌<◌, ℤ, pos, negsuc, ◌+ℤ◌, ◌≤ℤ◌, ◌<ℤ◌, IfSome, IfNone};
+ghost use Rattle.std.specs.Prelude.{◌≡◌, ◌≤◌, ◌<◌, ℤ, pos, negsuc, ◌+ℤ◌, ◌≤ℤ◌, ◌<ℤ◌};
+ghost use Rattle.std.specs.Prelude.{IfSome, IfNone};
 ghost use Rattle.due_cuts.specs.Due.{IsMultiple, IsDue, IsLastDue};
 
 /// The largest multiple up to a time; none if that has no room.
@@ -15,9 +16,9 @@ fn multiple_up_to(every: u64, time: i64) -> Option<i64>
     time.checked_sub(time.rem_euclid(step))
 }
 
-/// The time at which a store is to be cut, above whose floor cuts are: the largest multiple of so
-/// many milliseconds for which the newest sample is half of them later, or later still; none if
-/// none is.
+/// The time at which a store with this floor is to be cut: the last multiple of so many
+/// milliseconds above the floor of which the newest sample is half of them later, or later still.
+/// None if there is none.
 pub fn due(every: u64, floor: i64, newest: i64) -> Option<i64>
     requires { (0 < every) × (every ≤ 4611686018427387903) }
     ensures last { IfSome result (IsLastDue every newest floor) }
