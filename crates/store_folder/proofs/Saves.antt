@@ -5,12 +5,10 @@ use Rattle.std.proofs.lemmas.List.{take-append-drop}
 use Rattle.block_rewriter.proofs.Full.{same_points}
 use Rattle.data_folder.specs.declared.journal_file.JournalFile.{JournalFile}
 use Rattle.data_folder.specs.Folders.{Left, MayLeaveOf}
-use Rattle.data_folder.specs.States.{AreThere, IsApart, Named}
-use Rattle.data_folder.specs.Sweeping.{AreAmong, KeepsStore}
+use Rattle.data_folder.specs.Sweeping.{KeepsStore}
 use Rattle.head.specs.Heads.{BlockPart, SnapshotParts}
 use Rattle.head.specs.Worlds.{Event, World}
 use Rattle.head_record.specs.Saved.{Place, Saved, save}
-use Rattle.keeper.specs.Finding.{IsOfAll}
 use Rattle.labels.specs.Parts.{rows_in}
 use Rattle.labels.specs.Rows.{points_of}
 use Rattle.store_folder.specs.Holding.{AreAt, HoldsAt}

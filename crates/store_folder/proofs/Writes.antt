@@ -8,7 +8,7 @@ use Rattle.std.proofs.lemmas.List.{map-append}
 use Rattle.std.proofs.lemmas.List.Folds.{list_any-append}
 use Rattle.std.proofs.lemmas.Slice.Eq.{bytes_eq-Decides}
 use Rattle.data_folder.specs.Folders.{HasFile, Left, MayLeaveOf}
-use Rattle.data_folder.specs.States.{AreThere, Named}
+use Rattle.data_folder.specs.States.{Named}
 use Rattle.data_folder.specs.Sweeping.{AreAmong, KeepsStore, is_among}
 use Rattle.data_folder.proofs.Sweeps.{of_fewer, then_kept}
 use Rattle.head.specs.Heads.{BlockPart}

@@ -1,4 +1,4 @@
-use Rattle.std.proofs.Common.{◌<◌, ◌^◌, ◌++◌, arith, refl, rules, subst}
+use Rattle.std.proofs.Common.{◌<◌, ◌^◌, arith, rules, subst}
 use Rattle.std.specs.Prelude.{codes}
 use Rattle.data_folder.specs.Folders.{HasFile}
 use Rattle.data_folder.proofs.Sweeps.{then_kept}

@@ -1,4 +1,4 @@
-use Rattle.std.proofs.Common.{List, refl}
+use Rattle.std.proofs.Common.{refl}
 use Rattle.data_folder.specs.Sweeping.{names_in}
 use Rattle.data_folder.proofs.Moments.{on_ok}
 use Rattle.data_folder.proofs.Sweeps.{nothing_removed, then_kept}

@@ -1,9 +1,8 @@
-use Rattle.std.proofs.Common.{◌-◌, ◌++◌, ℕ, drop, inl, length, subst, sym, take, ◌∙◌, ◌≡◌, List}
-use Rattle.head.specs.Heads.{BlockPart}
+use Rattle.std.proofs.Common.{◌-◌, ◌++◌, inl, length, subst, sym, take, ◌∙◌, List}
 use Rattle.head_record.specs.Saved.{Place}
 use Rattle.store_folder.specs.Holding.{HoldsAt}
 use Rattle.store_folder.specs.Writing.{places_from}
-use Rattle.store_folder.proofs.Saves.{enough, is_sound, like_made, may_roll, still_held, writing_finds}
+use Rattle.store_folder.proofs.Saves.{enough, like_made, may_roll, still_held, writing_finds}
 use Rattle.store_folder.proofs.Rolls.{finds_on}
 use Rattle.store_folder.proofs.keeping.StoreKeeper.save.Goals as goal
 
