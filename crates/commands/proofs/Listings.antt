@@ -12,12 +12,17 @@ use Rattle.std.specs.List.{Contains, fold}
 use Rattle.std.specs.Prelude.{is_ok, if◌then◌else◌}
 use Rattle.labels.specs.Labels.{Labels}
 use Rattle.head.specs.Worlds.{Event}
-use Rattle.event_journal.specs.Starting.{DeniesRead}
-use Rattle.event_journal.specs.declared.error.StartError.{StartError}
-use Rattle.event_journal.specs.declared.error.StartError.TheVariants as start
-use Rattle.commands.specs.Faults.{start_fault}
+use Rattle.store_folder.specs.Codes.{read_cause}
+use Rattle.store_folder.specs.Journals.{DeniesJournal}
+use Rattle.store_folder.specs.Plain.{DeniesPlain}
+use Rattle.store_folder.specs.declared.error.ReadError.{ReadError as JournalFault}
+use Rattle.store_folder.specs.declared.error.StartCause.{StartCause}
+use Rattle.store_folder.specs.declared.error.StartCause.TheVariants as causes
+use Rattle.store_folder.specs.declared.error.StartError.TheVariants as start
+use Rattle.commands.specs.Faults.{read_fault, start_fault}
 use Rattle.commands.specs.Listing.{IsBatchLine, IsEventLine, AreLines, batch_line, IsFileAt}
-use Rattle.commands.specs.Listing.{IsListFault, IsUnreadJournal, batch_start, batch_end}
+use Rattle.commands.specs.Listing.{IsListFault, IsListingFault, IsUnreadJournal, batch_start}
+use Rattle.commands.specs.Listing.{batch_end}
 use Rattle.commands.specs.Listing.{empty_batch_line, times_in, IsSeriesCount, IsSpan}
 use Rattle.commands.specs.Reading.{Host}
 use Rattle.commands.specs.declared.fault.Fault.{Fault}
@@ -25,6 +30,9 @@ use Rattle.commands.specs.declared.fault.Fault.TheVariants.{Words, Refused, Cann
 use Rattle.commands.specs.declared.fault.Fault.TheVariants.{CannotWriteAt, Locked}
 use Rattle.commands.specs.declared.fault.Fault.TheVariants.{CannotListen, NoListener, NoThread}
 use Rattle.commands.specs.declared.fault.Fault.TheVariants.{Memory}
+use Rattle.commands.specs.declared.fault.Refusal.TheVariants.{Labels, Matcher, Selector, Query}
+use Rattle.commands.specs.declared.fault.Refusal.TheVariants.{Commit, Block, Open, Snapshot}
+use Rattle.commands.specs.declared.fault.Refusal.TheVariants.{Start}
 
 -- a line more
 pub lines_more : (n m : ℕ) (es : List Event) (e : Event) (lines line : List ℕ)
@@ -111,13 +119,40 @@ batch_added (Ok x) number xs old new some h = (
 )
 batch_added (Err e) number xs old new some h = tt
 
--- a journal that is refused
-pub list_refused : (reads : Host) (path file : List ℕ) (error : StartError)
-    → IsFileAt reads path file → DeniesRead file error → IsListFault reads path (start_fault error)
-list_refused reads path file start.Memory found h = tt
-list_refused reads path file (start.Journal error) found h = (file, found, h)
-list_refused reads path file (start.Event refused) found h = (file, found, h)
-list_refused reads path file (start.Step refused) found h = absurd h
+-- a file that is not listed
+pub list_refused : (reads : Host) (path file : List ℕ) (fault : Fault) → IsFileAt reads path file
+    → IsListingFault file fault → IsListFault reads path fault
+list_refused reads path file (Refused (Start error)) found h = (file, found, h)
+list_refused reads path file Memory found h = tt
+list_refused reads path file (Refused (Labels error)) found h = absurd h
+list_refused reads path file (Refused (Matcher error)) found h = absurd h
+list_refused reads path file (Refused (Selector error)) found h = absurd h
+list_refused reads path file (Refused (Query error)) found h = absurd h
+list_refused reads path file (Refused (Commit error)) found h = absurd h
+list_refused reads path file (Refused (Block error)) found h = absurd h
+list_refused reads path file (Refused (Open error)) found h = absurd h
+list_refused reads path file (Refused (Snapshot error)) found h = absurd h
+list_refused reads path file (CannotRead at) found h = absurd h
+list_refused reads path file CannotWrite found h = absurd h
+list_refused reads path file (CannotWriteAt at) found h = absurd h
+list_refused reads path file (Locked at holder) found h = absurd h
+list_refused reads path file (CannotListen port) found h = absurd h
+list_refused reads path file NoListener found h = absurd h
+list_refused reads path file NoThread found h = absurd h
+list_refused reads path file (Words error) found h = absurd h
+
+-- the fault of a journal that is refused, by what is wrong with its file
+fault_of : (cause : StartCause) (file : List ℕ) (error : JournalFault)
+    → DeniesJournal file error ⊎ DeniesPlain file error
+    → IsListingFault file (start_fault cause (start.Journal error))
+fault_of causes.Memory file error h = tt
+fault_of causes.Folder file error h = tt
+fault_of causes.Refused file error h = h
+
+pub not_listed : (file : List ℕ) (error : JournalFault) (fault : Fault) → fault ≡ read_fault error
+    → DeniesJournal file error ⊎ DeniesPlain file error → IsListingFault file fault
+not_listed file error fault is h =
+    subst (IsListingFault file) (sym is) (fault_of (read_cause error) file error h)
 
 -- a journal that is not read
 pub list_unread : (reads : Host) (path : List ℕ) (fault : Fault)

@@ -18,6 +18,7 @@
 
 mod adding;
 mod apart;
+mod changing;
 mod folder;
 mod host_folder;
 mod journal_file;
@@ -28,6 +29,7 @@ mod sweeping;
 
 pub use adding::{add, add_folder};
 pub use apart::{ApartError, write_apart};
+pub use changing::change_journal;
 pub use folder::Folder;
 pub use host_folder::HostFolder;
 pub use journal_file::{JOURNAL, JournalFile};

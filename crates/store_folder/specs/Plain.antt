@@ -11,6 +11,7 @@ use Rattle.head.specs.Replaying as replaying
 use Rattle.head.specs.Worlds.{Event}
 use Rattle.head_record.specs.Spelling.{head_texts}
 use Rattle.journal.specs.Records.{Recovers}
+use Rattle.journal.specs.declared.error.JournalError.TheVariants.{Memory as NoRecord}
 use Rattle.store_folder.specs.declared.error.ReadError.{ReadError}
 use Rattle.store_folder.specs.declared.error.ReadError.TheVariants as read
 use Rattle.store_folder.specs.declared.error.StartError.{StartError}
@@ -35,6 +36,25 @@ DeniesPlain file (read.Head refused) =
 DeniesPlain file (read.Event refused) =
     (contents : List (List ℕ)) × Recovers file contents
     × DeniesEvents contents (read.Event refused)
+
+-- a store that has nothing does not accept these events so, or memory ran out
+abbrev pub DeniesAdmitting : List Event → StartError → Type 0
+DeniesAdmitting events errors.Medium = ⊥
+DeniesAdmitting events (errors.Journal e) = e ≡ read.Journal NoRecord
+DeniesAdmitting events (errors.Block unread) = ⊥
+DeniesAdmitting events (errors.Head e) = ⊥
+DeniesAdmitting events (errors.Event refused) =
+    replaying.RefusesAt (world_of (opening_of [])) events refused.at refused.error
+
+-- there is no text of such a file with a head so
+abbrev pub DeniesText : List ℕ → StartError → Type 0
+DeniesText file errors.Medium = ⊥
+DeniesText file (errors.Journal e) = DeniesPlain file e
+DeniesText file (errors.Block unread) = ⊥
+DeniesText file (errors.Head e) = ⊥
+DeniesText file (errors.Event refused) =
+    (events : List Event) × Stands [] file events
+    × replaying.RefusesAt (world_of (opening_of [])) events refused.at refused.error
 
 -- such a file is not given a head so: it is refused, or one of its events is not accepted by a
 -- store that has nothing, or the folder failed

@@ -1,5 +1,5 @@
 use Rattle.commands.proofs.Servings.{all_counted}
-use Rattle.commands.proofs.keeping.serve_data.Goals as goal
+use Rattle.commands.proofs.keeping.serve_found.Goals as goal
 
 pub returns-clause-served : goal.returns-clause-served
 returns-clause-served g c =
