@@ -5,7 +5,6 @@ pub mod Fronts
 pub mod Kept
 pub mod Litter
 pub mod OpenedBlocks
-pub mod Places
 pub mod Refusals
 pub mod Rolls
 pub mod Saves
