@@ -3,11 +3,11 @@ pub mod Faults
 pub mod Files
 pub mod Fronts
 pub mod Kept
-pub mod Litter
 pub mod OpenedBlocks
 pub mod Refusals
 pub mod Rolls
 pub mod Saves
 pub mod Starts
+pub mod Swept
 pub mod Told
 pub mod Writes

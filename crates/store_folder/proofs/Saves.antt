@@ -18,7 +18,7 @@ use Rattle.store_folder.specs.Saving.{MaySave}
 use Rattle.store_folder.specs.Starting.{StartFinds}
 use Rattle.store_folder.specs.Sweeps.{names_at}
 use Rattle.store_folder.specs.Writing.{AreLike, AreRewritten, IsLike, IsRewritten}
-use Rattle.store_folder.proofs.Litter.{holds_swept, swept_finds}
+use Rattle.store_folder.proofs.Swept.{holds_swept, swept_finds}
 use Rattle.store_folder.proofs.Writes.{at_joined}
 
 -- blocks that are like others

@@ -1,6 +1,6 @@
 use Rattle.std.proofs.Common.{inl, ap, ◌∙◌}
 use Rattle.data_folder.specs.Sweeping.{names_in}
-use Rattle.store_folder.proofs.Litter.{holds_swept, swept_finds}
+use Rattle.store_folder.proofs.Swept.{holds_swept, swept_finds}
 use Rattle.store_folder.proofs.Rolls.{stays_so}
 use Rattle.store_folder.proofs.keeping.StoreKeeper.sweep.Goals as goal
 
