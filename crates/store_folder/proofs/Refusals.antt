@@ -1,6 +1,6 @@
 -- What is wrong with the folder of a store, whatever folder it is.
 use Rattle.std.proofs.Common.{◌≡◌, inl, inr, ⊎_elim, ◌⊎◌, ℕ, Bool, true, List, [], ◌∷◌, ◌++◌, Option, refl}
-use Rattle.std.proofs.Common.{subst, sym}
+use Rattle.std.proofs.Common.{arith, subst, suc, sym}
 use Rattle.std.specs.List.{Contains}
 use Rattle.block.specs.Outcome.{Fails}
 use Rattle.data_folder.specs.Folders.{HasFile}
