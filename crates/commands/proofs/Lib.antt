@@ -12,5 +12,3 @@ pub mod Servings
 pub mod TokenTexts
 pub mod Folders
 pub mod Listings
-pub mod Beginnings
-pub mod Stores

@@ -1,24 +1,38 @@
 -- The lines of a journal, put together.
 use Rattle.std.proofs.Common.{◌≡◌, ◌+◌, ℕ, List, [], ◌∷◌, ◌++◌, length, refl, sym, ap, ap₂, subst, ◌∙◌}
 use Rattle.std.proofs.Common.{append_assoc, append-nil, arith, ℤ, Result, Ok, Err, OnOk}
-use Rattle.std.proofs.Common.{◌<◌, take, get_or, subst₂}
+use Rattle.std.proofs.Common.{◌⊎◌, inl, inr, ◌<◌, take, get_or, subst₂}
 use Rattle.std.proofs.lemmas.Grind.{take_at_read}
-use Rattle.std.proofs.lemmas.List.{length-take-le}
-use Rattle.std.specs.Prelude.{zero, suc, is_ok, if◌then◌else◌}
+use Rattle.std.proofs.lemmas.Int.{fold-int_min_bounds, fold-int_min_reached}
+use Rattle.std.proofs.lemmas.Int.{fold-int_max_bounds, fold-int_max_reached}
+use Rattle.std.proofs.lemmas.List.{length-take-le, map-append}
+use Rattle.std.proofs.lemmas.List.Sums.{fold-append}
+use Rattle.std.specs.Int.{int_min, int_max}
+use Rattle.std.specs.List.{Contains, fold}
+use Rattle.std.specs.Prelude.{is_ok, if◌then◌else◌}
+use Rattle.labels.specs.Labels.{Labels}
 use Rattle.head.specs.Worlds.{Event}
-use Rattle.event_journal.specs.Starting.{DeniesRead}
-use Rattle.event_journal.specs.declared.error.StartError.{StartError}
-use Rattle.event_journal.specs.declared.error.StartError.TheVariants as start
-use Rattle.commands.specs.Faults.{start_fault}
+use Rattle.store_folder.specs.Codes.{read_cause}
+use Rattle.store_folder.specs.Journals.{DeniesJournal}
+use Rattle.store_folder.specs.Plain.{DeniesPlain}
+use Rattle.store_folder.specs.declared.error.ReadError.{ReadError as JournalFault}
+use Rattle.store_folder.specs.declared.error.StartCause.{StartCause}
+use Rattle.store_folder.specs.declared.error.StartCause.TheVariants as causes
+use Rattle.store_folder.specs.declared.error.StartError.TheVariants as start
+use Rattle.commands.specs.Faults.{read_fault, start_fault}
 use Rattle.commands.specs.Listing.{IsBatchLine, IsEventLine, AreLines, batch_line, IsFileAt}
-use Rattle.commands.specs.Listing.{IsListFault, IsUnreadJournal, batch_start, batch_end}
-use Rattle.commands.specs.Listing.{empty_batch_line}
+use Rattle.commands.specs.Listing.{IsListFault, IsListingFault, IsUnreadJournal, batch_start}
+use Rattle.commands.specs.Listing.{batch_end}
+use Rattle.commands.specs.Listing.{empty_batch_line, times_in, IsSeriesCount, IsSpan}
 use Rattle.commands.specs.Reading.{Host}
 use Rattle.commands.specs.declared.fault.Fault.{Fault}
 use Rattle.commands.specs.declared.fault.Fault.TheVariants.{Words, Refused, CannotRead, CannotWrite}
 use Rattle.commands.specs.declared.fault.Fault.TheVariants.{CannotWriteAt, Locked}
 use Rattle.commands.specs.declared.fault.Fault.TheVariants.{CannotListen, NoListener, NoThread}
 use Rattle.commands.specs.declared.fault.Fault.TheVariants.{Memory}
+use Rattle.commands.specs.declared.fault.Refusal.TheVariants.{Labels, Matcher, Selector, Query}
+use Rattle.commands.specs.declared.fault.Refusal.TheVariants.{Commit, Block, Open, Snapshot}
+use Rattle.commands.specs.declared.fault.Refusal.TheVariants.{Start}
 
 -- a line more
 pub lines_more : (n m : ℕ) (es : List Event) (e : Event) (lines line : List ℕ)
@@ -49,11 +63,39 @@ line_added (Ok x) P old new line bytes p is h =
     (line, p, h ∙ ap (λ (b : List ℕ). old ++ b) is)
 line_added (Err e) P old new line bytes p is h = tt
 
+abbrev Taken : Type 0
+Taken = Labels × (ℤ × ℤ)
+
+-- the least and the greatest time, with one sample more
+pub fold_next : (f : ℤ → ℤ → ℤ) (a : ℤ) (xs : List Taken) (i : ℕ) (x : Taken) → i < length xs
+    → x ≡ get_or xs i x
+    → fold f a (times_in (take (i + 1) xs)) ≡ f (fold f a (times_in (take i xs))) x.1.0
+fold_next f a xs i x within is =
+    ap (λ (ys : List Taken). fold f a (times_in ys))
+    ((take_at_read xs i x within).1 ∙ ap (λ (y : Taken). take i xs ++ y ∷ []) (sym is))
+    ∙ (ap (fold f a) (map-append (λ (y : Taken). y.1.0) (take i xs) (x ∷ []))
+    ∙ fold-append f a (times_in (take i xs)) (x.1.0 ∷ []))
+
+reached : (xs : List ℤ) (a r : ℤ) → Contains xs a → (r ≡ a) ⊎ Contains xs r → Contains xs r
+reached xs a r has (inl e) = subst (Contains xs) (sym e) has
+reached xs a r has (inr there) = there
+
+pub span_of : (xs : List Taken) (a from to : ℤ) → Contains (times_in xs) a
+    → from ≡ fold int_min a (times_in xs) → to ≡ fold int_max a (times_in xs) → IsSpan xs from to
+span_of xs a from to has least greatest = record {
+  least = (fold-int_min_bounds a (times_in xs) from least).1;
+  greatest = (fold-int_max_bounds a (times_in xs) to greatest).1;
+  first = reached (times_in xs) a from has (fold-int_min_reached a (times_in xs) from least);
+  last = reached (times_in xs) a to has (fold-int_max_reached a (times_in xs) to greatest);
+}
+
 -- the line of a batch that has samples
-pub some_batch : (number count series : ℕ) (from to : ℤ) (line : List ℕ) → (count ≡ 0 → ⊥)
-    → line ≡ batch_line number count series from to → IsBatchLine number count line
-some_batch number zero series from to line some is = absurd (some refl)
-some_batch number (suc n) series from to line some is = (series, from, to, is)
+some_batch : (number series : ℕ) (xs : List Taken) (from to : ℤ) (line : List ℕ)
+    → (length xs ≡ 0 → ⊥) → IsSeriesCount xs series → IsSpan xs from to
+    → line ≡ batch_line number (length xs) series from to → IsBatchLine number xs line
+some_batch number series [] from to line some count span is = absurd (some refl)
+some_batch number series (x ∷ xs) from to line some count span is =
+    (series, from, to, count, span, is)
 
 -- the line of an event that is known otherwise
 pub line_of_event : {T E : Type 0} (r : Result T E) (number : ℕ) (seen event : Event)
@@ -65,25 +107,52 @@ line_of_event (Ok x) number seen event old new is h =
 line_of_event (Err e) number seen event old new is h = tt
 
 -- the line of a batch that has samples, where it is appended
-pub batch_added : {T E : Type 0} (r : Result T E) (number count : ℕ) (old new : List ℕ)
-    → (count ≡ 0 → ⊥)
-    → OnOk r ((series : ℕ) × (from : ℤ) × (to : ℤ)
-    × (new ≡ old ++ batch_line number count series from to))
-    → OnOk r ((l : List ℕ) × IsBatchLine number count l × (new ≡ old ++ l))
-batch_added (Ok x) number count old new some h = (
-  batch_line number count h.0 h.1 h.2,
-  some_batch number count h.0 h.1 h.2 (batch_line number count h.0 h.1 h.2) some refl,
-  h.3,
+pub batch_added : {T E : Type 0} (r : Result T E) (number : ℕ) (xs : List Taken)
+    (old new : List ℕ) → (length xs ≡ 0 → ⊥)
+    → OnOk r ((series : ℕ) × (from : ℤ) × (to : ℤ) × IsSeriesCount xs series × IsSpan xs from to
+    × (new ≡ old ++ batch_line number (length xs) series from to))
+    → OnOk r ((l : List ℕ) × IsBatchLine number xs l × (new ≡ old ++ l))
+batch_added (Ok x) number xs old new some h = (
+  batch_line number (length xs) h.0 h.1 h.2,
+  some_batch number h.0 xs h.1 h.2 (batch_line number (length xs) h.0 h.1 h.2) some h.3 h.4 refl,
+  h.5,
 )
-batch_added (Err e) number count old new some h = tt
+batch_added (Err e) number xs old new some h = tt
 
--- a journal that is refused
-pub list_refused : (reads : Host) (path file : List ℕ) (error : StartError)
-    → IsFileAt reads path file → DeniesRead file error → IsListFault reads path (start_fault error)
-list_refused reads path file start.Memory found h = tt
-list_refused reads path file (start.Journal error) found h = (file, found, h)
-list_refused reads path file (start.Event refused) found h = (file, found, h)
-list_refused reads path file (start.Step refused) found h = absurd h
+-- a file that is not listed
+pub list_refused : (reads : Host) (path file : List ℕ) (fault : Fault) → IsFileAt reads path file
+    → IsListingFault file fault → IsListFault reads path fault
+list_refused reads path file (Refused (Start error)) found h = (file, found, h)
+list_refused reads path file Memory found h = tt
+list_refused reads path file (Refused (Labels error)) found h = absurd h
+list_refused reads path file (Refused (Matcher error)) found h = absurd h
+list_refused reads path file (Refused (Selector error)) found h = absurd h
+list_refused reads path file (Refused (Query error)) found h = absurd h
+list_refused reads path file (Refused (Commit error)) found h = absurd h
+list_refused reads path file (Refused (Block error)) found h = absurd h
+list_refused reads path file (Refused (Open error)) found h = absurd h
+list_refused reads path file (Refused (Snapshot error)) found h = absurd h
+list_refused reads path file (CannotRead at) found h = absurd h
+list_refused reads path file CannotWrite found h = absurd h
+list_refused reads path file (CannotWriteAt at) found h = absurd h
+list_refused reads path file (Locked at holder) found h = absurd h
+list_refused reads path file (CannotListen port) found h = absurd h
+list_refused reads path file NoListener found h = absurd h
+list_refused reads path file NoThread found h = absurd h
+list_refused reads path file (Words error) found h = absurd h
+
+-- the fault of a journal that is refused, by what is wrong with its file
+fault_of : (cause : StartCause) (file : List ℕ) (error : JournalFault)
+    → DeniesJournal file error ⊎ DeniesPlain file error
+    → IsListingFault file (start_fault cause (start.Journal error))
+fault_of causes.Memory file error h = tt
+fault_of causes.Folder file error h = tt
+fault_of causes.Refused file error h = h
+
+pub not_listed : (file : List ℕ) (error : JournalFault) (fault : Fault) → fault ≡ read_fault error
+    → DeniesJournal file error ⊎ DeniesPlain file error → IsListingFault file fault
+not_listed file error fault is h =
+    subst (IsListingFault file) (sym is) (fault_of (read_cause error) file error h)
 
 -- a journal that is not read
 pub list_unread : (reads : Host) (path : List ℕ) (fault : Fault)
@@ -100,26 +169,28 @@ list_unread reads path NoListener h = absurd h
 list_unread reads path NoThread h = absurd h
 
 -- the line of a batch, of its two parts
-pub parts_added : {T E : Type 0} (r : Result T E) (number count series : ℕ) (from to : ℤ)
-    (old mid new start end : List ℕ) → mid ≡ old ++ start
-    → start ≡ batch_start number count series → end ≡ batch_end from to
+pub parts_added : {T E : Type 0} (r : Result T E) (number series : ℕ) (xs : List Taken)
+    (from to : ℤ) (old mid new start end : List ℕ) → IsSeriesCount xs series → IsSpan xs from to
+    → mid ≡ old ++ start → start ≡ batch_start number (length xs) series → end ≡ batch_end from to
     → new ≡ (if is_ok r then mid ++ end else mid)
-    → OnOk r ((series : ℕ) × (from : ℤ) × (to : ℤ)
-    × (new ≡ old ++ batch_line number count series from to))
-parts_added (Ok x) number count series from to old mid new start end is_mid is_start is_end h = (
+    → OnOk r ((series : ℕ) × (from : ℤ) × (to : ℤ) × IsSeriesCount xs series × IsSpan xs from to
+    × (new ≡ old ++ batch_line number (length xs) series from to))
+parts_added (Ok x) number series xs from to old mid new start end count span is_mid is_start is_end h = (
   series,
   from,
   to,
+  count,
+  span,
   h ∙ (ap (λ (m : List ℕ). m ++ end) is_mid ∙ (append_assoc old start end
       ∙ ap₂ (λ (s e : List ℕ). old ++ (s ++ e)) is_start is_end)),
 )
-parts_added (Err e) number count series from to old mid new start end is_mid is_start is_end h = tt
+parts_added (Err e) number series xs from to old mid new start end count span is_mid is_start is_end h = tt
 
 -- the line of a batch without a sample
-pub none_batch : (number count : ℕ) → count ≡ 0
-    → IsBatchLine number count (empty_batch_line number)
-none_batch number zero none = refl
-none_batch number (suc n) none = absurd (omega (arith, none))
+pub none_batch : (number : ℕ) (xs : List Taken) → length xs ≡ 0
+    → IsBatchLine number xs (empty_batch_line number)
+none_batch number [] none = refl
+none_batch number (x ∷ xs) none = absurd (omega (arith, none))
 
 -- the line of the next event
 pub lines_next : (es : List Event) (i number : ℕ) (e : Event) (lines new line : List ℕ)

@@ -14,9 +14,12 @@ use Rattle.head.specs.Codes.{commit_code}
 use Rattle.head.specs.declared.error.CommitError.{CommitError}
 use Rattle.head.specs.declared.error.CommitError.TheVariants as commit
 use Rattle.block.specs.Codes as blocks
-use Rattle.event_journal.specs.Codes.{start_code, start_place}
-use Rattle.event_journal.specs.declared.error.StartError.{StartError}
-use Rattle.event_journal.specs.declared.error.StartError.TheVariants as start
+use Rattle.store_folder.specs.Codes.{read_cause, start_code, start_place}
+use Rattle.store_folder.specs.declared.error.ReadError.{ReadError as JournalFault}
+use Rattle.store_folder.specs.declared.error.StartCause.{StartCause}
+use Rattle.store_folder.specs.declared.error.StartCause.TheVariants as causes
+use Rattle.store_folder.specs.declared.error.StartError.{StartError}
+use Rattle.store_folder.specs.declared.error.StartError.TheVariants as start
 use Rattle.block.specs.declared.error.BlockError.{BlockError}
 use Rattle.block.specs.declared.error.BlockError.TheVariants as block
 use Rattle.snapshots.specs.Refusals.{open_code, snapshot_code}
@@ -31,6 +34,8 @@ use Rattle.commands.specs.declared.fault.Fault.TheVariants.{Words, Refused, Cann
 use Rattle.commands.specs.declared.fault.Fault.TheVariants.{CannotWriteAt, Locked}
 use Rattle.commands.specs.declared.fault.Fault.TheVariants.{CannotListen, Memory}
 use Rattle.commands.specs.declared.fault.Fault.TheVariants.{NoListener, NoThread}
+use Rattle.commands.specs.declared.fault.Holder.{Holder}
+use Rattle.commands.specs.declared.fault.Holder.TheVariants.{Process, Another}
 use Rattle.commands.specs.declared.fault.Refusal.{Refusal}
 use Rattle.commands.specs.declared.fault.Refusal.TheVariants.{Labels, Matcher, Selector, Query}
 use Rattle.commands.specs.declared.fault.Refusal.TheVariants.{Commit, Block, Open, Snapshot}
@@ -105,6 +110,11 @@ status_of NoListener = 3
 status_of NoThread = 3
 status_of Memory = 4
 
+-- who has locked a folder, for people
+abbrev pub holder_text : Holder → List ℕ
+holder_text (Process number) = codes "process " ++ decimal number ++ codes " has it"
+holder_text Another = codes "another process has it (see the file lock there)"
+
 -- what is told of the fault, for people; the text of the words is `clap`'s own
 abbrev pub fault_text : Fault → Option (List ℕ)
 fault_text (Words error) = None
@@ -113,8 +123,7 @@ fault_text (CannotRead path) = Some (codes "cannot read " ++ string_bytes path)
 fault_text CannotWrite = Some (codes "cannot write")
 fault_text (CannotWriteAt path) = Some (codes "cannot write " ++ string_bytes path)
 fault_text (Locked folder holder) =
-    Some (codes "cannot lock " ++ string_bytes folder
-    ++ codes ": another process has it (see the file lock there)")
+    Some (codes "cannot lock " ++ string_bytes folder ++ codes ": " ++ holder_text holder)
 fault_text (CannotListen port) = Some (codes "cannot listen on 127.0.0.1:" ++ decimal port)
 fault_text NoListener = Some (codes "there is no listener any more")
 fault_text NoThread = Some (codes "cannot make a thread")
@@ -192,9 +201,12 @@ serve_fault serve.NoListener = NoListener
 serve_fault serve.NoThread = NoThread
 serve_fault serve.Memory = Memory
 
--- the fault that a refused journal makes
-abbrev pub start_fault : StartError → Fault
-start_fault start.Memory = Memory
-start_fault (start.Journal error) = Refused (Start (start.Journal error))
-start_fault (start.Event refused) = Refused (Start (start.Event refused))
-start_fault (start.Step refused) = Refused (Start (start.Step refused))
+-- the fault that a start's error makes, if neither memory nor the folder failed
+abbrev pub start_fault : StartCause → StartError → Fault
+start_fault causes.Memory error = Memory
+start_fault causes.Folder error = Memory
+start_fault causes.Refused error = Refused (Start error)
+
+-- the fault that a journal makes which is not read
+abbrev pub read_fault : JournalFault → Fault
+read_fault error = start_fault (read_cause error) (start.Journal error)

@@ -1,16 +1,23 @@
 -- What `journal` lists of a journal.
-use Rattle.std.specs.Prelude.{◌≡◌, ◌⊎◌, ℕ, zero, suc, ◌+◌, ◌-◌, ℤ, List, [], ◌∷◌, ◌++◌, Option, None}
-use Rattle.std.specs.Prelude.{length}
-use Rattle.std.specs.Prelude.{codes, decimal, string_bytes}
+use Rattle.std.specs.Prelude.{◌≡◌, ◌⊎◌, ℕ, ◌+◌, ◌-◌, ℤ, List, [], ◌∷◌, ◌++◌, Option, None, length}
+use Rattle.std.specs.Prelude.{codes, decimal, map, min, string_bytes, sum, ◌^◌}
 use Rattle.std.specs.Fmt.{signed_decimal}
+use Rattle.std.specs.Int.Signed.{◌≤ℤ◌}
 use Rattle.std.specs.Io.KnownBytes.{Appends}
+use Rattle.std.specs.List.{All, Contains}
+use Rattle.block_writer.specs.InUse.{HoldsEachOnce}
+use Rattle.labels.specs.Labels.{Labels, labels_cmp}
 use Rattle.matchers.specs.Grammar.{op_text, written}
 use Rattle.matchers.specs.Views.{MatcherView}
 use Rattle.head.specs.Worlds.{Event, batch, deletion, cut}
+use Rattle.head.specs.Heads.{HeadSeries}
+use Rattle.head_record.specs.Saved.{Saved}
+use Rattle.head_record.specs.Spelling.{head_texts}
 use Rattle.journal.specs.Records.{file_of}
-use Rattle.keeper.specs.Together.{texts_of}
-use Rattle.event_journal.specs.Holding.{Stands}
-use Rattle.event_journal.specs.Starting.{DeniesRead}
+use Rattle.event_journal.specs.Holding.{Stands, contents_with}
+use Rattle.store_folder.specs.Journals.{DeniesJournal, IsJournalOf}
+use Rattle.store_folder.specs.Plain.{DeniesPlain}
+use Rattle.store_folder.specs.declared.error.StartError.TheVariants as start
 use Rattle.commands.specs.Keeping.{path_in}
 use Rattle.commands.specs.Reading.{Host, AreFirstBytes}
 use Rattle.commands.specs.declared.fault.Fault.{Fault}
@@ -52,11 +59,28 @@ batch_line number count series from to = batch_start number count series ++ batc
 abbrev pub empty_batch_line : ℕ → List ℕ
 empty_batch_line number = decimal number ++ codes " batch 0 samples\n"
 
--- the line of a batch of so many samples
-abbrev pub IsBatchLine : ℕ → ℕ → List ℕ → Type 0
-IsBatchLine number zero line = line ≡ empty_batch_line number
-IsBatchLine number (suc n) line =
-    (series : ℕ) × (from : ℤ) × (to : ℤ) × (line ≡ batch_line number (suc n) series from to)
+-- how many label sets the samples have, each counted once
+abbrev pub IsSeriesCount : List (Labels × (ℤ × ℤ)) → ℕ → Type 0
+IsSeriesCount xs n =
+    (sets : List Labels) × HoldsEachOnce labels_cmp (map (λ (x : Labels × (ℤ × ℤ)). x.0) xs) sets
+    × (n ≡ length sets)
+
+abbrev pub times_in : List (Labels × (ℤ × ℤ)) → List ℤ
+times_in xs = map (λ (x : Labels × (ℤ × ℤ)). x.1.0) xs
+
+-- the least and the greatest time of the samples
+pub record IsSpan (xs : List (Labels × (ℤ × ℤ))) (from to : ℤ) : Type 0 where
+  pub least : All (λ t. from ≤ℤ t) (times_in xs)
+  pub greatest : All (λ t. t ≤ℤ to) (times_in xs)
+  pub first : Contains (times_in xs) from
+  pub last : Contains (times_in xs) to
+
+-- the line of a batch of these samples
+abbrev pub IsBatchLine : ℕ → List (Labels × (ℤ × ℤ)) → List ℕ → Type 0
+IsBatchLine number [] line = line ≡ empty_batch_line number
+IsBatchLine number (x ∷ xs) line =
+    (series : ℕ) × (from : ℤ) × (to : ℤ) × IsSeriesCount (x ∷ xs) series
+    × IsSpan (x ∷ xs) from to × (line ≡ batch_line number (length (x ∷ xs)) series from to)
 
 -- the line of a deletion: its matchers, from a time to a time
 abbrev pub deletion_start : ℕ → List ℕ
@@ -77,7 +101,7 @@ cut_line number at =
 
 -- the line of an event with its number
 abbrev pub IsEventLine : ℕ → Event → List ℕ → Type 0
-IsEventLine number (batch xs) line = IsBatchLine number (length xs) line
+IsEventLine number (batch xs) line = IsBatchLine number xs line
 IsEventLine number (deletion ms from to) line = line ≡ deletion_line number ms from to
 IsEventLine number (cut t) line = line ≡ cut_line number t
 
@@ -113,23 +137,56 @@ IsUnreadJournal reads path (CannotRead file) =
 IsUnreadJournal reads path Memory = Unit {0}
 IsUnreadJournal reads path other = ⊥
 
--- the lines of the events for which a journal stands were written, and the line that sums it up
+-- how many samples the series of a head have; a sum above 2^64 - 1 is that number
+abbrev pub saved_samples : List HeadSeries → ℕ
+saved_samples series = min (sum (map (λ (h : HeadSeries). length h.samples) series)) (2 ^ 64 - 1)
+
+-- the line of a head
+abbrev pub head_line : Saved → List ℕ
+head_line saved =
+    codes "head: floor " ++ (signed_decimal saved.floor ++ (codes ", "
+    ++ (decimal (length saved.places) ++ (codes " blocks, "
+    ++ (decimal (length saved.head) ++ (codes " series, "
+    ++ (decimal (saved_samples saved.head) ++ codes " samples\n")))))))
+
+-- the lines of these events behind these contents, and the line that sums the file up
+pub record AreEventLines (front : List (List ℕ)) (file text : List ℕ) (events : List Event)
+    : Type 0 where
+  pub lines : List ℕ
+  pub each : AreLines 0 events lines
+  pub is : text
+      ≡ lines ++ summary_line (length events) (length (file_of (contents_with front events)))
+      (length file)
+
+-- the text lists what a file stands for: a head and the events after it, or events alone
+abbrev pub IsListing : List ℕ → List ℕ → Type 0
+IsListing file text =
+    ((saved : Saved) × (events : List Event) × IsJournalOf file saved events
+    × ((rest : List ℕ) × AreEventLines (head_texts saved) file rest events
+    × (text ≡ head_line saved ++ rest)))
+    ⊎ ((events : List Event) × Stands [] file events × AreEventLines [] file text events)
+
+-- what a file stands for was listed
 pub record IsListed (reads : Host) (path : List ℕ) (old new : Option (List ℕ)) : Type 0 where
   pub file : List ℕ
   pub found : IsFileAt reads path file
-  pub events : List Event
-  pub stands : Stands [] file events
-  pub lines : List ℕ
-  pub each : AreLines 0 events lines
-  pub written : Appends old new
-      (lines ++ summary_line (length events) (length (file_of (texts_of events))) (length file))
+  pub text : List ℕ
+  pub listing : IsListing file text
+  pub written : Appends old new text
+
+-- a file is not listed: it is refused by the first check that fails, or memory failed
+abbrev pub IsListingFault : List ℕ → Fault → Type 0
+IsListingFault file (Refused (Start (start.Journal error))) =
+    DeniesJournal file error ⊎ DeniesPlain file error
+IsListingFault file Memory = Unit {0}
+IsListingFault file other = ⊥
 
 -- why a journal is not listed: it can't be read, it is refused by the first check that fails, or
 -- memory or the writer failed
 abbrev pub IsListFault : Host → List ℕ → Fault → Type 0
 IsListFault reads path (CannotRead file) = IsUnreadJournal reads path (CannotRead file)
 IsListFault reads path (Refused (Start error)) =
-    (file : List ℕ) × IsFileAt reads path file × DeniesRead file error
+    (file : List ℕ) × IsFileAt reads path file × IsListingFault file (Refused (Start error))
 IsListFault reads path CannotWrite = Unit {0}
 IsListFault reads path Memory = Unit {0}
 IsListFault reads path other = ⊥

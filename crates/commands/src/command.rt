@@ -47,12 +47,16 @@ pub struct Serving<'a> {
     pub idle_seconds: u64,
     /// The port of 127.0.0.1 for those that ask how the server stands; 0 for none.
     pub status_port: u64,
+    /// At multiples of how many milliseconds the server cuts by itself; 0 for never.
+    pub cut_every: u64,
     /// Whether there is no `POST`.
     pub read_only: bool,
     /// The file with the token of each `POST`, if requests are guarded.
     pub guard: Option<&'a str>,
     /// The folder in which the store is kept, if it is; then there are no directories.
     pub folder: Option<&'a str>,
+    /// With how many MB of changes its journal is begun anew by a start.
+    pub journal_mb: u64,
 }
 
 /// What is read, as it was written.
@@ -158,11 +162,17 @@ const IDLE: &str = "For how many seconds a client may be silent; 0 for ever [def
 const STATUS_PORT: &str =
     "A port of 127.0.0.1 with GET /metrics, /healthy and /ready, 1 to 65535 [default: none]";
 
+const CUT_EVERY: &str =
+    "Cuts by itself at multiples of so many milliseconds, 1 to 2^62 - 1 [default: never]";
+
 const READ_ONLY: &str = "Has no POST: what is served does not change";
 
 const GUARD: &str = "The file with a token that each POST has to bear, readable by its owner alone";
 
 const DATA: &str = "A folder that keeps each change; it is made if there is none [default: none]";
+
+const JOURNAL_MB: &str =
+    "Above how many MB a start begins the journal of --data anew, 1 to 1048576 [default: 64]";
 
 const PATH: &str = "A journal, or the folder of --data that it stands in";
 
@@ -170,7 +180,10 @@ const JOURNALS: &str =
     r#"A journal is what `querier serve --data DIR` keeps in DIR/journal: one record for each change
 that was accepted. Nothing is changed, and a server may have the folder locked meanwhile.
 
-For each change, in their order, one line is printed, with its number from 1:
+A journal begins with a head, what the store had when the journal was begun; for it a line stands
+first, with the floor in milliseconds (one of before has none):
+  head: floor 20, 1 blocks, 2 series, 40 samples
+For each change since, in their order, one line is printed, with its number from 1:
   1 batch 120 samples of 3 series, 10 to 20
   2 deletion {job="a"} 0 to 10
   3 cut at 20
@@ -181,7 +194,7 @@ record stand behind them, which the next start cuts off:
 Refusals, the first that holds, with its place; nothing is printed then:
   J1 at 0, J2 at 4   no journal, or of another version
   J3, J4 at BYTE     damage before the last record: a checksum or a length that is wrong
-  J8 to J14 at N     the content behind N others is no change
+  J8 to J14 at N     the content behind N others is none of a head, or behind N changes no change
 
 docs/FORMATS.md of the project explains each code.
 
@@ -196,13 +209,16 @@ head, in memory alone: what is written to it ends with the program. Then `listen
 being the real port.
 
 With --data, the store begins empty, and each write, deletion and cut is in DIR/journal, synced,
-before its reply goes out. A start replays them: standard error tells `recovered N events`, and how
-many bytes of a torn record it cut off; or `began DIR/journal`. Directories beside --data are a
-fault of the words. If the server cannot make sure that a change is kept, it is refused with H11
-(503): no reader of this run sees it, but if the journal closed, the next start may find it. A
-journal that is damaged before its end is refused with J1 to J4, J8 to J14 or J18 and the place, and
-left as it is (`querier journal --help` tells the codes; J18 is a change that those before it do not
-admit). DIR/lock is locked as long as the server runs.
+before its reply goes out. A start replays them over the blocks in DIR/blocks: standard error tells
+`recovered N blocks, N events`, and how many bytes of a torn record it cut off; or `began
+DIR/journal`. If one of these is a cut, or the journal is longer than --journal-mb, the start then
+writes the blocks to DIR/blocks and begins the journal anew, and tells `rolled DIR/journal`.
+Directories beside --data are a fault of the words. If the server cannot make sure that a change is
+kept, it is refused with H11 (503): no reader of this run sees it, but if the journal closed, the
+next start may find it. What is damaged is refused and left as it is: with J1 to J4 or J8 to J14
+(`querier journal --help` tells these), J15 at N if a file of DIR/blocks/N is missing, J16 at N if
+they are no block, J17 if no store has what the journal begins with, or J18 at N if the change
+behind N others is one that those do not admit. DIR/lock is locked as long as the server runs.
 
   GET /select?selector=up%7Bjob%3D%22a%22%7D&from=0&to=100
                  the audited answer, as `querier select` prints it
@@ -220,7 +236,13 @@ the file, save an end of a line; and each request that has an `Origin`, or whose
 127.0.0.1, localhost or [::1], is refused with H12. With --read-only, a POST is of no path (H3).
 
 With --status-port, a second listener answers GET /metrics in the text format of Prometheus, GET
-/healthy, and GET /ready, which is 503 until the blocks are open. Then 64 workers are refused (O2).
+/healthy, and GET /ready, which is 503 until the blocks are open.
+
+With --cut-every MS, the server cuts by itself, as by POST /cut, at multiples of MS milliseconds: as
+soon as a sample half of MS later, or later still, is committed, at the last multiple of which that
+is so. If a cut is refused, standard error says `cannot cut at T: CODE`, and a later one is tried.
+
+A status port, and cuts, each take the room of one worker of 64: more are refused (O2).
 
 Exit status: 0 each worker has ended; 1 the directories are refused, as by `select`, or the journal
 is; 2 a fault of the words; 3 a file cannot be read or written, another process has the folder
@@ -228,6 +250,9 @@ locked, a port cannot be listened on, the line cannot be written, a thread canno
 listener is gone; 4 no memory
 
 Example: querier serve --port 8080 data/0001 data/0002"#;
+
+/// The most milliseconds between cuts: the greatest time.
+const LONGEST: u64 = 4_611_686_018_427_387_903;
 
 /// An option `--NAME VALUE` with a text.
 fn text<'a>(alloc: Global, name: &'a str, value: &'a str, help: &'a str) -> Arg<'a>
@@ -348,18 +373,27 @@ fn check<'a>(alloc: Global) -> Result<Command<'a>, AllocError>
         .arg(blocks(alloc))
 }
 
-/// The options of `serve` with a number.
-fn counts<'a>(alloc: Global) -> Result<Command<'a>, AllocError>
-    ensures { IfOk result (λ command. app_of command ≡ counts_app) }
+/// `serve`, without its options.
+fn bare_serve<'a>(alloc: Global) -> Command<'a>
+    ensures { app_of result ≡ new_app (codes "serve") }
 {
     Command::new(alloc, "serve")
         .about("Serves a store over blocks to HTTP clients of this machine")
         .after_help(SERVES)
+}
+
+/// The options of `serve` with a number.
+fn counts<'a>(alloc: Global) -> Result<Command<'a>, AllocError>
+    ensures { IfOk result (λ command. app_of command ≡ counts_app) }
+{
+    bare_serve(alloc)
         .arg(port(alloc))?
         .arg(count(alloc, "workers", "W", (1, 64), WORKERS))?
         .arg(count(alloc, "requests", "N", (0, u64::MAX), REQUESTS))?
         .arg(count(alloc, "idle-seconds", "S", (0, u32::MAX as u64), IDLE))?
-        .arg(count(alloc, "status-port", "P", (1, 65535), STATUS_PORT))
+        .arg(count(alloc, "status-port", "P", (1, 65535), STATUS_PORT))?
+        .arg(count(alloc, "cut-every", "MS", (1, LONGEST), CUT_EVERY))?
+        .arg(count(alloc, "journal-mb", "MB", (1, 1048576), JOURNAL_MB))
 }
 
 fn serve<'a>(alloc: Global) -> Result<Command<'a>, AllocError>
@@ -492,15 +526,19 @@ fn serving_in<'a>(found: &ArgMatches<'a>) -> Serving<'a>
     let requests = count_in(found, "requests", u64::MAX);
     let idle_seconds = count_in(found, "idle-seconds", 30);
     let status_port = count_in(found, "status-port", 0);
+    let cut_every = count_in(found, "cut-every", 0);
+    let journal_mb = count_in(found, "journal-mb", 64);
     Serving {
         port,
         workers,
         requests,
         idle_seconds,
         status_port,
+        cut_every,
         read_only: flag_in(found, "read-only"),
         guard: given_in(found, "guard"),
         folder: given_in(found, "data"),
+        journal_mb,
     }
 }
 

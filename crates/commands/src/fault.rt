@@ -6,12 +6,12 @@ ghost use Rattle.commands.specs.Faults.{refusal_code, refusal_place, status_of, 
 
 use answers::AskError;
 use block::BlockError;
-use event_journal::StartError;
 use head::CommitError;
 use labels::LabelError;
 use matchers::{MatcherError, QueryError, SelectorError};
 use server::ServeError;
 use snapshots::{OpenError, SnapshotError};
+use store_folder::StartError;
 use std::alloc::{AllocError, AllocFailed};
 use std::error::Error;
 use std::fmt;
@@ -36,7 +36,7 @@ pub enum Refusal {
     Open(OpenError),
     /// A snapshot of a store: `S1`.
     Snapshot(SnapshotError),
-    /// The journal of a store that is kept: `J1` to `J4`, `J8` to `J14`, `J18`.
+    /// The folder of a store that is kept: `J1` to `J4`, `J8` to `J18`.
     Start(StartError),
 }
 
@@ -59,7 +59,8 @@ impl Refusal {
     }
 
     /// The place of the fault, from 0: in a selector in bytes, in a batch the number of the sample,
-    /// in a journal the byte (`J1` to `J4`) or the number of the event.
+    /// in a journal the byte (`J1` to `J4`) or how many contents of its head or events are before
+    /// it, of a block the number of its folder (`J15`, `J16`).
     pub fn place(&self) -> Option<usize>
         ensures { result ≡ refusal_place self.now }
     {
@@ -91,6 +92,29 @@ impl fmt::Display for Refusal {
 
 impl Error for Refusal {}
 
+/// Who has locked a folder.
+#[derive(Clone, Copy, Debug, PartialEq, Eq, Drop)]
+pub enum Holder {
+    /// The process with this number.
+    Process(u64),
+    /// A process whose number is not known.
+    Another,
+}
+
+impl fmt::Display for Holder {
+    ghost use Rattle.std.specs.Prelude.{Some};
+    ghost use Rattle.commands.specs.Faults.{holder_text};
+
+    ghost output = { λ holder. Some (holder_text holder) };
+
+    fn fmt<W: fmt::Write>(&self, f: &mut fmt::Formatter<W>) -> fmt::Result {
+        match self {
+            Holder::Process(number) => write!(f, "process {number} has it"),
+            Holder::Another => write!(f, "another process has it (see the file lock there)"),
+        }
+    }
+}
+
 /// Why the program ends before it is done.
 #[derive(Debug, Drop)]
 pub enum Fault {
@@ -104,8 +128,8 @@ pub enum Fault {
     CannotWrite,
     /// What stands at this path cannot be written.
     CannotWriteAt(String),
-    /// Another process has locked this folder: the one with this number, if it is known.
-    Locked(String, Option<u64>),
+    /// Another process has locked this folder.
+    Locked(String, Holder),
     /// This port of 127.0.0.1 cannot be listened on.
     CannotListen(u64),
     /// The listener of a server is gone.
@@ -158,12 +182,7 @@ impl fmt::Display for Fault {
             Fault::CannotRead(path) => write!(f, "cannot read {path}"),
             Fault::CannotWrite => write!(f, "cannot write"),
             Fault::CannotWriteAt(path) => write!(f, "cannot write {path}"),
-            Fault::Locked(folder, _) => {
-                write!(
-                    f,
-                    "cannot lock {folder}: another process has it (see the file lock there)"
-                )
-            }
+            Fault::Locked(folder, holder) => write!(f, "cannot lock {folder}: {holder}"),
             Fault::CannotListen(port) => write!(f, "cannot listen on 127.0.0.1:{port}"),
             Fault::NoListener => write!(f, "there is no listener any more"),
             Fault::NoThread => write!(f, "cannot make a thread"),
@@ -328,20 +347,6 @@ impl From<ServeError> for Fault {
             ServeError::NoListener => Fault::NoListener,
             ServeError::NoThread => Fault::NoThread,
             ServeError::Memory => Fault::Memory,
-        }
-    }
-}
-
-impl From<StartError> for Fault {
-    ghost use Rattle.std.specs.Prelude.{◌≡◌};
-    ghost use Rattle.commands.specs.Faults.{start_fault};
-
-    ghost from_gives = { λ error fault. fault ≡ start_fault error };
-
-    fn from(error: StartError) -> Fault {
-        match error {
-            StartError::Memory => Fault::Memory,
-            refusal => Fault::Refused(Refusal::Start(refusal)),
         }
     }
 }

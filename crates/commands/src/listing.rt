@@ -1,28 +1,33 @@
 //! The lines of `journal`.
 
-ghost use Rattle.std.specs.Prelude.{◌≡◌, ℕ, ℤ, List, ◌++◌, IfOk, IfErr, OnOk, length};
+ghost use Rattle.std.specs.Prelude.{◌≡◌, ◌<◌, ℕ, ℤ, List, ◌++◌, IfOk, IfErr, OnOk, length};
 ghost use Rattle.std.specs.Prelude.{string_bytes};
 ghost use Rattle.std.specs.Io.KnownBytes.{Appends};
 ghost use Rattle.matchers.specs.Grammar.{op_text, written};
 ghost use Rattle.commands.specs.Listing.{matcher_text, matchers_text, IsBatchLine, IsEventLine};
+ghost use Rattle.commands.specs.Listing.{IsSeriesCount, IsSpan};
 ghost use Rattle.commands.specs.Listing.{batch_start, batch_end, batch_line};
 ghost use Rattle.commands.specs.Listing.{empty_batch_line, deletion_start};
 ghost use Rattle.commands.specs.Listing.{deletion_end, deletion_line, cut_line};
+ghost use Rattle.commands.specs.Faults.{read_fault};
 ghost use Rattle.commands.specs.Listing.{AreLines, summary_line, IsListed, IsListFault, IsFileAt};
+ghost use Rattle.commands.specs.Listing.{head_line, saved_samples, IsListing, IsListingFault};
 ghost use Rattle.commands.specs.Listing.{IsUnreadFile, IsUnreadJournal};
 ghost use Rattle.commands.specs.Reading.{AreFirstBytes};
 ghost use Rattle.commands.specs.Selecting.{KeepsAt};
 
 use crate::data_folder::path_in;
-use crate::fault::Fault;
+use crate::fault::{Fault, Refusal};
 use crate::files::{ReadError, ReadFiles};
 use crate::sending::send;
-use event_journal::{FoundJournal, read_journal};
 use head::{Event, EventView};
+use head_record::HeadRecord;
 use labels::{LabelSet, Sample};
 use matchers::{Matcher, Op};
 use std::alloc::{AllocError, Global};
 use std::io::Write;
+use store_folder::{FoundJournal, ReadError as JournalFault, StartCause, StartError};
+use store_folder::{begins_plain, read_journal, read_plain};
 
 /// The most bytes of a journal.
 const MOST: usize = 1 << 62;
@@ -110,22 +115,25 @@ fn append_matchers(out: &mut Vec<u8>, matchers: &[Matcher]) -> Result<(), AllocE
 }
 
 /// How many series the samples are of.
-fn series_count(alloc: Global, samples: &[(LabelSet, Sample)]) -> Result<usize, AllocError> {
-    let mut all: Vec<&LabelSet> = Vec::new(alloc);
+fn series_count(alloc: Global, samples: &[(LabelSet, Sample)]) -> Result<usize, AllocError>
+    ensures { IfOk result (IsSeriesCount samples.now) }
+{
+    let mut all: Vec<&LabelSet> = Vec::with_capacity(alloc, samples.len())?;
     for sample in samples {
-        let labels = &sample.0;
-        if all.last() != Some(&labels) {
-            all.push(labels)?;
-        }
+        all.push(&sample.0)?;
     }
     all.sort_unstable();
     all.dedup();
     Ok(all.len())
 }
 
-/// The least and the greatest time of samples.
-fn times_of(samples: &[(LabelSet, Sample)]) -> (i64, i64) {
-    let (mut from, mut to) = (i64::MAX, i64::MIN);
+/// The least and the greatest time of samples, of which there are some.
+fn times_of(samples: &[(LabelSet, Sample)]) -> (i64, i64)
+    requires { 0 < length samples.now }
+    ensures { IsSpan samples.now result.0 result.1 }
+{
+    let first = samples[0].1.t();
+    let (mut from, mut to) = (first, first);
     for sample in samples {
         let t = sample.1.t();
         from = from.min(t);
@@ -160,7 +168,9 @@ fn append_batch_line(
     number: usize,
     samples: &[(LabelSet, Sample)],
 ) -> Result<(), AllocError>
-    ensures { OnOk result ((series : ℕ) × (from : ℤ) × (to : ℤ) × (out.new.items
+    requires { 0 < length samples.now }
+    ensures { OnOk result ((series : ℕ) × (from : ℤ) × (to : ℤ) × IsSeriesCount samples.now series
+        × IsSpan samples.now from to × (out.new.items
         ≡ out.old.items ++ batch_line number (length samples.now) series from to)) }
 {
     let series = series_count(alloc, samples)?;
@@ -185,7 +195,7 @@ fn append_batch(
     number: usize,
     samples: &[(LabelSet, Sample)],
 ) -> Result<(), AllocError>
-    ensures { OnOk result ((line : List ℕ) × IsBatchLine number (length samples.now) line
+    ensures { OnOk result ((line : List ℕ) × IsBatchLine number samples.now line
         × (out.new.items ≡ out.old.items ++ line)) }
 {
     if samples.is_empty() {
@@ -282,19 +292,75 @@ fn summary_line(alloc: Global, count: usize, len: usize, size: usize) -> Result<
     format!(in alloc; "{count} events, {len} bytes, {torn} bytes of a torn record\n")
 }
 
-/// The lines of what a journal holds, and the line that sums it up.
-fn listing_of(alloc: Global, found: &FoundJournal, size: usize) -> Result<Vec<u8>, AllocError>
-    ensures { IfOk result (λ text. (lines : List ℕ) × AreLines 0 found.now.events.items lines
-        × (text.items ≡ lines ++ summary_line (length found.now.events.items) found.now.len size)) }
+/// How many samples the series of a head have.
+fn sample_count(head: &HeadRecord) -> u64
+    ensures { result ≡ saved_samples head.now.head }
 {
-    let mut text = lines_of(alloc, &found.events)?;
+    let mut count = 0u64;
+    for series in head.series() {
+        count = count.saturating_add(series.samples().len() as u64);
+    }
+    count
+}
+
+/// The line of a head: its floor, how many blocks it names, how many series it has, and how many
+/// samples these have.
+fn head_line(alloc: Global, head: &HeadRecord) -> Result<String, AllocError>
+    ensures { IfOk result (λ line. string_bytes line ≡ head_line head.now) }
+{
+    let (floor, blocks) = (head.floor(), head.places().len());
+    let (series, samples) = (head.series().len(), sample_count(head));
+    format!(in alloc; "head: floor {floor}, {blocks} blocks, {series} series, {samples} samples\n")
+}
+
+/// The lines of the events of a journal, and the line that sums it up.
+fn append_events(
+    alloc: Global,
+    text: &mut Vec<u8>,
+    found: &FoundJournal,
+    size: usize,
+) -> Result<(), AllocError>
+    ensures { OnOk result ((lines : List ℕ) × AreLines 0 found.now.events.items lines
+        × (text.new.items ≡ text.old.items
+        ++ (lines ++ summary_line (length found.now.events.items) found.now.len size))) }
+{
+    let lines = lines_of(alloc, &found.events)?;
     let last = summary_line(alloc, found.events.len(), found.len, size)?;
-    text.extend_from_slice(last.as_bytes())?;
+    text.extend_from_slice(lines.as_slice())?;
+    text.extend_from_slice(last.as_bytes())
+}
+
+/// That a journal is refused, or memory failed.
+fn not_read(error: JournalFault) -> Fault
+    ensures { result ≡ read_fault error }
+{
+    let error = StartError::Journal(error);
+    match error.cause() {
+        StartCause::Refused => Fault::Refused(Refusal::Start(error)),
+        StartCause::Memory | StartCause::Folder => Fault::Memory,
+    }
+}
+
+/// The lines of what the journal of a file holds. A journal of events alone has no line of a head.
+fn listing_of(alloc: Global, file: &[u8]) -> Result<Vec<u8>, Fault>
+    ensures ok { IfOk result (λ text. IsListing file.now text.items) }
+    ensures err { IfErr result (IsListingFault file.now) }
+{
+    let mut text = Vec::new(alloc);
+    if begins_plain(file) {
+        let found = read_plain(alloc, file).map_err(not_read)?;
+        append_events(alloc, &mut text, &found, file.len())?;
+        return Ok(text);
+    }
+    let found = read_journal(alloc, file).map_err(not_read)?;
+    let first = head_line(alloc, &found.head)?;
+    text.extend_from_slice(first.as_bytes())?;
+    append_events(alloc, &mut text, &found, file.len())?;
     Ok(text)
 }
 
-/// Lists what the journal at a path holds: a line for each event, and one that sums it up. The path
-/// is that of the journal, or of the folder that it stands in.
+/// Lists what the journal at a path holds: a line for its head, a line for each event, and one that
+/// sums it up. The path is that of the journal, or of the folder that it stands in.
 pub fn list<F: ReadFiles, W: Write>(
     alloc: Global,
     files: &F,
@@ -307,8 +373,7 @@ pub fn list<F: ReadFiles, W: Write>(
     ensures kept { IfErr result (λ fault. KeepsAt fault (W.contents out.old) (W.contents out.new)) }
 {
     let bytes = read_at(alloc, files, path)?;
-    let found = read_journal(alloc, bytes.as_slice())?;
-    let text = listing_of(alloc, &found, bytes.len())?;
+    let text = listing_of(alloc, bytes.as_slice())?;
     send(out, text.as_slice())?;
     Ok(())
 }

@@ -1,5 +1,5 @@
 -- A journal that is begun anew.
-use Rattle.std.proofs.Common.{◌≡◌, ◌≢◌, inl, inr, ⊎_elim, ℕ, Bool, true, List, []}
+use Rattle.std.proofs.Common.{◌⊎◌, ◌≡◌, ◌≢◌, inl, inr, ⊎_elim, ℕ, Bool, true, List, []}
 use Rattle.std.proofs.Common.{◌∷◌, Option, None, Some, length, subst, ap, ◌∙◌, arith}
 use Rattle.std.specs.List.{AllByRecursion}
 use Rattle.std.proofs.lemmas.List.{take_all}
@@ -233,3 +233,43 @@ module _ {F : Type 0} (shows : F → List ℕ → Option (List ℕ) → Type 0)
       (λ is. inr (journal_whole new left t.each (is ∙ ap (λ (x : List ℕ). Some x) t.whole)))
       (l.own None 0 text (others.same journal_name None differ differ shown)
       (others.durable journal_name 0 differ differ durable) next))
+
+  -- the journal's file changes
+
+  abbrev pub EitherFile : List ℕ → List ℕ → Left → Type 0
+  EitherFile bytes text left =
+      (left journal_name ≡ Some bytes) ⊎ (left journal_name ≡ Some text)
+
+  pub file_written : (old mid : F) (bytes text : List ℕ) (P : Left → Type 0)
+      → Elapses (moment old) (moment mid) (left_since old) (left_since mid)
+      (LeavesOthers shows kept next_name next_name old P)
+      → HasFile shows kept journal_name bytes old
+      → LeavesOnly moment left_since old mid (EitherFile bytes text)
+  file_written old mid bytes text P time has =
+      goes_on moment left_since old old mid (EitherFile bytes text)
+      (LeavesOthers shows kept next_name next_name old P)
+      (started moment left_since old (EitherFile bytes text)
+      (λ left had. inl (whole_left bytes (left journal_name)
+      (only_now old journal_name (Some bytes) (length bytes) left has.shown has.durable had)))) time
+      (λ left l. inl (whole_left bytes (left journal_name)
+      (l.others journal_name (Some bytes) (length bytes) differ differ has.shown has.durable)))
+
+  pub file_changed : (old mid after : F) (bytes text : List ℕ) (P : Left → Type 0)
+      → Elapses (moment old) (moment mid) (left_since old) (left_since mid)
+      (LeavesOthers shows kept next_name next_name old P)
+      → KeepsOthers shows kept next_name next_name old mid
+      → HasFile shows kept next_name text mid
+      → Elapses (moment mid) (moment after) (left_since mid) (left_since after)
+      (LeavesOthers shows kept next_name journal_name mid
+      (IsOneOf shows kept mid next_name journal_name))
+      → HasFile shows kept journal_name bytes old
+      → LeavesOnly moment left_since old after (EitherFile bytes text)
+  file_changed old mid after bytes text P first others next second has =
+      goes_on moment left_since old mid after (EitherFile bytes text)
+      (LeavesOthers shows kept next_name journal_name mid
+      (IsOneOf shows kept mid next_name journal_name))
+      (file_written old mid bytes text P first has) second
+      (λ left l. ⊎_elim (λ may. inl (whole_left bytes (left journal_name) may)) (λ is. inr is)
+      (l.own (Some bytes) (length bytes) text
+      (others.same journal_name (Some bytes) differ differ has.shown)
+      (others.durable journal_name (length bytes) differ differ has.durable) next))

@@ -107,7 +107,8 @@ pub trait Folder {
             (left_since self.new) (LeavesOthers shows kept from.now to.now self.old
             (IsOneOf shows kept self.old from.now to.now)) };
 
-    /// Removes a file. After an `Err` nothing is known of this name.
+    /// Removes a file, or a folder in which nothing stands. After an `Err` nothing is known of this
+    /// name.
     fn remove(&mut self, name: &str) -> Result<(), MediumError>
         requires { sound self.old ≡ true }
         ensures removed { OnOk result (shows self.new name.now None × kept self.new name.now 0) }

@@ -89,6 +89,7 @@ fn rename_whole<R: Files<File = File>>(
     sync_folders(rt, alloc, folder, to)
 }
 
+/// Removes a file, or a folder in which nothing stands.
 fn remove_whole<R: Files<File = File>>(
     rt: &R,
     alloc: Global,
@@ -97,10 +98,11 @@ fn remove_whole<R: Files<File = File>>(
 ) -> io::Result<()> {
     let path = path_of(alloc, folder, name)?;
     match fs::remove_file(rt, path.as_str()) {
-        Ok(()) => sync_folders(rt, alloc, folder, name),
-        Err(error) if error.kind() == ErrorKind::NotFound => Ok(()),
-        Err(error) => Err(error),
+        Ok(()) => {}
+        Err(error) if error.kind() == ErrorKind::NotFound => return Ok(()),
+        Err(_) => fs::remove_dir(rt, path.as_str())?,
     }
+    sync_folders(rt, alloc, folder, name)
 }
 
 fn read_whole<R: Files<File = File>>(

@@ -18,18 +18,22 @@
 
 mod adding;
 mod apart;
+mod changing;
 mod folder;
 mod host_folder;
 mod journal_file;
+mod listing;
 mod memory_folder;
 mod rolling;
 mod sweeping;
 
 pub use adding::{add, add_folder};
 pub use apart::{ApartError, write_apart};
+pub use changing::change_journal;
 pub use folder::Folder;
 pub use host_folder::HostFolder;
 pub use journal_file::{JOURNAL, JournalFile};
+pub use listing::list_names;
 pub use memory_folder::MemoryFolder;
 pub use rolling::{RollError, begin, roll};
 pub use sweeping::sweep;

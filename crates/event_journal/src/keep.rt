@@ -1,9 +1,10 @@
 //! Events in a journal.
 
 ghost use Rattle.std.specs.Prelude.{◌≡◌, ◌++◌, [], ℕ, List, true, false, Err, IfOk, OnOk, OnErr};
-ghost use Rattle.std.specs.Prelude.{IsErrOf, MatchResult};
+ghost use Rattle.std.specs.Prelude.{◌⊎◌, ◌<◌, ◌^◌, IsErrOf, MatchResult};
 ghost use Rattle.head.specs.Worlds.{Event as Change};
 ghost use Rattle.journal.specs.Media.{HasAll, LeavesOnly};
+ghost use Rattle.journal.specs.Outcome.{IsOfKeeping};
 ghost use Rattle.keeper.specs.Together.{SpellTogether};
 ghost use Rattle.event_journal.specs.Holding.{HasEvents, Holds, Stands, StandsAndSome};
 
@@ -95,6 +96,13 @@ impl<M: Medium + Drop> EventJournal<M> {
         ensures closed { self.old.journal.closed ≡ true → (result ≡ Err JournalError.Closed)
             × (self.new ≡ self.old) }
         ensures told { IsErrOf result JournalError.Closed → self.old.journal.closed ≡ true }
+        // It refuses nothing without a cause, and closes only if the medium fails.
+        ensures size { IsErrOf result JournalError.Size → 2 ^ 62 < self.old.journal.len }
+        ensures medium { IsErrOf result JournalError.Medium
+            → M.failed self.new.journal.medium ≡ true }
+        ensures lost { self.new.journal.closed ≡ true → (self.old.journal.closed ≡ true)
+            ⊎ (M.failed self.new.journal.medium ≡ true) }
+        ensures other { IsOfKeeping result }
         // What is beside the journal stays.
         ensures beside { M.beside self.old.journal.medium self.new.journal.medium }
     {
@@ -116,6 +124,7 @@ impl<M: Medium + Drop> EventJournal<M> {
             (events ++ more)
             → LeavesOnly M.moment M.left_since self.old.journal.medium self.new.journal.medium
             (StandsAndSome front events more) }
+        ensures closed { self.new.journal.closed ≡ true }
         ensures beside { M.beside self.old.journal.medium self.new.journal.medium }
     {
         self.journal.closed = true;

@@ -1,6 +1,6 @@
 //! The events of a store, kept in a journal from the first one on.
 
-ghost use Rattle.std.specs.Prelude.{◌≡◌, ◌++◌, [], List, false, IfOk, MatchResult};
+ghost use Rattle.std.specs.Prelude.{◌≡◌, ◌<◌, ◌^◌, ◌++◌, [], List, false, IfOk, MatchResult};
 ghost use Rattle.head.specs.Worlds.{Event as Change};
 ghost use Rattle.journal.specs.Media.{HasAll, LeavesOnly};
 ghost use Rattle.event_journal.specs.Holding.{HasEvents, Holds, Stands};
@@ -36,6 +36,10 @@ impl<M: Medium + Drop> Keeper for JournalKeeper<M> {
         k.journal.journal.medium k.journal.journal.len k.journal.journal.closed (events ++ more) };
 
     ghost closed = { λ k. k.journal.journal.closed };
+
+    ghost failed = { λ k. M.failed k.journal.journal.medium };
+
+    ghost full = { λ k. 2 ^ 62 < k.journal.journal.len };
 
     ghost moment = { λ k. M.moment k.journal.journal.medium };
 

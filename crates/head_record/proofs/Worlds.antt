@@ -1,8 +1,7 @@
 -- The snapshot of a start has the world of the one that was saved.
-use Rattle.std.proofs.Common.{◌≡◌, ℕ, ℤ, List, [], ◌∷◌, map, refl, sym, ap, subst}
+use Rattle.std.proofs.Common.{◌≡◌, List, [], ◌∷◌, map, refl, sym, subst}
 use Rattle.head.specs.Heads.{BlockPart, HeadSeries, IsSoundSnapshot, SnapshotParts, world_of}
-use Rattle.event_journal.specs.Holding.{AreInFront, begins_event}
-use Rattle.std.specs.List.{AllByRecursion}
+use Rattle.event_journal.specs.Holding.{AreInFront}
 use Rattle.head_record.specs.Saved.{Place, Saved, save, start}
 use Rattle.head_record.specs.Spelling.{head_texts, series_content}
 

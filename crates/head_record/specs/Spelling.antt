@@ -1,5 +1,5 @@
 -- The one spelling of what is saved, as the first contents of a journal.
-use Rattle.std.specs.Prelude.{◌≡◌, ◌<◌, ◌^◌, ℕ, ℤ, List, [], ◌∷◌, ◌++◌, map, length}
+use Rattle.std.specs.Prelude.{◌≡◌, ◌<◌, ◌^◌, ℕ, ℤ, List, ◌∷◌, ◌++◌, map, length}
 use Rattle.std.specs.List.{AllByRecursion}
 use Rattle.wire.specs.Spelling.{uvarint, varint, zigzag}
 use Rattle.labels.specs.LabelSets.{IsLabelSet}

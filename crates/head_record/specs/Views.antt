@@ -1,5 +1,4 @@
 -- What is read, without where it lies in memory.
-use Rattle.std.specs.Prelude.{List}
 use Rattle.head_record.specs.declared.parts.OpeningParts.{OpeningParts}
 use Rattle.head_record.specs.Spelling.{Opening}
 

@@ -6,10 +6,11 @@ use Rattle.std.proofs.lemmas.List.{map-append}
 use Rattle.head.specs.Worlds.{Event}
 use Rattle.event_text.specs.Spelling.{event_text, Spells}
 use Rattle.journal.specs.Group.{AreRecords}
+use Rattle.journal.specs.Outcome.{IsOfKeeping}
 use Rattle.journal.specs.declared.error.JournalError.{JournalError}
 use Rattle.journal.specs.declared.error.JournalError.TheVariants as journal
 use Rattle.keeper.specs.declared.error.KeepError.{KeepError}
-use Rattle.keeper.specs.declared.error.KeepError.TheVariants.{Memory, TooLong, Closed}
+use Rattle.keeper.specs.declared.error.KeepError.TheVariants.{Memory, TooLong, Failed, Closed}
 use Rattle.keeper.specs.Errors.{keep_error}
 use Rattle.keeper.specs.Together.{IsKept, SpellTogether, texts_of}
 
@@ -66,3 +67,26 @@ only_closed journal.Magic is = absurd cc
 only_closed journal.Version is = absurd cc
 only_closed (journal.Checksum at) is = absurd cc
 only_closed (journal.Length at) is = absurd cc
+
+-- only a journal that is too long says so
+pub only_size : (e : JournalError) → keep_error e ≡ TooLong → e ≡ journal.Size
+only_size journal.Memory is = absurd cc
+only_size journal.Size is = refl
+only_size journal.Closed is = absurd cc
+only_size journal.Medium is = absurd cc
+only_size journal.Magic is = absurd cc
+only_size journal.Version is = absurd cc
+only_size (journal.Checksum at) is = absurd cc
+only_size (journal.Length at) is = absurd cc
+
+-- of the refusals of what is to be kept, only that of a medium that failed says so
+pub only_medium : (X : Type 0) (e : JournalError) → IsOfKeeping {X = X} (Err e)
+    → keep_error e ≡ Failed → e ≡ journal.Medium
+only_medium X journal.Memory other is = absurd cc
+only_medium X journal.Size other is = absurd cc
+only_medium X journal.Closed other is = absurd cc
+only_medium X journal.Medium other is = refl
+only_medium X journal.Magic other is = absurd other
+only_medium X journal.Version other is = absurd other
+only_medium X (journal.Checksum at) other is = absurd other
+only_medium X (journal.Length at) other is = absurd other

@@ -1,7 +1,7 @@
 //! Where events are kept before they are published.
 
-ghost use Rattle.std.specs.Prelude.{◌≡◌, ◌++◌, ℕ, Bool, List, true, false, Err, OnOk, OnErr};
-ghost use Rattle.std.specs.Prelude.{IsErrOf};
+ghost use Rattle.std.specs.Prelude.{◌≡◌, ◌⊎◌, ◌++◌, ℕ, Bool, List, true, false, Err, OnOk};
+ghost use Rattle.std.specs.Prelude.{OnErr, IsErrOf};
 ghost use Rattle.head.specs.Worlds.{Event as Change, World};
 ghost use Rattle.keeper.specs.Finding.{FindsOnly, IsOfAll, IsOfAllAndMore, IsOfAllAndSome};
 ghost use Rattle.keeper.specs.Together.{SpellTogether};
@@ -25,6 +25,12 @@ pub trait Keeper {
 
     /// Whether it takes nothing more.
     ghost closed: { Self → Bool };
+
+    /// Whether what it writes to has failed.
+    ghost failed: { Self → Bool };
+
+    /// It has no room for more.
+    ghost full: { Self → Type 0 };
 
     /// The moment, as a number that does not fall.
     ghost moment: { Self → ℕ };
@@ -63,7 +69,13 @@ pub trait Keeper {
         ensures open { OnOk result (closed self.new ≡ false) }
         ensures closed { closed self.old ≡ true → (result ≡ Err KeepError.Closed)
             × (self.new ≡ self.old) }
-        ensures told { IsErrOf result KeepError.Closed → closed self.old ≡ true };
+        ensures told { IsErrOf result KeepError.Closed → closed self.old ≡ true }
+        // Any other refusal but memory's has a cause: there is no room, or writing failed. It
+        // closes for no cause but that.
+        ensures full { IsErrOf result KeepError.TooLong → full self.old }
+        ensures failed { IsErrOf result KeepError.Failed → failed self.new ≡ true }
+        ensures lost { closed self.new ≡ true
+            → (closed self.old ≡ true) ⊎ (failed self.new ≡ true) };
 
     /// The events that were kept last are not published: it takes nothing more, and a start may
     /// find these events or not.
@@ -73,7 +85,8 @@ pub trait Keeper {
             → holds self.new events }
         ensures any_moment { (events more : List Change) → kept_last self.old events more
             → FindsOnly moment found_since self.old self.new
-            (IsOfAllAndSome first events more) };
+            (IsOfAllAndSome first events more) }
+        ensures closed { idle ≡ false → closed self.new ≡ true };
 
     /// A crash at this moment leaves all that it keeps.
     ghost now: { (k : Self) (events : List Change) (w : World) → holds k events
@@ -104,6 +117,10 @@ impl Keeper for NoKeeper {
     ghost kept_last = { λ k events more. Unit {0} };
 
     ghost closed = { λ k. false };
+
+    ghost failed = { λ k. false };
+
+    ghost full = { λ k. ⊥ };
 
     ghost moment = { λ k. 0 };
 

@@ -81,13 +81,15 @@ module _ {F : Type 0} (shows : F → List ℕ → Option (List ℕ) → Type 0) 
   no_files kept f p (faults.Refused e) d = absurd d
 
   -- and it is one of several
-  pub one_denied : (kept : F → List ℕ → ℕ → Type 0) (f : F) (ps : List Place) (i : ℕ) (p : Place)
-      (e : BlockFault) → slice_get ps i ≡ Some p → DeniesBlock shows kept failed f p e
-      → DeniesOne shows kept failed f ps e
-  one_denied kept f ps i p e is d = record {
+  pub one_denied : (kept : F → List ℕ → ℕ → Type 0) (f : F) (ps : List Place) (i number : ℕ)
+      (p : Place) (e : BlockFault) → slice_get ps i ≡ Some p → number ≡ p.0
+      → DeniesBlock shows kept failed f p e
+      → DeniesOne shows kept failed f ps (record { number = number; fault = e })
+  one_denied kept f ps i number p e is numbered d = record {
     before = take i ps;
     place = p;
     after = drop (suc i) ps;
     parts = split_here ps i p is;
+    number = numbered;
     refused = d;
   }

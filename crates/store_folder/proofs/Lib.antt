@@ -1,12 +1,13 @@
 pub mod Contents
 pub mod Faults
 pub mod Files
+pub mod Fronts
 pub mod Kept
-pub mod Litter
 pub mod OpenedBlocks
-pub mod Places
+pub mod Refusals
 pub mod Rolls
 pub mod Saves
 pub mod Starts
+pub mod Swept
 pub mod Told
 pub mod Writes

@@ -1,5 +1,5 @@
 -- A store that goes on, and one that begins.
-use Rattle.std.proofs.Common.{◌≡◌, ℕ, zero, suc, ◌≤◌, Bool, true, List, [], ◌++◌, Option}
+use Rattle.std.proofs.Common.{◌≡◌, ℕ, zero, suc, ◌≤◌, Bool, true, false, List, [], ◌++◌, Option}
 use Rattle.std.proofs.Common.{None, Some, length, take, Result, Ok, Err, refl, sym, ap, subst, ◌∙◌}
 use Rattle.std.proofs.Common.{inl, inr, ⊎_elim, ℤ, Vec, arith}
 use Rattle.std.specs.declared.alloc.Global.{Global}
@@ -33,7 +33,9 @@ use Rattle.store_folder.specs.declared.error.StartError.{StartError}
 use Rattle.store_folder.specs.declared.journals.FoundJournal.{FoundJournal}
 use Rattle.store_folder.specs.Finding.{IsFoundStore}
 use Rattle.store_folder.specs.Holding.{FoundSince, HoldsAfterHead}
-use Rattle.store_folder.specs.Starting.{DeniesStart, IsNoneOrNothing, IsRefusedEvent, StartFinds}
+use Rattle.store_folder.specs.Kinds.{has_deletion}
+use Rattle.store_folder.specs.Starting.{BeginsWith, DeniesStart, IsNoneOrNothing, IsRefusedEvent}
+use Rattle.store_folder.specs.Starting.{StartFinds}
 use Rattle.store_folder.specs.Starting.{nothing_saved}
 use Rattle.store_folder.specs.States.{HasWorld, started}
 use Rattle.store_folder.specs.StoreLaws.{blocks_left, blocks_stay, found_store, whole_left}
@@ -59,6 +61,18 @@ goes_on saved parts floor head events given s (Ok x) is floors heads same h =
     (subst (λ (y : SnapshotParts). replayed (world_of y) given ≡ Ok (world_of x))
     (is_started saved parts floor head s is floors heads) h)
 goes_on saved parts floor head events given s (Err e) is floors heads same h = tt
+
+-- its first blocks are these, unless there is a deletion
+pub goes_on_in_front : (saved : Saved) (parts : List BlockPart) (floor : ℤ)
+    (head : List HeadSeries) (events given : List Event) (s : SnapshotParts)
+    (r : Result SnapshotParts StartError)
+    → s ≡ resumed parts floor head → floor ≡ saved.floor → head ≡ saved.head → given ≡ events
+    → IfOk r (λ x. has_deletion given ≡ false → BeginsWith s.blocks x.blocks)
+    → IfOk r (λ x. has_deletion events ≡ false → BeginsWith parts x.blocks)
+goes_on_in_front saved parts floor head events given s (Ok x) is floors heads same h =
+    λ none. subst (λ (bs : List BlockPart). BeginsWith bs x.blocks)
+    (ap (λ (y : SnapshotParts). y.blocks) is) (h (ap has_deletion same ∙ none))
+goes_on_in_front saved parts floor head events given s (Err e) is floors heads same h = tt
 
 denies_event : (saved : Saved) (parts : List BlockPart) (events : List Event) (e : StartError)
     → IsRefusedEvent (world_of (started saved parts)) events e → DeniesStart saved parts events e

@@ -16,6 +16,7 @@ use Rattle.store_folder.specs.declared.error.BlockFault.{BlockFault}
 use Rattle.store_folder.specs.declared.error.BlockFault.TheVariants as faults
 use Rattle.store_folder.specs.declared.error.StartError.{StartError}
 use Rattle.store_folder.specs.declared.error.StartError.TheVariants as errors
+use Rattle.store_folder.specs.declared.error.UnreadBlock.{UnreadBlock}
 use Rattle.store_folder.specs.declared.reading.FoundStore.{FoundStore}
 use Rattle.store_folder.specs.Blocks.{BlockFiles, name_in, named_files, shown_of}
 use Rattle.store_folder.specs.Journals.{DeniesJournal, IsJournalOf, MayRefuseJournal}
@@ -56,12 +57,13 @@ DeniesBlock shows kept failed f p (faults.Refused e) =
 -- the block at one of these places is not read so
 pub record DeniesOne {F : Type 0} (shows : F → List ℕ → Option (List ℕ) → Type 0)
     (kept : F → List ℕ → ℕ → Type 0) (failed : F → Bool) (f : F) (places : List Place)
-    (e : BlockFault) : Type 0 where
+    (e : UnreadBlock) : Type 0 where
   pub before : List Place
   pub place : Place
   pub after : List Place
   pub parts : places ≡ before ++ place ∷ after
-  pub refused : DeniesBlock shows kept failed f place e
+  pub number : e.number ≡ place.0
+  pub refused : DeniesBlock shows kept failed f place e.fault
 
 -- A folder is not read as a store so: reading failed, or the journal is refused, or it is one, and
 -- a block that its head names is not read.
@@ -94,16 +96,16 @@ abbrev pub GivesBlockAt : Bool → BlockPart → Result Shown BlockFault → Typ
 GivesBlockAt failed part (Ok b) = part_in b ≡ part
 GivesBlockAt failed part (Err e) = MayFail failed e
 
-abbrev pub GivesBlocks : Bool → List BlockPart → Result (Vec Shown Global) BlockFault → Type 0
+abbrev pub GivesBlocks : Bool → List BlockPart → Result (Vec Shown Global) UnreadBlock → Type 0
 GivesBlocks failed parts (Ok bs) = map part_in bs.items ≡ parts
-GivesBlocks failed parts (Err e) = MayFail failed e
+GivesBlocks failed parts (Err e) = MayFail failed e.fault
 
 -- a refusal that can come of a store of these events that lies there: memory's, that of reading, or
 -- that of a deletion's matcher
 abbrev pub MayFailStart : Bool → List Event → StartError → Type 0
 MayFailStart failed events errors.Medium = failed ≡ true
 MayFailStart failed events (errors.Journal e) = MayRefuseJournal events e
-MayFailStart failed events (errors.Block e) = MayFail failed e
+MayFailStart failed events (errors.Block e) = MayFail failed e.fault
 MayFailStart failed events (errors.Head e) = ⊥
 MayFailStart failed events (errors.Event refused) = ⊥
 

@@ -1,10 +1,13 @@
-pub mod Adding
 pub mod Blocks
+pub mod Codes
 pub mod Faults
 pub mod Finding
 pub mod Holding
 pub mod Journals
 pub mod KeeperLaws
+pub mod Kinds
+pub mod Plain
+pub mod Refusals
 pub mod Rewriting
 pub mod Rolls
 pub mod Saving

@@ -13,7 +13,7 @@ ghost use Rattle.store_folder.specs.Faults.{DeniesBlock, DeniesFiles, DeniesName
 ghost use Rattle.store_folder.specs.Faults.{GivesBlockAt, GivesBlocks, TellsFiles};
 ghost use Rattle.store_folder.specs.Holding.{AreAt};
 
-use crate::error::BlockFault;
+use crate::error::{BlockFault, UnreadBlock};
 use block::{Block, BlockError, Range};
 use data_folder::Folder;
 use head_record::BlockPlace;
@@ -184,12 +184,12 @@ fn read_block<F: Folder>(
     }
 }
 
-/// The blocks at these places, in their order; or why the first that is not opened is not.
+/// The blocks at these places, in their order; or the first that is not opened, and why.
 pub fn read_blocks<F: Folder>(
     alloc: Global,
     folder: &mut F,
     places: &[BlockPlace],
-) -> Result<Vec<Block>, BlockFault>
+) -> Result<Vec<Block>, UnreadBlock>
     requires { F.sound folder.old ≡ true }
     ensures found { IfOk result (λ blocks.
         AreAt F.shows F.kept places.now (map part_in blocks.items) folder.new) }
@@ -200,18 +200,24 @@ pub fn read_blocks<F: Folder>(
     ensures only { TellsFiles F.shows → (parts : List BlockPart)
         → AreAt F.shows F.kept places.now parts folder.old
         → GivesBlocks (F.failed folder.new) parts result }
-    // A refusal tells what is wrong with one of them.
+    // A refusal tells which of them is wrong, and how.
     ensures refused { IfErr result (λ e.
         DeniesOne F.shows F.kept F.failed folder.new places.now e) }
 {
     let mut blocks = Vec::new(alloc);
     for place in places {
+        let number = place.folder();
         match read_block(alloc, folder, *place) {
             Ok(block) => match blocks.push(block) {
                 Ok(()) => {}
-                Err(_) => return Err(BlockFault::Memory),
+                Err(_) => {
+                    return Err(UnreadBlock {
+                        number,
+                        fault: BlockFault::Memory,
+                    });
+                }
             },
-            Err(fault) => return Err(fault),
+            Err(fault) => return Err(UnreadBlock { number, fault }),
         }
     }
     Ok(blocks)

@@ -32,19 +32,41 @@ pub enum BlockFault {
     Refused(BlockError),
 }
 
-/// Why a store is not started.
+/// The first block that is not opened.
+#[derive(Clone, Copy, Debug, PartialEq, Eq, Drop)]
+pub struct UnreadBlock {
+    /// The number of its folder.
+    pub number: u64,
+    /// Why it is not opened.
+    pub fault: BlockFault,
+}
+
+/// Why a store is not started: the first check that failed. First all of the journal is read as
+/// records, then its contents as a head and as events, then the blocks that the head names are
+/// opened, and then the events are applied.
 #[derive(Clone, Copy, Debug, PartialEq, Eq, Drop)]
 pub enum StartError {
-    /// The journal could not be read or written.
+    /// The folder could not be read or written.
     Medium,
-    /// The journal is refused, or no memory was left for it.
+    /// `J1` to `J4`, `J8` to `J14`: the journal is refused; or no memory was left for it.
     Journal(ReadError),
-    /// A block is not opened.
-    Block(BlockFault),
+    /// `J15`, `J16`: a block is not opened.
+    Block(UnreadBlock),
     /// `J17`: no snapshot has what the head and the blocks say.
     Head(ResumeError),
     /// `J18`: an event is refused.
     Event(RefusedEvent),
+}
+
+/// What the error of a start is.
+#[derive(Clone, Copy, Debug, PartialEq, Eq, Drop)]
+pub enum StartCause {
+    /// No memory is left.
+    Memory,
+    /// The folder could not be read or written.
+    Folder,
+    /// What the folder has is refused.
+    Refused,
 }
 
 /// Why a block is not written.

@@ -1,6 +1,6 @@
 //! What the file of a journal has.
 
-ghost use Rattle.std.specs.Prelude.{◌≡◌, List, IfOk, IfErr, length};
+ghost use Rattle.std.specs.Prelude.{◌≡◌, ◌-◌, List, IfOk, IfErr, length};
 ghost use Rattle.head.specs.Worlds.{Event as Change};
 ghost use Rattle.event_journal.specs.Holding.{contents_with};
 ghost use Rattle.head_record.specs.Outcome.{Begins};
@@ -25,9 +25,10 @@ pub struct FoundJournal {
     pub head: HeadRecord,
     /// The events after it, in their order.
     pub events: Vec<Event>,
-    /// How many bytes the header and the records of these take. What stands after them is a torn
-    /// end.
+    /// How many bytes the header and the records of these take.
     pub len: usize,
+    /// How many bytes of a torn end stand after them.
+    pub torn: usize,
 }
 
 /// The events after a head, which takes so many contents.
@@ -63,10 +64,16 @@ fn read_contents(alloc: Global, contents: &[Vec<u8>]) -> Result<(HeadRecord, Vec
     }
 }
 
-fn of_recovered(alloc: Global, recovered: Recovered) -> Result<FoundJournal, ReadError>
+/// The head and the events of a file of so many bytes, of which these contents were recovered.
+fn of_recovered(
+    alloc: Global,
+    recovered: Recovered,
+    size: usize,
+) -> Result<FoundJournal, ReadError>
     ensures found { IfOk result (λ j.
         AreContents (contents_in recovered.contents.items) j.head j.events.items) }
     ensures len { IfOk result (λ j. j.len ≡ recovered.len) }
+    ensures torn { IfOk result (λ j. j.torn ≡ size - recovered.len) }
     ensures only { (saved : Saved) (events : List Change)
         → AreContents (contents_in recovered.contents.items) saved events
         → GivesJournal saved events result }
@@ -78,6 +85,7 @@ fn of_recovered(alloc: Global, recovered: Recovered) -> Result<FoundJournal, Rea
             head,
             events,
             len: recovered.len,
+            torn: size.saturating_sub(recovered.len),
         }),
         Err(error) => Err(error),
     }
@@ -91,6 +99,7 @@ pub fn read_journal(alloc: Global, file: &[u8]) -> Result<FoundJournal, ReadErro
     ensures found { IfOk result (λ j. IsJournalOf file.now j.head j.events.items) }
     ensures len { IfOk result (λ j. j.len
         ≡ length (file_of (contents_with (head_texts j.head) j.events.items))) }
+    ensures torn { IfOk result (λ j. j.torn ≡ length file.now - j.len) }
     // A file that stands for a head and events gives these, unless memory runs out or a matcher of
     // a deletion is refused.
     ensures only { (saved : Saved) (events : List Change) → IsJournalOf file.now saved events
@@ -99,7 +108,7 @@ pub fn read_journal(alloc: Global, file: &[u8]) -> Result<FoundJournal, ReadErro
     ensures refused { IfErr result (λ e. DeniesJournal file.now e) }
 {
     match recover(alloc, file) {
-        Ok(recovered) => of_recovered(alloc, recovered),
+        Ok(recovered) => of_recovered(alloc, recovered, file.len()),
         Err(error) => Err(ReadError::Journal(error)),
     }
 }

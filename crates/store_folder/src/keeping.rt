@@ -33,7 +33,7 @@ pub struct StoreKeeper<N: Beginning, F: Folder + Drop> {
 
 impl<N: Beginning, F: Folder + Drop> Keeper for StoreKeeper<N, F> {
     ghost use Rattle.store_folder.specs.Holding.{FoundSince, HoldsStore, KeptLast};
-    ghost use Rattle.std.specs.Prelude.{false};
+    ghost use Rattle.std.specs.Prelude.{◌<◌, ◌^◌, false};
     ghost use Rattle.event_journal.specs.KeeperLaws.{not_idle};
     ghost use Rattle.store_folder.specs.KeeperLaws.{now_found, settled_found};
 
@@ -50,6 +50,10 @@ impl<N: Beginning, F: Folder + Drop> Keeper for StoreKeeper<N, F> {
         N.first k.events.journal.medium k.events.journal.len k.events.journal.closed events more };
 
     ghost closed = { λ k. k.events.journal.closed };
+
+    ghost failed = { λ k. F.failed k.events.journal.medium.folder };
+
+    ghost full = { λ k. 2 ^ 62 < k.events.journal.len };
 
     ghost moment = { λ k. F.moment k.events.journal.medium.folder };
 

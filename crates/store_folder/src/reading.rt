@@ -8,14 +8,19 @@ ghost use Rattle.head.specs.Blocks.{part_in};
 ghost use Rattle.head.specs.Heads.{BlockPart};
 ghost use Rattle.head.specs.Worlds.{Event as Change};
 ghost use Rattle.head_record.specs.Saved.{Saved};
+ghost use Rattle.store_folder.specs.Codes.{cause_of};
 ghost use Rattle.store_folder.specs.Faults.{DeniesStore, GivesFound, GivesStore, TellsFiles};
 ghost use Rattle.store_folder.specs.Finding.{IsFoundStore};
 ghost use Rattle.store_folder.specs.Holding.{AreAt};
 ghost use Rattle.store_folder.specs.Journals.{IsFoundJournal, IsJournalOf};
+ghost use Rattle.store_folder.specs.Plain.{DeniesFolder, DeniesOpening};
+ghost use Rattle.store_folder.specs.Refusals.{IsRefusal};
+ghost use Rattle.store_folder.specs.declared.error.StartCause.TheVariants.{Refused};
 
 use crate::blocks::read_blocks;
 use crate::error::StartError;
 use crate::journals::{FoundJournal, read_journal};
+use crate::plain::{add_head, begins_plain};
 use block::Block;
 use data_folder::{Folder, JOURNAL};
 use std::alloc::Global;
@@ -126,6 +131,60 @@ pub fn read_store<F: Folder>(
     match folder.read(alloc, JOURNAL) {
         Ok(found) => match found {
             Some(file) => with_found(alloc, folder, file),
+            None => Ok(None),
+        },
+        Err(_) => Err(StartError::Medium),
+    }
+}
+
+/// The store of a journal's file, which lies in the folder.
+fn open_file<F: Folder>(
+    alloc: Global,
+    folder: &mut F,
+    file: Vec<u8>,
+) -> Result<Option<FoundStore>, StartError>
+    requires sound { F.sound folder.old ≡ true }
+    requires has { HasFile F.shows F.kept journal_name file.items folder.old }
+    ensures found { IfOk result (λ found. IfSome found (λ s.
+        IsFoundStore F.shows F.kept s.journal (map part_in s.blocks.items) folder.new)) }
+    ensures none { result ≡ Ok None
+        → F.shows folder.new journal_name None × F.kept folder.new journal_name 0 }
+    ensures sound { OnOk result (F.sound folder.new ≡ true) }
+    ensures refused { IfErr result (λ e.
+        DeniesOpening F.shows F.kept F.failed folder.new file.items e) }
+{
+    if begins_plain(&file) {
+        match add_head(alloc, folder, &file) {
+            Ok(()) => {}
+            Err(error) => return Err(error),
+        }
+        return read_store(alloc, folder);
+    }
+    with_found(alloc, folder, file)
+}
+
+/// The store that a folder has, as [`read_store`] gives it. A journal of events alone, as it was
+/// before a journal had a head, is first given the head of a store that has nothing, if it is not
+/// refused; else nothing in the folder is changed.
+pub fn open_store<F: Folder>(
+    alloc: Global,
+    folder: &mut F,
+) -> Result<Option<FoundStore>, StartError>
+    requires { F.sound folder.old ≡ true }
+    // What is read lies there for good: a journal, and each block that its head names.
+    ensures found { IfOk result (λ found. IfSome found (λ s.
+        IsFoundStore F.shows F.kept s.journal (map part_in s.blocks.items) folder.new)) }
+    ensures none { result ≡ Ok None
+        → F.shows folder.new journal_name None × F.kept folder.new journal_name 0 }
+    ensures sound { OnOk result (F.sound folder.new ≡ true) }
+    // A refusal tells which check failed first; also where clauses tell nothing of the folder, what
+    // is refused is some folder that has to be.
+    ensures refused { IfErr result (λ e. DeniesFolder F.shows F.kept F.failed folder.new e) }
+    ensures told { IfErr result (λ e. cause_of e ≡ Refused → IsRefusal e) }
+{
+    match folder.read(alloc, JOURNAL) {
+        Ok(found) => match found {
+            Some(file) => open_file(alloc, folder, file),
             None => Ok(None),
         },
         Err(_) => Err(StartError::Medium),

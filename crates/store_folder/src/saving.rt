@@ -88,7 +88,7 @@ impl<N: Beginning, F: Folder + Drop> StoreKeeper<N, F> {
     /// the snapshot's, and the snapshot's other blocks are written anew, in folders of the numbers
     /// from `next` on, of which none is in use. No event may be kept meanwhile. The places of the
     /// snapshot's blocks, which the head then names; what is at others is litter
-    /// ([`StoreKeeper::sweep`]).
+    /// ([`StoreKeeper::sweep_blocks`]).
     ///
     /// Where it fails the journal goes on as it was, unless the fault is `Folder(Lost)`: then it is
     /// closed.

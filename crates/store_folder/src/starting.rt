@@ -7,11 +7,16 @@ ghost use Rattle.data_folder.specs.JournalFile.{journal_name};
 ghost use Rattle.head.specs.Blocks.{opening_of, part_in};
 ghost use Rattle.head.specs.Heads.{BlockPart, world_of};
 ghost use Rattle.head.specs.Worlds.{replayed};
+ghost use Rattle.store_folder.specs.Codes.{cause_of};
 ghost use Rattle.store_folder.specs.Finding.{IsFoundStore};
 ghost use Rattle.store_folder.specs.Holding.{HoldsAt, HoldsStore};
-ghost use Rattle.store_folder.specs.Starting.{DeniesStart, IsNoneOrNothing, IsRefusedEvent};
+ghost use Rattle.store_folder.specs.Kinds.{has_deletion};
+ghost use Rattle.store_folder.specs.Starting.{BeginsWith, DeniesStart, GoesOn};
+ghost use Rattle.store_folder.specs.Starting.{IsNoneOrNothing, IsNoRefusal, IsRefusedEvent};
 ghost use Rattle.store_folder.specs.Starting.{StartFinds, nothing_saved};
+ghost use Rattle.store_folder.specs.Refusals.{IsRefusal};
 ghost use Rattle.store_folder.specs.States.{HasWorld, started};
+ghost use Rattle.store_folder.specs.declared.error.StartCause.TheVariants.{Refused};
 
 use crate::error::{ReadError, StartError};
 use crate::heads::head_journal;
@@ -21,22 +26,40 @@ use crate::reading::FoundStore;
 use block::Block;
 use data_folder::{Folder, JournalFile, begin};
 use event_journal::EventJournal;
-use head::{Event, Snapshot, replay};
+use head::{Event, RefusedEvent, ResumeError, Snapshot, apply};
 use head_record::HeadRecord;
 use journal::MediumError;
 use labels::MIN_TIME;
 use std::alloc::Global;
 use std::marker::PhantomData;
 
-/// The snapshot after events.
+/// A store that goes on, or one that begins.
+#[derive(Drop)]
+pub struct StartedStore<N: Beginning, F: Folder + Drop> {
+    /// What the events of the journal make of its head and blocks.
+    pub snapshot: Snapshot,
+    /// What keeps these events, and those to come.
+    pub keeper: StoreKeeper<N, F>,
+    /// The journal, as it was found.
+    pub journal: FoundJournal,
+}
+
+/// The snapshot after events, as `head::replay` gives it. Where none of them is a deletion, its
+/// first blocks are those of the snapshot before.
 fn after_events(alloc: Global, snapshot: Snapshot, events: &[Event]) -> Result<Snapshot, StartError>
     ensures ok { IfOk result (λ s. replayed (world_of snapshot) events.now ≡ Ok (world_of s)) }
+    ensures front { IfOk result (λ s. has_deletion events.now ≡ false
+        → BeginsWith snapshot.blocks s.blocks) }
     ensures refused { IfErr result (λ e. IsRefusedEvent (world_of snapshot) events.now e) }
 {
-    match replay(alloc, snapshot, events) {
-        Ok(after) => Ok(after),
-        Err(refused) => Err(StartError::Event(refused)),
+    let mut at = snapshot;
+    for place in 0..events.len() {
+        match apply(alloc, &at, &events[place]) {
+            Ok(next) => at = next,
+            Err(error) => return Err(StartError::Event(RefusedEvent { at: place, error })),
+        }
     }
+    Ok(at)
 }
 
 /// What the events of a journal make of its head and blocks.
@@ -47,6 +70,8 @@ fn snapshot_of(
 ) -> Result<Snapshot, StartError>
     ensures world { IfOk result (λ s. HasWorld journal.now.head (map part_in blocks.items)
         journal.now.events.items (world_of s)) }
+    ensures front { IfOk result (λ s. has_deletion journal.now.events.items ≡ false
+        → BeginsWith (map part_in blocks.items) s.blocks) }
     ensures refused { IfErr result (λ e. DeniesStart journal.now.head (map part_in blocks.items)
         journal.now.events.items e) }
 {
@@ -57,7 +82,7 @@ fn snapshot_of(
 }
 
 /// What is saved of a store that has nothing.
-fn nothing(alloc: Global) -> HeadRecord
+pub(crate) fn nothing(alloc: Global) -> HeadRecord
     ensures { result ≡ nothing_saved }
 {
     HeadRecord::new(MIN_TIME, Vec::new(alloc), Vec::new(alloc))
@@ -95,23 +120,24 @@ impl<N: Beginning, F: Folder + Drop> StoreKeeper<N, F> {
 
     /// Goes on after the events of a journal, whose torn end is cut off. An `Err` gives the folder
     /// back where that fails.
-    fn resume(folder: F, journal: FoundJournal) -> Result<StoreKeeper<N, F>, (MediumError, F)>
+    fn resume(folder: F, journal: &FoundJournal) -> Result<StoreKeeper<N, F>, (MediumError, F)>
         requires found { (parts : List BlockPart)
-            × IsFoundStore F.shows F.kept journal parts folder }
+            × IsFoundStore F.shows F.kept journal.now parts folder }
         requires sound { F.sound folder ≡ true }
         ensures holds { IfOk result (λ k. (parts : List BlockPart)
-            → IsFoundStore F.shows F.kept journal parts folder
-            → N.first ≡ world_of (started journal.head parts)
+            → IsFoundStore F.shows F.kept journal.now parts folder
+            → N.first ≡ world_of (started journal.now.head parts)
             → HoldsAt F.shows F.kept F.sound F.moment F.left_since N.first
             k.events.journal.medium k.events.journal.len k.events.journal.closed
-            journal.events.items journal.head.places parts) }
+            journal.now.events.items journal.now.head.places parts) }
         ensures open { IfOk result (λ k. k.events.journal.closed ≡ false) }
         ensures any_moment { (parts : List BlockPart)
-            → IsFoundStore F.shows F.kept journal parts folder
-            → N.first ≡ world_of (started journal.head parts) → MatchResult result
+            → IsFoundStore F.shows F.kept journal.now parts folder
+            → N.first ≡ world_of (started journal.now.head parts) → MatchResult result
             (λ k. StartFinds F.moment F.left_since folder k.events.journal.medium.folder N.first
-            journal.events.items)
-            (λ e. StartFinds F.moment F.left_since folder e.1 N.first journal.events.items) }
+            journal.now.events.items)
+            (λ e. StartFinds F.moment F.left_since folder e.1 N.first
+            journal.now.events.items) }
     {
         match EventJournal::resume(JournalFile { folder }, journal.len) {
             Ok(events) => Ok(StoreKeeper {
@@ -123,6 +149,44 @@ impl<N: Beginning, F: Folder + Drop> StoreKeeper<N, F> {
     }
 }
 
+/// Begins the store of a folder that has none. An `Err` gives the folder back.
+pub fn begin_store<N: Beginning, F: Folder + Drop>(
+    alloc: Global,
+    folder: F,
+) -> Result<StartedStore<N, F>, (StartError, F)>
+    requires sound { F.sound folder ≡ true }
+    requires none { F.shows folder journal_name None × F.kept folder journal_name 0 }
+    // The world before all events is that of a store that has nothing.
+    requires first { N.first ≡ world_of (opening_of []) }
+    ensures begun { IfOk result (λ x. GoesOn F.shows F.kept F.sound F.moment F.left_since
+        N.first x.keeper.events.journal.medium x.keeper.events.journal.len
+        x.keeper.events.journal.closed x.journal.events.items x.journal.head.places []
+        x.snapshot) }
+    ensures events { IfOk result (λ x. x.journal.events.items ≡ []) }
+    ensures refused { IfErr result (λ e. IsNoRefusal e.0) }
+{
+    let snapshot = match Snapshot::opening(alloc, Vec::new(alloc)) {
+        Ok(snapshot) => snapshot,
+        Err(_) => return Err((StartError::Head(ResumeError::Memory), folder)),
+    };
+    match StoreKeeper::create(alloc, folder) {
+        Ok(keeper) => {
+            let journal = FoundJournal {
+                head: nothing(alloc),
+                events: Vec::new(alloc),
+                len: keeper.journal_len(),
+                torn: 0,
+            };
+            Ok(StartedStore {
+                snapshot,
+                keeper,
+                journal,
+            })
+        }
+        Err(failed) => Err(failed),
+    }
+}
+
 /// Goes on with the store that a folder has: its snapshot, and what keeps the events to come. The
 /// torn end of the journal is cut off, after all else was accepted; nothing else in the folder
 /// changes. `J17` if no snapshot has what the head and the blocks say, `J18` if an event is
@@ -131,32 +195,28 @@ pub fn resume_store<N: Beginning, F: Folder + Drop>(
     alloc: Global,
     folder: F,
     found: FoundStore,
-) -> Result<(Snapshot, StoreKeeper<N, F>), (StartError, F)>
+) -> Result<StartedStore<N, F>, (StartError, F)>
     requires sound { F.sound folder ≡ true }
     requires found { IsFoundStore F.shows F.kept found.journal (map part_in found.blocks.items)
         folder }
     // The world before all events is that of the head and the blocks.
     requires first { N.first
         ≡ world_of (started found.journal.head (map part_in found.blocks.items)) }
-    // The snapshot is what the events of the journal make of that world.
-    ensures world { IfOk result (λ x. replayed N.first found.journal.events.items
-        ≡ Ok (world_of x.0)) }
-    // They are held.
-    ensures holds { IfOk result (λ x. HoldsStore F.shows F.kept F.sound F.moment F.left_since
-        N.first x.1.events.journal.medium x.1.events.journal.len x.1.events.journal.closed
-        found.journal.events.items) }
-    ensures places { IfOk result (λ x. HoldsAt F.shows F.kept F.sound F.moment F.left_since
-        N.first x.1.events.journal.medium x.1.events.journal.len x.1.events.journal.closed
-        found.journal.events.items found.journal.head.places
-        (map part_in found.blocks.items)) }
-    ensures open { IfOk result (λ x. x.1.events.journal.closed ≡ false) }
+    // The journal is the one that was found. The snapshot is what its events make of that world,
+    // and they are held.
+    ensures journal { IfOk result (λ x. x.journal ≡ found.journal) }
+    ensures resumed { IfOk result (λ x. GoesOn F.shows F.kept F.sound F.moment F.left_since
+        N.first x.keeper.events.journal.medium x.keeper.events.journal.len
+        x.keeper.events.journal.closed x.journal.events.items x.journal.head.places
+        (map part_in found.blocks.items) x.snapshot) }
     ensures refused { IfErr result (λ e. (e.0 ≡ StartError.Medium)
         ⊎ DeniesStart found.journal.head (map part_in found.blocks.items)
         found.journal.events.items e.0) }
+    ensures told { IfErr result (λ e. cause_of e.0 ≡ Refused → IsRefusal e.0) }
     // After a crash at any moment of the call, a start finds the same world.
     ensures any_moment { MatchResult result
-        (λ x. StartFinds F.moment F.left_since folder x.1.events.journal.medium.folder N.first
-        found.journal.events.items)
+        (λ x. StartFinds F.moment F.left_since folder x.keeper.events.journal.medium.folder
+        N.first found.journal.events.items)
         (λ e. StartFinds F.moment F.left_since folder e.1 N.first found.journal.events.items) }
 {
     let FoundStore { journal, blocks } = found;
@@ -164,8 +224,12 @@ pub fn resume_store<N: Beginning, F: Folder + Drop>(
         Ok(snapshot) => snapshot,
         Err(error) => return Err((error, folder)),
     };
-    match StoreKeeper::resume(folder, journal) {
-        Ok(keeper) => Ok((snapshot, keeper)),
+    match StoreKeeper::resume(folder, &journal) {
+        Ok(keeper) => Ok(StartedStore {
+            snapshot,
+            keeper,
+            journal,
+        }),
         Err((_, folder)) => Err((StartError::Medium, folder)),
     }
 }

@@ -6,6 +6,6 @@ use Rattle.commands.proofs.listing.append_batch.Goals as goal
 pub returns : goal.returns
 returns c =
     let count = length c.args.samples.now in
-    batch_added c.append_batch_line.result c.args.number count c.args.out.now.items
+    batch_added c.append_batch_line.result c.args.number c.args.samples.now c.args.out.now.items
     c.append_batch_line.new.out.items (λ (none : count ≡ 0). grind (arith, nat_tests))
     c.append_batch_line.ensures

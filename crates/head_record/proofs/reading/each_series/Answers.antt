@@ -1,4 +1,4 @@
-use Rattle.std.proofs.Common.{◌≡◌, ◌<◌, ◌+◌, ℕ, List, length, get_or, sym, subst, arith, rules}
+use Rattle.std.proofs.Common.{◌≡◌, ◌<◌, ◌+◌, ℕ, length, get_or, sym, subst, arith, rules}
 use Rattle.wire.specs.Outcome.{Fails}
 use Rattle.journal.specs.Contents.{contents_in}
 use Rattle.head_record.specs.Outcome.{is_memory}

@@ -82,8 +82,9 @@ returns-in-Err-clause-refused g c =
     let i = c.loop-place.place-index in
     let p = c.place-item.result in
     let lt : i < length ms = omega (arith, c.loop-place-test.true) in
-    one_denied f.shows f.failed f.kept c.read_block.new.folder ms i p c.in-Err.fault
-    (slice_get_read ms (length ms) i p refl lt c.place-item.is) c.in-Err.ensures.refused
+    one_denied f.shows f.failed f.kept c.read_block.new.folder ms i c.folder-number.result p
+    c.in-Err.fault (slice_get_read ms (length ms) i p refl lt c.place-item.is)
+    c.folder-number.ensures c.in-Err.ensures.refused
 
 pub returns-in-Err-push-clause-refused : goal.returns-in-Err-push-clause-refused
 returns-in-Err-push-clause-refused g c =
@@ -92,8 +93,8 @@ returns-in-Err-push-clause-refused g c =
     let i = c.loop-place.place-index in
     let p = c.place-item.result in
     let lt : i < length ms = omega (arith, c.loop-place-test.true) in
-    one_denied f.shows f.failed f.kept c.read_block.new.folder ms i p _
-    (slice_get_read ms (length ms) i p refl lt c.place-item.is) tt
+    one_denied f.shows f.failed f.kept c.read_block.new.folder ms i c.folder-number.result p _
+    (slice_get_read ms (length ms) i p refl lt c.place-item.is) c.folder-number.ensures tt
 
 pub returns-in-Err-clause-only : goal.returns-in-Err-clause-only
 returns-in-Err-clause-only g c tells parts at =

@@ -1,4 +1,4 @@
-use Rattle.std.proofs.Common.{ℕ, List, length, ap, ◌∙◌}
+use Rattle.std.proofs.Common.{ℕ, List, length, ap, sym, ◌∙◌, ◌-◌}
 use Rattle.std.proofs.lemmas.Result.{IfOk-weaker, IfErr-weaker}
 use Rattle.event_journal.specs.Holding.{contents_with}
 use Rattle.head_record.specs.Spelling.{head_texts}
@@ -20,6 +20,12 @@ returns-in-Ok-clause-len c =
     (λ j h is. is ∙ (c.in-Ok.ensures.len
     ∙ ap (λ (x : List (List ℕ)). length (file_of x)) h.whole))
     c.of_recovered.ensures.found c.of_recovered.ensures.len
+
+pub returns-in-Ok-clause-torn : goal.returns-in-Ok-clause-torn
+returns-in-Ok-clause-torn c =
+    ok_and c.of_recovered.result _ _ _
+    (λ j is torn. torn ∙ ap (λ (n : ℕ). length c.args.file.now - n) (sym is))
+    c.of_recovered.ensures.len c.of_recovered.ensures.torn
 
 pub returns-in-Ok-clause-only : goal.returns-in-Ok-clause-only
 returns-in-Ok-clause-only c saved events h =

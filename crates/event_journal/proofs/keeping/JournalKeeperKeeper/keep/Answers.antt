@@ -3,6 +3,7 @@ use Rattle.head.specs.Blocks.{opening_of}
 use Rattle.head.specs.Heads.{world_of}
 use Rattle.event_journal.specs.declared.keep.EventJournal.{EventJournal}
 use Rattle.event_journal.proofs.Keepers.{finds_some, not_refused, says_closed, told_closed}
+use Rattle.event_journal.proofs.Keepers.{told_failed, told_full}
 use Rattle.event_journal.proofs.keeping.JournalKeeperKeeper.keep.Goals as goal
 
 pub append-requires-clause-held : goal.append-requires-clause-held
@@ -49,3 +50,12 @@ returns-in-Err-clause-closed g c t =
 pub returns-in-Err-clause-told : goal.returns-in-Err-clause-told
 returns-in-Err-clause-told g c said =
     told_closed c.in-Err.error c.keep_error.result c.keep_error.ensures said c.in-Err.ensures.told
+
+pub returns-in-Err-clause-full : goal.returns-in-Err-clause-full
+returns-in-Err-clause-full g c said =
+    told_full c.in-Err.error c.keep_error.result c.keep_error.ensures said c.in-Err.ensures.size
+
+pub returns-in-Err-clause-failed : goal.returns-in-Err-clause-failed
+returns-in-Err-clause-failed g c said =
+    told_failed c.in-Err.error c.keep_error.result c.keep_error.ensures c.in-Err.ensures.other said
+    c.in-Err.ensures.medium

@@ -1,7 +1,7 @@
 use Rattle.std.proofs.Common.{◌≡◌, true, false, inl, sym, ◌∙◌}
 use Rattle.store_folder.specs.KeeperLaws.{open_head}
 use Rattle.store_folder.proofs.Kept.{last_kept, store_finds, store_more, store_stays}
-use Rattle.event_journal.proofs.Keepers.{told_closed}
+use Rattle.event_journal.proofs.Keepers.{told_closed, told_failed, told_full}
 use Rattle.head_record.specs.Spelling.{head_texts}
 use Rattle.store_folder.proofs.keeping.StoreKeeperKeeper.keep.Goals as goal
 
@@ -97,3 +97,12 @@ returns-then-self-clause-err g c events held = held
 pub returns-then-self-clause-any_moment : goal.returns-then-self-clause-any_moment
 returns-then-self-clause-any_moment g c events more held s opened =
     absurd (let a : true ≡ false = sym c.if-self.true ∙ opened in cc)
+
+pub returns-in-Err-clause-full : goal.returns-in-Err-clause-full
+returns-in-Err-clause-full g c said =
+    told_full c.in-Err.error c.keep_error.result c.keep_error.ensures said c.in-Err.ensures.size
+
+pub returns-in-Err-clause-failed : goal.returns-in-Err-clause-failed
+returns-in-Err-clause-failed g c said =
+    told_failed c.in-Err.error c.keep_error.result c.keep_error.ensures c.in-Err.ensures.other said
+    c.in-Err.ensures.medium
