@@ -87,7 +87,7 @@ loop-block-preserved g c =
             (rewritten_joined (map part_in (take i blocks)) parts (part_in b ∷ []) (made.0 ∷ [])
             l.invariant.blocks.1 (made.1, tt)),
         subst (λ (ps : List Place). AreAt f.shows f.kept ps (parts ++ made.0 ∷ [])
-        c.write_block.new.folder) (sym next)
+            c.write_block.new.folder) (sym next)
             (at_joined f.shows f.kept old (place ∷ []) parts (made.0 ∷ []) c.write_block.new.folder
             lie made.2),
       );
