@@ -1,6 +1,6 @@
 -- A store that goes on, and one that begins.
 use Rattle.std.proofs.Common.{◌≡◌, ℕ, zero, suc, ◌≤◌, Bool, true, false, List, [], ◌++◌, Option}
-use Rattle.std.proofs.Common.{None, Some, length, take, Result, Ok, Err, refl, sym, ap, subst, ◌∙◌}
+use Rattle.std.proofs.Common.{None, Some, length, take, Result, Ok, Err, refl, sym, ap, subst, subst₂, ◌∙◌}
 use Rattle.std.proofs.Common.{inl, inr, ⊎_elim, ℤ, Vec, arith}
 use Rattle.std.specs.declared.alloc.Global.{Global}
 use Rattle.std.specs.Prelude.{IfOk, IfErr}
@@ -20,7 +20,7 @@ use Rattle.head.specs.Refusals.{Refusal}
 use Rattle.head.specs.Resuming.{Denies, MayStand, resumed}
 use Rattle.head.specs.Worlds.{Event, World, replayed}
 use Rattle.head.specs.declared.error.ResumeError.{ResumeError}
-use Rattle.head_record.specs.Saved.{Saved}
+use Rattle.head_record.specs.Saved.{Place, Saved}
 use Rattle.head_record.specs.Spelling.{head_texts, IsSaved}
 use Rattle.head_record.proofs.Worlds.{in_front}
 use Rattle.journal.specs.declared.error.JournalError.{JournalError}
@@ -32,9 +32,10 @@ use Rattle.keeper.specs.Finding.{IsOfAll, IsOfAllAndSome}
 use Rattle.store_folder.specs.declared.error.StartError.{StartError}
 use Rattle.store_folder.specs.declared.journals.FoundJournal.{FoundJournal}
 use Rattle.store_folder.specs.Finding.{IsFoundStore}
-use Rattle.store_folder.specs.Holding.{FoundSince, HoldsAfterHead}
+use Rattle.store_folder.specs.Holding.{FoundSince, HoldsAfterHead, HoldsAt}
 use Rattle.store_folder.specs.Kinds.{has_deletion}
-use Rattle.store_folder.specs.Starting.{BeginsWith, DeniesStart, IsNoneOrNothing, IsRefusedEvent}
+use Rattle.store_folder.specs.Starting.{BeginsWith, DeniesStart, GoesOn, IsNoneOrNothing}
+use Rattle.store_folder.specs.Starting.{IsRefusedEvent}
 use Rattle.store_folder.specs.Starting.{StartFinds}
 use Rattle.store_folder.specs.Starting.{nothing_saved}
 use Rattle.store_folder.specs.States.{HasWorld, started}
@@ -290,3 +291,20 @@ module _ {F : Type 0} (shows : F → List ℕ → Option (List ℕ) → Type 0)
         });
     blocks = tt;
   }
+
+  -- a store that begins goes on
+  pub begun_goes_on : (first : World) (m : JournalFile F) (len : ℕ) (closed : Bool)
+      (events : List Event) (head : Saved) (s : SnapshotParts) → first ≡ world_of (opening_of [])
+      → s ≡ opening_of [] → events ≡ [] → head ≡ nothing_saved → closed ≡ false
+      → HoldsAt shows kept sound moment left_since first m len closed [] [] []
+      → GoesOn shows kept sound moment left_since first m len closed events head.places [] s
+  begun_goes_on first m len closed events head s begins is none nothing opened at =
+      let whole : GoesOn shows kept sound moment left_since first m len closed [] [] [] s = record {
+        world = ap fine (begins ∙ ap world_of (sym is));
+        holds = at;
+        is_open = opened;
+        front = λ none. ([], ap (λ (x : SnapshotParts). x.blocks) is);
+      } in
+      subst₂ (λ (es : List Event) (ps : List Place).
+      GoesOn shows kept sound moment left_since first m len closed es ps [] s) (sym none)
+      (ap (λ (h : Saved). h.places) (sym nothing)) whole

@@ -20,7 +20,7 @@ ghost use Rattle.store_folder.specs.Starting.{nothing_saved};
 
 use crate::error::{ReadError, StartError};
 use crate::journals::FoundJournal;
-use crate::starting::nothing;
+use crate::starting::{no_memory, nothing};
 use data_folder::{Folder, change_journal};
 use event_journal::read_events;
 use event_text::TextError;
@@ -95,13 +95,6 @@ fn with_head(alloc: Global, contents: Vec<Vec<u8>>) -> Result<Vec<Vec<u8>>, Allo
     let mut all = head_contents(alloc, &nothing(alloc))?;
     all.append(&mut rest)?;
     Ok(all)
-}
-
-/// That no memory is left for a journal.
-fn no_memory() -> StartError
-    ensures { result ≡ Journal (Records NoRecord) }
-{
-    StartError::Journal(ReadError::Journal(JournalError::Memory))
 }
 
 /// The text of the journal that has the head of a store that has nothing, and then these contents.

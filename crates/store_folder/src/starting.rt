@@ -7,6 +7,7 @@ ghost use Rattle.data_folder.specs.JournalFile.{journal_name};
 ghost use Rattle.head.specs.Blocks.{opening_of, part_in};
 ghost use Rattle.head.specs.Heads.{BlockPart, world_of};
 ghost use Rattle.head.specs.Worlds.{replayed};
+ghost use Rattle.journal.specs.declared.error.JournalError.TheVariants.{Memory as NoRecord};
 ghost use Rattle.store_folder.specs.Codes.{cause_of};
 ghost use Rattle.store_folder.specs.Finding.{IsFoundStore};
 ghost use Rattle.store_folder.specs.Holding.{HoldsAt, HoldsStore};
@@ -16,7 +17,9 @@ ghost use Rattle.store_folder.specs.Starting.{IsNoneOrNothing, IsNoRefusal, IsRe
 ghost use Rattle.store_folder.specs.Starting.{StartFinds, nothing_saved};
 ghost use Rattle.store_folder.specs.Refusals.{IsRefusal};
 ghost use Rattle.store_folder.specs.States.{HasWorld, started};
+ghost use Rattle.store_folder.specs.declared.error.ReadError.TheVariants.{Journal as Records};
 ghost use Rattle.store_folder.specs.declared.error.StartCause.TheVariants.{Refused};
+ghost use Rattle.store_folder.specs.declared.error.StartError.TheVariants.{Journal};
 
 use crate::error::{ReadError, StartError};
 use crate::heads::head_journal;
@@ -26,9 +29,9 @@ use crate::reading::FoundStore;
 use block::Block;
 use data_folder::{Folder, JournalFile, begin};
 use event_journal::EventJournal;
-use head::{Event, RefusedEvent, ResumeError, Snapshot, apply};
+use head::{Event, RefusedEvent, Snapshot, apply};
 use head_record::HeadRecord;
-use journal::MediumError;
+use journal::{JournalError, MediumError};
 use labels::MIN_TIME;
 use std::alloc::Global;
 use std::marker::PhantomData;
@@ -81,6 +84,13 @@ fn snapshot_of(
     }
 }
 
+/// That no memory is left for a journal.
+pub(crate) fn no_memory() -> StartError
+    ensures { result ≡ Journal (Records NoRecord) }
+{
+    StartError::Journal(ReadError::Journal(JournalError::Memory))
+}
+
 /// What is saved of a store that has nothing.
 pub(crate) fn nothing(alloc: Global) -> HeadRecord
     ensures { result ≡ nothing_saved }
@@ -104,10 +114,12 @@ impl<N: Beginning, F: Folder + Drop> StoreKeeper<N, F> {
             (λ k. LeavesOnly F.moment F.left_since folder k.events.journal.medium.folder
             IsNoneOrNothing)
             (λ e. LeavesOnly F.moment F.left_since folder e.1 IsNoneOrNothing) }
+        // What fails is memory or the folder.
+        ensures refused { IfErr result (λ e. IsNoRefusal e.0) }
     {
         let text = match head_journal(alloc, &nothing(alloc)) {
             Ok(text) => text,
-            Err(error) => return Err((StartError::Journal(ReadError::Journal(error)), folder)),
+            Err(_) => return Err((no_memory(), folder)),
         };
         match begin(folder, &text) {
             Ok(journal) => Ok(StoreKeeper {
@@ -167,7 +179,7 @@ pub fn begin_store<N: Beginning, F: Folder + Drop>(
 {
     let snapshot = match Snapshot::opening(alloc, Vec::new(alloc)) {
         Ok(snapshot) => snapshot,
-        Err(_) => return Err((StartError::Head(ResumeError::Memory), folder)),
+        Err(_) => return Err((no_memory(), folder)),
     };
     match StoreKeeper::create(alloc, folder) {
         Ok(keeper) => {
