@@ -60,7 +60,14 @@ fn write_files<F: Folder>(
     ensures stays { KeepsStore F.shows F.kept F.sound F.moment F.left_since
         (names_in kept.old.items) folder.old folder.new }
 {
-    write_in(alloc, folder, kept, number, "meta.json", files.meta.as_bytes())?;
+    write_in(
+        alloc,
+        folder,
+        kept,
+        number,
+        "meta.json",
+        files.meta.as_bytes(),
+    )?;
     write_in(alloc, folder, kept, number, "index", &files.index)?;
     write_in(alloc, folder, kept, number, "chunks/000001", &files.chunks)?;
     write_in(alloc, folder, kept, number, "tombstones", &files.tombstones)
