@@ -1,12 +1,8 @@
 -- What is wrong with the folder of a store, whatever folder it is.
-use Rattle.std.proofs.Common.{◌≡◌, inl, inr, ⊎_elim, ◌⊎◌, ℕ, Bool, true, List, [], ◌∷◌, ◌++◌, Option, refl}
+use Rattle.std.proofs.Common.{◌≡◌, inl, inr, ℕ, Bool, List, [], ◌∷◌, ◌++◌, Option, refl}
 use Rattle.std.proofs.Common.{arith, subst, suc, sym}
 use Rattle.std.specs.List.{Contains}
-use Rattle.block.specs.Outcome.{Fails}
-use Rattle.data_folder.specs.Folders.{HasFile}
 use Rattle.head.specs.Heads.{BlockPart}
-use Rattle.head.specs.declared.error.ResumeError.{ResumeError}
-use Rattle.head.specs.declared.error.ResumeError.TheVariants as resume
 use Rattle.head_record.specs.Saved.{Place}
 use Rattle.store_folder.specs.declared.error.BlockFault.{BlockFault}
 use Rattle.store_folder.specs.declared.error.BlockFault.TheVariants as faults
@@ -20,7 +16,7 @@ use Rattle.store_folder.specs.Faults.{DeniesBlock, DeniesOne, DeniesStore}
 use Rattle.store_folder.specs.Finding.{IsFoundStore}
 use Rattle.store_folder.specs.Holding.{AreAt}
 use Rattle.store_folder.specs.Plain.{DeniesAdopting}
-use Rattle.store_folder.specs.Refusals.{AreSpelled, IsFileFault, IsNumberOf, IsRefusal}
+use Rattle.store_folder.specs.Refusals.{AreSpelled, IsFileFault, IsRefusal}
 use Rattle.store_folder.specs.Starting.{DeniesStart}
 
 abbrev the : StartCause → StartCause

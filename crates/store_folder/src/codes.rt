@@ -232,7 +232,10 @@ impl fmt::Display for StartError {
             StartError::Block(unread) => write!(f, "{unread}"),
             StartError::Head(ResumeError::Memory) => write!(f, "no memory"),
             StartError::Head(ResumeError::Unsound) => {
-                write!(f, "J17: no snapshot has this floor, these blocks and these series")
+                write!(
+                    f,
+                    "J17: no snapshot has this floor, these blocks and these series"
+                )
             }
             StartError::Event(RefusedEvent { at, error }) => {
                 write!(f, "J18: the event after {at} events is refused: {error}")

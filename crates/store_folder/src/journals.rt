@@ -65,11 +65,7 @@ fn read_contents(alloc: Global, contents: &[Vec<u8>]) -> Result<(HeadRecord, Vec
 }
 
 /// The head and the events of a file of so many bytes, of which these contents were recovered.
-fn of_recovered(
-    alloc: Global,
-    recovered: Recovered,
-    size: usize,
-) -> Result<FoundJournal, ReadError>
+fn of_recovered(alloc: Global, recovered: Recovered, size: usize) -> Result<FoundJournal, ReadError>
     ensures found { IfOk result (λ j.
         AreContents (contents_in recovered.contents.items) j.head j.events.items) }
     ensures len { IfOk result (λ j. j.len ≡ recovered.len) }

@@ -1,4 +1,4 @@
-use Rattle.std.proofs.Common.{List, inr, subst, sym}
+use Rattle.std.proofs.Common.{inr, subst, sym}
 use Rattle.event_journal.specs.Holding.{contents_with}
 use Rattle.head_record.specs.Spelling.{head_texts}
 use Rattle.journal.specs.Group.{IsJournalText}

@@ -1,7 +1,7 @@
-use Rattle.std.proofs.Common.{◌≡◌, ◌<◌, ◌≤◌, ◌∙◌, List, false, length, take, refl, sym, ap, subst, arith}
+use Rattle.std.proofs.Common.{◌<◌, ◌∙◌, length, refl, sym, ap, arith}
 use Rattle.std.proofs.lemmas.List.{take_all}
 use Rattle.head.specs.Heads.{world_of}
-use Rattle.head.specs.Worlds.{Event, replayed}
+use Rattle.head.specs.Worlds.{replayed}
 use Rattle.head.proofs.Replays.{replayed_more, refuses_at}
 use Rattle.store_folder.specs.Kinds.{has_deletion}
 use Rattle.store_folder.proofs.Fronts.{all_in_front, next_in_front}
