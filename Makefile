@@ -9,7 +9,7 @@ TESTS_OF := selection_tests:labels,pages,matchers,postings \
 	file_tests:wire,index_reader,chunk_reader,tombstones,block,block_writer,xor_reader,doubles,decimal_text,prometheus_block \
 	store_tests:head,history,snapshots,cover,block_search,series_merge,answers,kept_selectors,requests,query_http,server,commands,querier,auditor,audit_command,audit_laws,auditor_program,journal,event_text \
 	tests/serving:guard \
-	tests/durable:keeper,event_journal \
+	tests/durable:keeper,event_journal,due_cuts,data_folder,block_rewriter,head_record,store_folder \
 	tests/scraping:metrics_text \
 	tests/importing:imported_values,time_cuts,block_folder,block_outputs,open_metrics,metrics_writer,exposition,blocktool_command,blocktool \
 	tests/pages-html:page_layout,page_style,page_text,page_claims,page_marks,page,explain_command,explain

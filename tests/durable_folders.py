@@ -23,13 +23,18 @@ def one_server(looks, querier, work):
     held = tree(folder)
     other = Server(querier, "--data", folder)
     other.wait()
-    looks.at("a second server", (3, f"cannot lock {folder}: another process has it (see the file lock there)"),
-             (other.end(), other.told))
+    looks.at("a second server", (3, f"cannot lock {folder}: process {server.process.pid} has it"), (other.end(), other.told))
     looks.at("what the second one changed", held, tree(folder))
     status, out, _ = run([querier, "journal", folder])
     looks.at("journal beside a server", (0, ["head: floor -4611686018427387904, 0 blocks, 0 series, 0 samples",
                                              "1 batch 1 samples of 1 series, 1 to 1"]), (status, out.splitlines()[:2]))
     looks.at("the first one goes on", OK, server.tell(up((2, 2))))
+    with open(f"{folder}/lock", "wb"):
+        pass
+    other = Server(querier, "--data", folder)
+    other.wait()
+    looks.at("a second server, if the lock names none", (3, f"cannot lock {folder}: another process has it (see the file lock there)"),
+             (other.end(), other.told))
     server.end(signal.SIGTERM)
     server = Server(querier, "--data", folder)
     looks.that("a server after it", server.wait(), server.told)
@@ -44,9 +49,11 @@ def at_once(looks, querier, work):
         servers = [Server(querier, "--data", folder) for _ in range(6)]
         serving = [server for server in servers if server.wait()]
         looks.at("servers that have the folder, of six at once", 1, len(serving))
-        held = f"cannot lock {folder}: another process has it"
-        others = [(server.ended(), server.told.split(" (")[0]) for server in servers if server not in serving]
-        looks.at("the others", [(3, held)] * 5, others)
+        # who has it is named as soon as it has written its number
+        held = [f"cannot lock {folder}: {who} has it" for who in
+                ["another process", *(f"process {server.process.pid}" for server in serving)]]
+        others = [(server.ended(), server.told.split(" (")[0] in held) for server in servers if server not in serving]
+        looks.at("the others", [(3, True)] * 5, others)
         for server in serving[:1]:
             looks.at("a write to the one", OK, server.tell(up((1, 1))))
         for server in serving:

@@ -1,7 +1,7 @@
 //! A block written anew: by its rows, without what is deleted of it.
 //!
-//! [`rewrite`] gives the four files of a block that covers the same times and has exactly the rows of
-//! a given block that have a sample. So no deletion is left, and no series without samples; the
+//! [`rewrite`] gives the four files of a block that covers the same times and has exactly the rows
+//! of a given block that have a sample. So no deletion is left, and no series without samples; the
 //! samples are the same (`full_rows_have_all`). The files are those of [`block_writer::write`], and
 //! `Range::read_meta` and `Block::open` accept them.
 //!

@@ -1,6 +1,6 @@
 -- Why a store is not served.
 use Rattle.std.proofs.Common.{◌≡◌, ℕ, List, map, refl, sym, subst, Option, None, Some, Result, Ok}
-use Rattle.std.proofs.Common.{Err, IfErr, OnOk}
+use Rattle.std.proofs.Common.{Err, IfErr, OnOk, min, arith}
 use Rattle.std.specs.Borrow.{Bor}
 use Rattle.std.specs.List.{All}
 use Rattle.std.proofs.lemmas.List.Elements.{All-map}
@@ -17,14 +17,30 @@ use Rattle.commands.specs.Guarding.{AreRulesOf}
 use Rattle.commands.specs.Reading.{Host}
 use Rattle.commands.specs.ServingRuns.{IsStoreFault, IsLateFault, IsDirectoriesFault, IsFaultOf}
 use Rattle.commands.specs.ServingRuns.{IsKeepingFault, IsListening, IsServeFault, IsServing}
-use Rattle.commands.specs.ServingRuns.{TellsOf, TellsPort, by_store, passes_of}
+use Rattle.commands.specs.ServingRuns.{TellsOf, TellsPort, by_store, passes_of, seats_of}
 use Rattle.commands.specs.declared.command.Serving.{Serving}
 use Rattle.commands.specs.declared.fault.Fault.{Fault}
 use Rattle.commands.specs.declared.fault.Fault.TheVariants.{CannotListen}
 
+-- for as many passes and seats as there is room for, as many are counted as there are to be
+pub room_counted : (passes seats p s : ℕ) → passes ≡ min p 18446744073709551615
+    → seats ≡ min s 18446744073709551615 → IsRoom p s → IsRoom passes seats
+room_counted passes seats p s is_p is_s room = (
+  omega (arith, is_p, is_s, room.0),
+  omega (arith, is_p, is_s, room.1),
+  omega (arith, is_p, is_s, room.2),
+  omega (arith, is_p, is_s, room.3),
+)
+
+-- of seats for which there is room, none was left out when they were counted
+pub seats_counted : (passes seats opened s : ℕ) → seats ≡ min s 18446744073709551615
+    → opened ≡ seats → IsRoom passes seats → opened ≡ s
+seats_counted passes seats opened s is same room = omega (arith, is, same, room.3)
+
 -- a store that is not opened
 pub not_opened : (serving : Serving) (e : OpenError)
-    → (e ≡ store.BadPasses → ¬ IsRoom (passes_of serving) serving.workers) → (e ≡ store.Limit → ⊥)
+    → (e ≡ store.BadPasses → ¬ IsRoom (passes_of serving) (seats_of serving))
+    → (e ≡ store.Limit → ⊥)
     → IsStoreFault serving (open_fault e)
 not_opened serving store.BadPasses few many = few refl
 not_opened serving store.Limit few many = absurd (many refl)

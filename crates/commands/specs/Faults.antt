@@ -34,6 +34,8 @@ use Rattle.commands.specs.declared.fault.Fault.TheVariants.{Words, Refused, Cann
 use Rattle.commands.specs.declared.fault.Fault.TheVariants.{CannotWriteAt, Locked}
 use Rattle.commands.specs.declared.fault.Fault.TheVariants.{CannotListen, Memory}
 use Rattle.commands.specs.declared.fault.Fault.TheVariants.{NoListener, NoThread}
+use Rattle.commands.specs.declared.fault.Holder.{Holder}
+use Rattle.commands.specs.declared.fault.Holder.TheVariants.{Process, Another}
 use Rattle.commands.specs.declared.fault.Refusal.{Refusal}
 use Rattle.commands.specs.declared.fault.Refusal.TheVariants.{Labels, Matcher, Selector, Query}
 use Rattle.commands.specs.declared.fault.Refusal.TheVariants.{Commit, Block, Open, Snapshot}
@@ -108,6 +110,11 @@ status_of NoListener = 3
 status_of NoThread = 3
 status_of Memory = 4
 
+-- who has locked a folder, for people
+abbrev pub holder_text : Holder → List ℕ
+holder_text (Process number) = codes "process " ++ decimal number ++ codes " has it"
+holder_text Another = codes "another process has it (see the file lock there)"
+
 -- what is told of the fault, for people; the text of the words is `clap`'s own
 abbrev pub fault_text : Fault → Option (List ℕ)
 fault_text (Words error) = None
@@ -116,8 +123,7 @@ fault_text (CannotRead path) = Some (codes "cannot read " ++ string_bytes path)
 fault_text CannotWrite = Some (codes "cannot write")
 fault_text (CannotWriteAt path) = Some (codes "cannot write " ++ string_bytes path)
 fault_text (Locked folder holder) =
-    Some (codes "cannot lock " ++ string_bytes folder
-    ++ codes ": another process has it (see the file lock there)")
+    Some (codes "cannot lock " ++ string_bytes folder ++ codes ": " ++ holder_text holder)
 fault_text (CannotListen port) = Some (codes "cannot listen on 127.0.0.1:" ++ decimal port)
 fault_text NoListener = Some (codes "there is no listener any more")
 fault_text NoThread = Some (codes "cannot make a thread")

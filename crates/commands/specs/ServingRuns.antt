@@ -59,9 +59,13 @@ TellsOf (Some folder) reads serving directories old new = IsKeeping reads servin
 abbrev pub IsServing : Host → Serving → List (List ℕ) → Option (List ℕ) → Option (List ℕ) → Type 0
 IsServing reads serving directories old new = TellsOf serving.folder reads serving directories old new
 
--- how many passes there are: one for each worker, and one for those that watch
+-- how many seats there are: one for each worker, and one for the cuts of the server itself
+abbrev pub seats_of : Serving → ℕ
+seats_of serving = if serving.cut_every == 0 then serving.workers else serving.workers + 1
+
+-- how many passes there are: one for each seat, and one for those that watch
 abbrev pub passes_of : Serving → ℕ
-passes_of serving = if serving.status_port == 0 then serving.workers else serving.workers + 1
+passes_of serving = if serving.status_port == 0 then seats_of serving else seats_of serving + 1
 
 -- why those that watch are not answered: their port cannot be listened on
 abbrev pub IsWatchFault : Serving → Fault → Type 0
@@ -69,11 +73,12 @@ IsWatchFault serving (CannotListen port) =
     (0 < serving.status_port) × (port ≡ serving.status_port)
 IsWatchFault serving other = ⊥
 
--- why a store over blocks is not served: there are not 1 to 64 workers (63 if they are watched),
--- the store has no room for so many readers, the port cannot be listened on, or memory or the
--- writer failed
+-- why a store over blocks is not served: there are not 1 to 64 workers (fewer by one if they are
+-- watched, and by one if the server cuts by itself), the store has no room for so many readers, the
+-- port cannot be listened on, or memory or the writer failed
 abbrev pub IsStoreFault : Serving → Fault → Type 0
-IsStoreFault serving (Refused (Open store.BadPasses)) = ¬ IsRoom (passes_of serving) serving.workers
+IsStoreFault serving (Refused (Open store.BadPasses)) =
+    ¬ IsRoom (passes_of serving) (seats_of serving)
 IsStoreFault serving (Refused (Open store.Unavailable)) = Unit {0}
 IsStoreFault serving (CannotListen port) = port ≡ serving.port
 IsStoreFault serving CannotWrite = Unit {0}

@@ -47,6 +47,8 @@ pub struct Serving<'a> {
     pub idle_seconds: u64,
     /// The port of 127.0.0.1 for those that ask how the server stands; 0 for none.
     pub status_port: u64,
+    /// At multiples of how many milliseconds the server cuts by itself; 0 for never.
+    pub cut_every: u64,
     /// Whether there is no `POST`.
     pub read_only: bool,
     /// The file with the token of each `POST`, if requests are guarded.
@@ -160,6 +162,9 @@ const IDLE: &str = "For how many seconds a client may be silent; 0 for ever [def
 const STATUS_PORT: &str =
     "A port of 127.0.0.1 with GET /metrics, /healthy and /ready, 1 to 65535 [default: none]";
 
+const CUT_EVERY: &str =
+    "Cuts by itself at multiples of so many milliseconds, 1 to 2^62 - 1 [default: never]";
+
 const READ_ONLY: &str = "Has no POST: what is served does not change";
 
 const GUARD: &str = "The file with a token that each POST has to bear, readable by its owner alone";
@@ -231,7 +236,13 @@ the file, save an end of a line; and each request that has an `Origin`, or whose
 127.0.0.1, localhost or [::1], is refused with H12. With --read-only, a POST is of no path (H3).
 
 With --status-port, a second listener answers GET /metrics in the text format of Prometheus, GET
-/healthy, and GET /ready, which is 503 until the blocks are open. Then 64 workers are refused (O2).
+/healthy, and GET /ready, which is 503 until the blocks are open.
+
+With --cut-every MS, the server cuts by itself, as by POST /cut, at multiples of MS milliseconds: as
+soon as a sample half of MS later, or later still, is committed, at the last multiple of which that
+is so. If a cut is refused, standard error says `cannot cut at T: CODE`, and a later one is tried.
+
+A status port, and cuts, each take the room of one worker of 64: more are refused (O2).
 
 Exit status: 0 each worker has ended; 1 the directories are refused, as by `select`, or the journal
 is; 2 a fault of the words; 3 a file cannot be read or written, another process has the folder
@@ -239,6 +250,9 @@ locked, a port cannot be listened on, the line cannot be written, a thread canno
 listener is gone; 4 no memory
 
 Example: querier serve --port 8080 data/0001 data/0002"#;
+
+/// The most milliseconds between cuts: the greatest time.
+const LONGEST: u64 = 4_611_686_018_427_387_903;
 
 /// An option `--NAME VALUE` with a text.
 fn text<'a>(alloc: Global, name: &'a str, value: &'a str, help: &'a str) -> Arg<'a>
@@ -359,18 +373,26 @@ fn check<'a>(alloc: Global) -> Result<Command<'a>, AllocError>
         .arg(blocks(alloc))
 }
 
-/// The options of `serve` with a number.
-fn counts<'a>(alloc: Global) -> Result<Command<'a>, AllocError>
-    ensures { IfOk result (λ command. app_of command ≡ counts_app) }
+/// `serve`, without its options.
+fn bare_serve<'a>(alloc: Global) -> Command<'a>
+    ensures { app_of result ≡ new_app (codes "serve") }
 {
     Command::new(alloc, "serve")
         .about("Serves a store over blocks to HTTP clients of this machine")
         .after_help(SERVES)
+}
+
+/// The options of `serve` with a number.
+fn counts<'a>(alloc: Global) -> Result<Command<'a>, AllocError>
+    ensures { IfOk result (λ command. app_of command ≡ counts_app) }
+{
+    bare_serve(alloc)
         .arg(port(alloc))?
         .arg(count(alloc, "workers", "W", (1, 64), WORKERS))?
         .arg(count(alloc, "requests", "N", (0, u64::MAX), REQUESTS))?
         .arg(count(alloc, "idle-seconds", "S", (0, u32::MAX as u64), IDLE))?
         .arg(count(alloc, "status-port", "P", (1, 65535), STATUS_PORT))?
+        .arg(count(alloc, "cut-every", "MS", (1, LONGEST), CUT_EVERY))?
         .arg(count(alloc, "journal-mb", "MB", (1, 1048576), JOURNAL_MB))
 }
 
@@ -504,6 +526,7 @@ fn serving_in<'a>(found: &ArgMatches<'a>) -> Serving<'a>
     let requests = count_in(found, "requests", u64::MAX);
     let idle_seconds = count_in(found, "idle-seconds", 30);
     let status_port = count_in(found, "status-port", 0);
+    let cut_every = count_in(found, "cut-every", 0);
     let journal_mb = count_in(found, "journal-mb", 64);
     Serving {
         port,
@@ -511,6 +534,7 @@ fn serving_in<'a>(found: &ArgMatches<'a>) -> Serving<'a>
         requests,
         idle_seconds,
         status_port,
+        cut_every,
         read_only: flag_in(found, "read-only"),
         guard: given_in(found, "guard"),
         folder: given_in(found, "data"),

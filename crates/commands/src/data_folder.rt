@@ -4,7 +4,7 @@ ghost use Rattle.std.specs.Prelude.{◌≡◌, ◌++◌, codes, decimal, string_
 ghost use Rattle.commands.specs.Keeping.{path_in, IsFolderFault};
 ghost use Rattle.commands.specs.Keeping.{IsWriteFault, IsReadFault};
 
-use crate::fault::Fault;
+use crate::fault::{Fault, Holder};
 use crate::process::number_in;
 use std::alloc::{AllocError, Global};
 use std::fs::{self, File, OpenOptions, TryLockError};
@@ -14,8 +14,8 @@ use std::process;
 /// Why a folder is not locked.
 #[derive(Clone, Copy, Debug, PartialEq, Eq, Drop)]
 enum LockError {
-    /// The process with this number has it, if the number is known.
-    Held(Option<u64>),
+    /// Another process has it.
+    Held(Holder),
     /// The lock file can't be opened.
     Failed,
 }
@@ -68,25 +68,31 @@ fn sync_folder(host: &HostRuntime, folder: &str) -> io::Result<()> {
     File::open(host, folder)?.sync_all()
 }
 
-/// Makes a folder where nothing stands, and syncs the one that it stands in, whoever made it: a
-/// start that made it may have ended before that.
+/// Makes a folder if nothing stands there, and syncs the one that it stands in, whoever made it: a
+/// start that made it may have ended before that. If it was there, nothing fails by that sync,
+/// since whoever may pass the folder above may not always open it.
 fn make_folder(host: &HostRuntime, folder: &str) -> io::Result<()> {
-    if !fs::exists(host, folder)? {
-        fs::create_dir(host, folder)?;
+    let stood = match fs::create_dir(host, folder) {
+        Ok(()) => false,
+        Err(error) if error.kind() == ErrorKind::AlreadyExists => true,
+        Err(error) => return Err(error),
+    };
+    match sync_folder(host, parent_of(folder)) {
+        Err(error) if !stood => Err(error),
+        _ => Ok(()),
     }
-    sync_folder(host, parent_of(folder))
 }
 
-/// The number of the process that a lock file names, if it names one.
-fn holder_in(file: &File) -> Option<u64> {
+/// The process that a lock file names, if it names one.
+fn holder_in(file: &File) -> Holder {
     let mut text = [0u8; 20];
     let mut reader = file;
     if reader.read(&mut text).is_err() {
-        return None;
+        return Holder::Another;
     }
     match number_in(&text) {
-        0 => None,
-        number => Some(number),
+        0 => Holder::Another,
+        number => Holder::Process(number),
     }
 }
 

@@ -92,6 +92,29 @@ impl fmt::Display for Refusal {
 
 impl Error for Refusal {}
 
+/// Who has locked a folder.
+#[derive(Clone, Copy, Debug, PartialEq, Eq, Drop)]
+pub enum Holder {
+    /// The process with this number.
+    Process(u64),
+    /// A process whose number is not known.
+    Another,
+}
+
+impl fmt::Display for Holder {
+    ghost use Rattle.std.specs.Prelude.{Some};
+    ghost use Rattle.commands.specs.Faults.{holder_text};
+
+    ghost output = { λ holder. Some (holder_text holder) };
+
+    fn fmt<W: fmt::Write>(&self, f: &mut fmt::Formatter<W>) -> fmt::Result {
+        match self {
+            Holder::Process(number) => write!(f, "process {number} has it"),
+            Holder::Another => write!(f, "another process has it (see the file lock there)"),
+        }
+    }
+}
+
 /// Why the program ends before it is done.
 #[derive(Debug, Drop)]
 pub enum Fault {
@@ -105,8 +128,8 @@ pub enum Fault {
     CannotWrite,
     /// What stands at this path cannot be written.
     CannotWriteAt(String),
-    /// Another process has locked this folder: the one with this number, if it is known.
-    Locked(String, Option<u64>),
+    /// Another process has locked this folder.
+    Locked(String, Holder),
     /// This port of 127.0.0.1 cannot be listened on.
     CannotListen(u64),
     /// The listener of a server is gone.
@@ -159,12 +182,7 @@ impl fmt::Display for Fault {
             Fault::CannotRead(path) => write!(f, "cannot read {path}"),
             Fault::CannotWrite => write!(f, "cannot write"),
             Fault::CannotWriteAt(path) => write!(f, "cannot write {path}"),
-            Fault::Locked(folder, _) => {
-                write!(
-                    f,
-                    "cannot lock {folder}: another process has it (see the file lock there)"
-                )
-            }
+            Fault::Locked(folder, holder) => write!(f, "cannot lock {folder}: {holder}"),
             Fault::CannotListen(port) => write!(f, "cannot listen on 127.0.0.1:{port}"),
             Fault::NoListener => write!(f, "there is no listener any more"),
             Fault::NoThread => write!(f, "cannot make a thread"),

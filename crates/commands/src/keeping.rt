@@ -22,7 +22,7 @@ use crate::data_folder::{block_path_in, cannot_read, cannot_write, lock_data, pa
 use crate::fault::{Fault, Refusal};
 use crate::files::ReadFiles;
 use crate::process::Process;
-use crate::serve::{counts_of, passes_of, serve_workers, watch_at};
+use crate::serve::{counts_of, passes_of, seats_of, serve_workers, watch_at, with_cuts};
 use data_folder::{Folder, HostFolder, RollError};
 use guard::Rules;
 use server::{Shift, Workers, report_opening};
@@ -423,12 +423,13 @@ fn serve_kept<
         journal,
     } = kept;
     drop(journal);
-    let count = serving.workers as usize;
+    let seats = seats_of(serving);
     let passes = passes_of(serving);
     let found = (snapshot, keeper);
-    let workers = Workers::<J, &R, StoreKeeper<N, H>>::resume(
-        rt, alloc, store, found, passes, count,
+    let opened = Workers::<J, &R, StoreKeeper<N, H>>::resume(
+        rt, alloc, store, found, passes, seats,
     )?;
+    let workers = with_cuts(opened, serving);
     serve_workers(rt, alloc, files, workers, rules, beside, serving, out)
 }
 

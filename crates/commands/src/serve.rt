@@ -1,6 +1,6 @@
 //! The server: a store, and its workers.
 
-ghost use Rattle.std.specs.Prelude.{◌≡◌, ◌≤◌, length, map, string_bytes, vec_len};
+ghost use Rattle.std.specs.Prelude.{◌≡◌, ◌≤◌, min, length, map, string_bytes, vec_len};
 ghost use Rattle.std.specs.Prelude.{◌*◌, IfOk, IfErr, IfSome, IfNone, OnOk};
 ghost use Rattle.std.specs.Duration.{as_nanos};
 ghost use Rattle.std.specs.List.{All};
@@ -10,6 +10,7 @@ ghost use Rattle.commands.specs.Selecting.{KeepsAt};
 ghost use Rattle.commands.specs.ServingRuns.{listening_line, TellsPort, IsListening, IsServing};
 ghost use Rattle.commands.specs.ServingRuns.{IsStoreFault, IsServeFault, IsServingFault};
 ghost use Rattle.commands.specs.ServingRuns.{IsDirectoriesFault, IsWatchFault, passes_of};
+ghost use Rattle.commands.specs.ServingRuns.{seats_of};
 ghost use Rattle.commands.specs.Guarding.{AreRulesOf};
 ghost use Rattle.commands.specs.Opening.{AreBlocksAt, IsOpeningFault};
 ghost use Rattle.std.specs.Thread.{IsSync};
@@ -136,16 +137,45 @@ fn run_workers<
     serve_watched(rt, alloc, workers, listener, rules, terms, &watch)
 }
 
-/// How many passes there are: one for each worker, and one for those that watch.
-pub(crate) fn passes_of(serving: Serving<'_>) -> usize
-    ensures { IsRoom (passes_of serving.entry) serving.entry.workers
-        → result ≡ passes_of serving.entry }
+/// How many seats there are, as far as they can be counted: one for each worker, and one for the
+/// cuts of the server itself.
+pub(crate) fn seats_of(serving: Serving<'_>) -> usize
+    ensures { result ≡ min (seats_of serving.entry) 18446744073709551615 }
 {
-    let count = serving.workers as usize;
-    if serving.status_port == 0 {
-        count
+    let workers = serving.workers as usize;
+    if serving.cut_every == 0 {
+        workers
     } else {
-        count.saturating_add(1)
+        workers.saturating_add(1)
+    }
+}
+
+/// How many passes there are, as far as they can be counted: one for each seat, and one for those
+/// that watch.
+pub(crate) fn passes_of(serving: Serving<'_>) -> usize
+    ensures { result ≡ min (passes_of serving.entry) 18446744073709551615 }
+{
+    let seats = seats_of(serving);
+    if serving.status_port == 0 {
+        seats
+    } else {
+        seats.saturating_add(1)
+    }
+}
+
+/// The workers that serve, of as many as there are seats: one seat is for the cuts of the server
+/// itself, if the options ask for them.
+pub(crate) fn with_cuts<J: Naming, C: Wait + Drop, K: Keeper + Drop>(
+    workers: Workers<J, C, K>,
+    serving: Serving<'_>,
+) -> Workers<J, C, K>
+    requires { workers ≡ seats_of serving }
+    ensures { result ≡ serving.entry.workers }
+{
+    if serving.cut_every == 0 {
+        workers
+    } else {
+        workers.cutting(serving.cut_every)
     }
 }
 
@@ -215,9 +245,10 @@ fn serve_blocks<
     ensures err { IfErr result (λ fault.
         IsServingFault serving.entry (W.contents out.old) (W.contents out.new) fault) }
 {
-    let count = serving.workers as usize;
+    let seats = seats_of(serving);
     let passes = passes_of(serving);
-    let workers = Workers::<J, &R>::open(rt, alloc, store, blocks, passes, count)?;
+    let opened = Workers::<J, &R>::open(rt, alloc, store, blocks, passes, seats)?;
+    let workers = with_cuts(opened, serving);
     serve_workers(rt, alloc, files, workers, rules, beside, serving, out)
 }
 

@@ -20,8 +20,8 @@ pub enum ApartError {
     Medium,
 }
 
-/// Writes a file beside the journal and the files to be kept, and keeps it from then on: its name is
-/// then the last of theirs. A name that is the journal's or one of theirs is refused.
+/// Writes a file beside the journal and the files to be kept, and keeps it from then on: its name
+/// is then the last of theirs. A name that is the journal's or one of theirs is refused.
 ///
 /// So after any number of such calls the journal and all files that were to be kept are as they
 /// were, and each file that was written is whole; a crash at any moment leaves them so. After an

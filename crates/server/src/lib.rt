@@ -25,6 +25,7 @@
 #![tactic(auto)]
 
 mod connections;
+mod cutter;
 mod ending;
 mod error;
 mod pool;

@@ -1,6 +1,6 @@
 //! A store and its workers, each in a thread of its own.
 
-ghost use Rattle.std.specs.Prelude.{◌≡◌, ◌≤◌, ◌<◌, Ok, length, map, vec_len, IfOk, IfErr};
+ghost use Rattle.std.specs.Prelude.{◌≡◌, ◌≤◌, ◌<◌, ◌+◌, Ok, length, map, vec_len, IfOk, IfErr};
 ghost use Rattle.std.specs.Thread.{IsSync};
 ghost use Rattle.head.specs.Blocks.{part_in, opening_of};
 ghost use Rattle.head.specs.Heads.{world_of};
@@ -9,6 +9,7 @@ ghost use Rattle.snapshots.specs.Seats.{IsRoom};
 ghost use Rattle.server.specs.Shifts.{AreUnder, EachServed};
 ghost use Rattle.snapshots.specs.declared.error.OpenError.TheVariants.{BadPasses, Limit};
 
+use crate::cutter::{Cutter, cut_while};
 use crate::error::ServeError;
 use crate::sockets::Sockets;
 use crate::standing::{Memory, Watch, report_open};
@@ -41,6 +42,7 @@ pub struct Workers<J: Naming, C: Wait + Drop, K: Keeper + Drop = NoKeeper> {
     committer: Committer<J, C, K>,
     places: Vec<Place<J>>,
     spare: Vec<Pass<J>>,
+    cutter: Option<Cutter<J>>,
 }
 
 impl<J: Naming, C: Wait + Drop, K: Keeper + Drop> Model for Workers<J, C, K> {
@@ -143,8 +145,32 @@ impl<J: Naming, C: Wait + Drop, K: Keeper + Drop> Workers<J, C, K> {
                 committer,
                 places,
                 spare,
+                cutter: None,
             }),
             Err(_) => Err(OpenError::Memory),
+        }
+    }
+
+    /// One worker fewer: what was its own is for cuts that the store makes by itself. They are at
+    /// multiples of so many milliseconds, 1 to 2^62 - 1, each as soon as it is due (`due_cuts`).
+    pub fn cutting(self, every: u64) -> Workers<J, C, K>
+        requires { 0 < self }
+        ensures { result + 1 ≡ self }
+    {
+        let Workers {
+            committer,
+            mut places,
+            spare,
+            cutter: _,
+        } = self;
+        let Some(Place { pass, seat, tally }) = places.pop() else {
+            unreachable!()
+        };
+        Workers {
+            committer,
+            places,
+            spare,
+            cutter: Some(Cutter::new(pass, seat, tally, every)),
         }
     }
 }
@@ -252,6 +278,44 @@ fn run_all<
     all_served(shifts, terms.requests)
 }
 
+/// Serves as [`run_all`] does, and cuts the store beside.
+fn run_cutting<
+    'a,
+    J: Naming + Send + Sync,
+    C: Wait + Drop + Send + Sync,
+    K: Keeper + Drop + Send,
+    R: Threads + Wait + Clock + Eprint + Sync,
+>(
+    rt: &R,
+    alloc: Global,
+    committer: &Committer<J, C, K>,
+    cutter: Cutter<J>,
+    places: Vec<Place<J>>,
+    listener: &TcpListener,
+    rules: &'a Rules,
+    terms: Terms,
+) -> Result<Vec<Shift<'a>>, ServeError>
+    ensures all { IfOk result (λ shifts. vec_len shifts ≡ vec_len places) }
+    ensures each { IfOk result (λ shifts. EachServed terms.requests shifts.items) }
+    ensures ruled { IfOk result (λ shifts. AreUnder rules.now shifts.items) }
+{
+    let over = AtomicBool::new(false);
+    let ended = &over;
+    let apart = || cut_while(rt, alloc, cutter, committer, ended);
+    let here = || -> Result<Vec<Shift<'_>>, ServeError>
+        requires { IsSync R.row }
+        ensures all { IfOk result (λ shifts. vec_len shifts ≡ vec_len places) }
+        ensures each { IfOk result (λ shifts. EachServed terms.requests shifts.items) }
+        ensures ruled { IfOk result (λ shifts. AreUnder rules.entry.now shifts.items) }
+    {
+        let shifts = run_all(rt, alloc, committer, places, listener, rules, terms);
+        ended.store(true, Ordering::SeqCst);
+        shifts
+    };
+    let (_, shifts) = join(rt, apart, here);
+    shifts
+}
+
 /// Serves the connections of a listener under rules until each worker has ended, each in a thread
 /// of its own: what each has done, under these rules and for as many connections as the terms ask
 /// for.
@@ -280,19 +344,58 @@ pub fn serve<
         committer,
         places,
         spare: _,
+        cutter,
     } = workers;
-    run_all(rt, alloc, &committer, places, listener, rules, terms)
+    match cutter {
+        Some(cutter) => run_cutting(
+            rt, alloc, &committer, cutter, places, listener, rules, terms,
+        ),
+        None => run_all(rt, alloc, &committer, places, listener, rules, terms),
+    }
 }
 
+/// What the workers count, and who cuts beside them, if anyone does.
 fn tallies_of<J: Naming>(
     alloc: Global,
     places: &[Place<J>],
+    cutter: Option<&Cutter<J>>,
 ) -> Result<Vec<Arc<Tally>>, AllocError> {
     let mut tallies = Vec::new(alloc);
     for place in places {
         tallies.push(Arc::try_clone(&place.tally)?)?;
     }
+    if let Some(cutter) = cutter {
+        tallies.push(Arc::try_clone(cutter.tally())?)?;
+    }
     Ok(tallies)
+}
+
+/// Answers the clients of the status port, and cuts the store if there is who does, until that is
+/// over.
+fn watch_and_cut<
+    J: Naming + Send + Sync,
+    C: Wait + Drop + Send + Sync,
+    K: Keeper + Drop + Send,
+    R: Threads + Wait + Clock + Eprint + Sync,
+    M: Memory + Sync,
+>(
+    rt: &R,
+    alloc: Global,
+    watch: &Watch<'_, M>,
+    over: &AtomicBool,
+    seen: (Option<Pass<J>>, Vec<Arc<Tally>>, u64),
+    committer: &Committer<J, C, K>,
+    cutter: Option<Cutter<J>>,
+) {
+    let (pass, tallies, workers) = seen;
+    let Some(cutter) = cutter else {
+        return report_open(rt, alloc, watch, over, pass, tallies, workers);
+    };
+    let _ = join(
+        rt,
+        || cut_while(rt, alloc, cutter, committer, over),
+        || report_open(rt, alloc, watch, over, pass, tallies, workers),
+    );
 }
 
 /// Serves as [`serve`] does, and answers the clients of the status port beside.
@@ -320,12 +423,15 @@ pub fn serve_watched<
         committer,
         places,
         mut spare,
+        cutter,
     } = workers;
-    let tallies = tallies_of(alloc, places.as_slice())?;
-    let pass = spare.pop();
+    let tallies = tallies_of(alloc, places.as_slice(), cutter.as_ref())?;
+    let seen = (spare.pop(), tallies, places.len() as u64);
     let over = AtomicBool::new(false);
     let (shared, ended) = (&committer, &over);
-    let apart = || report_open(rt, alloc, watch, ended, pass, tallies);
+    let apart = ||
+        requires { IsSync R.row × IsSync M.row }
+    { watch_and_cut(rt, alloc, watch, ended, seen, shared, cutter) };
     let here = || -> Result<Vec<Shift<'_>>, ServeError>
         requires { IsSync R.row }
         ensures all { IfOk result (λ shifts. vec_len shifts ≡ vec_len places) }

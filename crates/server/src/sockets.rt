@@ -49,7 +49,7 @@ impl<'a, R> Sockets<'a, R> {
 }
 
 /// A time in microseconds, or the greatest number.
-fn micros_of(time: Duration) -> u64 {
+pub(crate) fn micros_of(time: Duration) -> u64 {
     let whole = time.as_secs().saturating_mul(1_000_000);
     whole.saturating_add(time.subsec_micros() as u64)
 }

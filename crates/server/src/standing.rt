@@ -105,6 +105,7 @@ struct Open<'a, 'b, M, J: Naming> {
     watch: &'a Watch<'b, M>,
     pass: Option<Pass<J>>,
     tallies: Vec<Arc<Tally>>,
+    workers: u64,
 }
 
 impl<M: Memory, J: Naming> Open<'_, '_, M, J> {
@@ -135,7 +136,7 @@ impl<M: Memory, J: Naming> Report for Open<'_, '_, M, J> {
     }
 
     fn state(&mut self) -> Option<State> {
-        let state = state_of(self.watch, self.tallies.len() as u64, self.busy());
+        let state = state_of(self.watch, self.workers, self.busy());
         let Some(pass) = self.pass.as_mut() else {
             return None;
         };
@@ -155,7 +156,7 @@ impl<M: Memory, J: Naming> Report for Open<'_, '_, M, J> {
     }
 }
 
-/// Answers the clients of the status port while workers serve, until that is over.
+/// Answers the clients of the status port while so many workers serve, until that is over.
 pub(crate) fn report_open<R: Clock, M: Memory, J: Naming>(
     rt: &R,
     alloc: Global,
@@ -163,12 +164,14 @@ pub(crate) fn report_open<R: Clock, M: Memory, J: Naming>(
     over: &AtomicBool,
     pass: Option<Pass<J>>,
     tallies: Vec<Arc<Tally>>,
+    workers: u64,
 ) {
     let mut report = Open {
         alloc,
         watch,
         pass,
         tallies,
+        workers,
     };
     answer_status(rt, alloc, watch.listener, over, &mut report);
 }

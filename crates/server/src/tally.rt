@@ -204,6 +204,11 @@ impl Tally {
         }
     }
 
+    /// Counts a cut that no client asked for.
+    pub(crate) fn count_cut(&self) {
+        self.count_event(Event::Cutting);
+    }
+
     /// Counts a refusal with this number.
     fn count_refusal(&self, number: u64) {
         if let Some(place) = place_of_refusal(number) {

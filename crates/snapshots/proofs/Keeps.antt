@@ -1,26 +1,31 @@
--- An event is kept, and then published.
-use Rattle.std.proofs.Common.{◌≡◌, ◌⊎◌, ℕ, zero, suc, Result, Ok, Err, Bool, true, List, [], ◌∷◌, ◌++◌, take, inl, inr, ⊎_elim, refl, sym, ap, subst, ◌∙◌, arith, append_assoc}
-use Rattle.std.proofs.lemmas.List.{map_push}
+-- Events are kept, and then published.
+use Rattle.std.proofs.Common.{◌≡◌, ◌⊎◌, ℕ, zero, suc, Result, Ok, Err, OnOk, is_ok, if◌then◌else◌, Bool, true, false, List, [], ◌∷◌, ◌++◌, take, inl, inr, ⊎_elim, refl, sym, ap, subst, ◌∙◌, arith, append_assoc}
+use Rattle.std.proofs.lemmas.List.{map-append, map_push}
+use Rattle.std.specs.List.{AllByRecursion}
 use Rattle.head.specs.Heads.{SnapshotParts, world_of}
 use Rattle.head.specs.Refusals.{Refusal}
 use Rattle.head.specs.Worlds.{Event, World, replayed, replayed_from, stepped}
 use Rattle.head.specs.declared.error.CommitError.{CommitError}
 use Rattle.head.specs.declared.error.CommitError.TheVariants.{OutOfBounds, OutOfOrder, Duplicate, Limit, CutTooLow, TooManyParts, Seat, Journal, Memory}
+use Rattle.event_text.specs.Spelling.{event_text}
+use Rattle.journal.proofs.Keeping.{record_more}
+use Rattle.journal.proofs.Loops.{records_one}
+use Rattle.journal.specs.Group.{AreRecords}
 use Rattle.journal.specs.Records.{records_of}
 use Rattle.keeper.specs.Finding.{FindsOnly, IsOfAllAndSome}
-use Rattle.keeper.specs.Together.{SpellTogether}
+use Rattle.keeper.specs.Together.{IsKept, SpellTogether, texts_of}
 use Rattle.keeper.specs.declared.error.KeepError.{KeepError}
 use Rattle.keeper.specs.declared.error.KeepError.TheVariants as keep
 use Rattle.keeper.proofs.Finds.{wider}
 use Rattle.snapshots.specs.declared.entry.Entry.{Entry}
-use Rattle.snapshots.specs.Keeping.{keep_refusal, kept_of, IsAtMost, IsOfAllKept, IsOfKeeping, IsRecordFor, OpensAsKept}
+use Rattle.snapshots.specs.Keeping.{keep_refusal, kept_of, AreAllOrNone, IsOfAllKept, IsOfKeeping, IsRecordFor, OpensAsKept, SpellAll}
 use Rattle.snapshots.specs.Replays.{events_in, IsAfter, IsOfStore}
 
--- one event more is to be kept
-pub kept_more : (before : List Event) (entries : List Entry) (e : Entry) → kept_of before (entries ++ e ∷ []) ≡ kept_of before entries ++ e.event ∷ []
-kept_more before entries e =
-    ap (λ (es : List Event). before ++ es) (map_push (λ (x : Entry). x.event) entries e)
-    ∙ sym (append_assoc before (events_in entries) (e.event ∷ []))
+-- events more are to be kept
+pub kept_more : (before : List Event) (entries more : List Entry) → kept_of before (entries ++ more) ≡ kept_of before entries ++ events_in more
+kept_more before entries more =
+    ap (λ (es : List Event). before ++ es) (map-append (λ (x : Entry). x.event) entries more)
+    ∙ sym (append_assoc before (events_in entries) (events_in more))
 
 pub nothing_spelled : SpellTogether [] []
 unfolding records_of
@@ -69,40 +74,76 @@ of_store Memory is = tt
 pub no_seat : (e : CommitError) → IsOfKeeping e → e ≡ Seat → ⊥
 no_seat e is same = subst IsOfKeeping same is
 
--- what the bytes spell together
-pub spelled_by : (idle : Bool) (event : Event) (bytes : List ℕ) → IsRecordFor idle event bytes → (more : List Event) × SpellTogether bytes more
-spelled_by idle event bytes (inl spells) = (event ∷ [], spells)
-spelled_by idle event bytes (inr none) = ([], subst (λ (xs : List ℕ). SpellTogether xs []) (sym none.1) nothing_spelled)
+-- what the bytes spell together: all of these events, or none
+pub spelled_by : (idle : Bool) (more : List Event) (bytes : List ℕ) → SpellAll idle more bytes → (few : List Event) × AreAllOrNone more few × SpellTogether bytes few
+spelled_by true more bytes none = ([], inr refl, subst (λ (xs : List ℕ). SpellTogether xs []) (sym none) nothing_spelled)
+spelled_by false more bytes spells = (more, inl refl, spells)
+
+pub spelled_some : (idle : Bool) (more : List Event) (bytes : List ℕ) → SpellAll idle more bytes → (few : List Event) × SpellTogether bytes few
+spelled_some idle more bytes all = let s = spelled_by idle more bytes all in (s.0, s.2)
+
+-- nothing is spelled by nothing
+pub spell_nothing : (idle : Bool) → SpellAll idle [] []
+spell_nothing true = refl
+spell_nothing false = nothing_spelled
+
+all_last : (events : List Event) (e : Event) → AllByRecursion IsKept events → IsKept e → AllByRecursion IsKept (events ++ e ∷ [])
+all_last [] e h i = (i, tt)
+all_last (d ∷ ds) e h i = (h.0, all_last ds e h.1 i)
+
+-- the record of one event after those of others
+pub together_last : (events : List Event) (e : Event) (old record_is new : List ℕ) → SpellTogether old events → SpellTogether record_is (e ∷ []) → new ≡ old ++ record_is
+    → SpellTogether new (events ++ e ∷ [])
+together_last events e old record_is new so_far one is = record {
+  are = subst (λ (x : List (List ℕ)). AreRecords x new) (sym (map_push event_text events e))
+      (record_more (texts_of events) (event_text e) old new one.are.each.0 so_far.are (is ∙ ap (λ (xs : List ℕ). old ++ xs) (one.are.whole ∙ records_one (event_text e))));
+  each = all_last events e so_far.each one.each.0;
+}
+
+record_of_one : (e : Event) (bytes : List ℕ) → IsRecordFor false e bytes → SpellTogether bytes (e ∷ [])
+record_of_one e bytes (inl spells) = spells
+record_of_one e bytes (inr none) = absurd (cc (none.0))
+
+-- by what keepers of this kind do
+pub spell_kept : (idle : Bool) (old bytes new : List ℕ) → idle ≡ false → new ≡ old ++ bytes → (events : List Event) (event : Event) → SpellAll idle events old → IsRecordFor idle event bytes
+    → SpellAll idle (events ++ event ∷ []) new
+spell_kept true old bytes new keeps is events event so_far one = absurd (cc keeps)
+spell_kept false old bytes new keeps is events event so_far one = together_last events event old bytes new so_far (record_of_one event bytes one) is
+
+pub spell_idle : (idle : Bool) (old new : List ℕ) → idle ≡ true → new ≡ old → (events : List Event) (event : Event) → SpellAll idle events old → SpellAll idle (events ++ event ∷ []) new
+spell_idle true old new keeps is events event so_far = is ∙ so_far
+spell_idle false old new keeps is events event so_far = absurd (cc keeps)
+
+pub spell_result : {X E : Type 0} (r : Result X E) (idle : Bool) (old bytes new : List ℕ) → idle ≡ false → new ≡ (if is_ok r then old ++ bytes else old)
+    → OnOk r ((events : List Event) (event : Event) → SpellAll idle events old → IsRecordFor idle event bytes → SpellAll idle (events ++ event ∷ []) new)
+spell_result (Ok x) idle old bytes new keeps is = λ events event so_far one. spell_kept idle old bytes new keeps is events event so_far one
+spell_result (Err x) idle old bytes new keeps is = tt
 
 pub held_more : {K : Type 0} (idle : Bool) (holds : K → List Event → Type 0) (old new : K) (bytes : List ℕ)
     → (idle ≡ true → (k : K) (events : List Event) → holds k events)
     → ((events more : List Event) → holds old events → SpellTogether bytes more → holds new (events ++ more))
-    → (events : List Event) (event : Event) → holds old events → IsRecordFor idle event bytes → holds new (events ++ event ∷ [])
-held_more idle holds old new bytes any f events event held (inl spells) = f events (event ∷ []) held spells
-held_more idle holds old new bytes any f events event held (inr none) = any none.0 new (events ++ event ∷ [])
+    → (events more : List Event) → holds old events → SpellAll idle more bytes → holds new (events ++ more)
+held_more true holds old new bytes any f events more held none = any refl new (events ++ more)
+held_more false holds old new bytes any f events more held spells = f events more held spells
 
 none_taken : (few : ℕ) → take {A = Event} few [] ≡ []
 none_taken zero = refl
 none_taken (suc few) = refl
 
-one_or_none : (first : World) (events : List Event) (event : Event) (w : World) → IsOfAllAndSome first events [] w → IsOfAllAndSome first events (event ∷ []) w
-one_or_none first events event w some =
+some_or_none : (first : World) (events more : List Event) (w : World) → IsOfAllAndSome first events [] w → IsOfAllAndSome first events more w
+some_or_none first events more w some =
     (0, subst (λ (xs : List Event). replayed first (events ++ xs) ≡ Ok w) (none_taken some.0) some.1)
 
--- that event alone, or none
-pub at_most_one : (first : World) (events : List Event) (event : Event) (more : List Event) (w : World) → IsAtMost event more → IsOfAllAndSome first events more w
-    → IsOfAllAndSome first events (event ∷ []) w
-at_most_one first events event more w (inl is) some = subst (λ (xs : List Event). IsOfAllAndSome first events xs w) is some
-at_most_one first events event more w (inr none) some =
-    one_or_none first events event w (subst (λ (xs : List Event). IsOfAllAndSome first events xs w) none some)
+-- these, or none
+pub at_most : (first : World) (events more few : List Event) (w : World) → AreAllOrNone more few → IsOfAllAndSome first events few w → IsOfAllAndSome first events more w
+at_most first events more few w (inl is) some = subst (λ (xs : List Event). IsOfAllAndSome first events xs w) is some
+at_most first events more few w (inr none) some =
+    some_or_none first events more w (subst (λ (xs : List Event). IsOfAllAndSome first events xs w) none some)
 
-pub last_more : {K : Type 0} (idle : Bool) (holds : K → List Event → Type 0) (kept_last : K → List Event → List Event → Type 0) (old new : K) (bytes : List ℕ)
-    → ((events more : List Event) → holds old events → SpellTogether bytes more → kept_last new events more)
-    → (events : List Event) (event : Event) → holds old events → IsRecordFor idle event bytes → (more : List Event) × IsAtMost event more × kept_last new events more
-last_more idle holds kept_last old new bytes f events event held (inl spells) =
-    (event ∷ [], inl refl, f events (event ∷ []) held spells)
-last_more idle holds kept_last old new bytes f events event held (inr none) =
-    ([], inr refl, f events [] held (subst (λ (xs : List ℕ). SpellTogether xs []) (sym none.1) nothing_spelled))
+pub last_more : {K : Type 0} (idle : Bool) (kept_last : K → List Event → List Event → Type 0) (new : K) (bytes : List ℕ) (events more : List Event)
+    → ((few : List Event) → SpellTogether bytes few → kept_last new events few)
+    → SpellAll idle more bytes → (few : List Event) × AreAllOrNone more few × kept_last new events few
+last_more idle kept_last new bytes events more f all = let s = spelled_by idle more bytes all in (s.0, s.1, f s.0 s.2)
 
 module _ {K : Type 0} (moment : K → ℕ) (first : World) (found_since : K → ℕ → World → Type 0) where
   -- two calls, one after the other
@@ -117,11 +158,11 @@ module _ {K : Type 0} (moment : K → ℕ) (first : World) (found_since : K → 
         (second.before t found (let a = first.later in omega arith) had);
   }
 
-  -- what is in flight is this event, or nothing
-  pub in_flight : (idle : Bool) (holds : K → List Event → Type 0) (old new : K) (bytes : List ℕ)
-      → ((events more : List Event) → holds old events → SpellTogether bytes more → FindsOnly moment found_since old new (IsOfAllAndSome first events more))
-      → (events : List Event) (event : Event) → holds old events → IsRecordFor idle event bytes → FindsOnly moment found_since old new (IsOfAllAndSome first events (event ∷ []))
-  in_flight idle holds old new bytes finds events event held (inl spells) = finds events (event ∷ []) held spells
-  in_flight idle holds old new bytes finds events event held (inr none) =
-      wider moment found_since old new (IsOfAllAndSome first events []) (IsOfAllAndSome first events (event ∷ [])) (λ w some. one_or_none first events event w some)
-      (finds events [] held (subst (λ (xs : List ℕ). SpellTogether xs []) (sym none.1) nothing_spelled))
+  -- what is in flight are these events, or none
+  pub in_flight : (old new : K) (idle : Bool) (bytes : List ℕ) (events more : List Event)
+      → ((few : List Event) → SpellTogether bytes few → FindsOnly moment found_since old new (IsOfAllAndSome first events few))
+      → SpellAll idle more bytes → FindsOnly moment found_since old new (IsOfAllAndSome first events more)
+  in_flight old new idle bytes events more finds all =
+      let s = spelled_by idle more bytes all in
+      wider moment found_since old new (IsOfAllAndSome first events s.0) (IsOfAllAndSome first events more) (λ w some. at_most first events more s.0 w s.1 some)
+      (finds s.0 s.2)

@@ -2,7 +2,7 @@ pub mod Prefixes
 pub mod Adding
 pub mod Accepts
 pub mod Growing
-pub mod Publishing
 pub mod Counting
 pub mod Replaying
 pub mod Keeps
+pub mod Tips

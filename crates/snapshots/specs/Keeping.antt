@@ -1,5 +1,5 @@
 -- How the events of a store are kept.
-use Rattle.std.specs.Prelude.{◌≡◌, ◌⊎◌, ℕ, Bool, true, false, List, [], ◌∷◌, ◌++◌, Ok}
+use Rattle.std.specs.Prelude.{◌≡◌, ◌⊎◌, ℕ, Bool, true, false, List, [], ◌∷◌, ◌++◌, Ok, MatchBool}
 use Rattle.head.specs.Heads.{SnapshotParts, world_of}
 use Rattle.head.specs.Worlds.{Event, World, replayed}
 use Rattle.head.specs.declared.error.CommitError.{CommitError}
@@ -9,7 +9,10 @@ use Rattle.head.specs.declared.error.CommitError.TheVariants.{Journal, Memory}
 use Rattle.keeper.specs.Together.{SpellTogether}
 use Rattle.keeper.specs.declared.error.KeepError.{KeepError}
 use Rattle.keeper.specs.declared.error.KeepError.TheVariants as keep
+use Rattle.snapshots.specs.Marks.{accepted, list_of, tried_of}
 use Rattle.snapshots.specs.Replays.{events_in}
+use Rattle.snapshots.specs.Standings.{StandsFor}
+use Rattle.snapshots.specs.declared.entry.Mark.{Mark}
 use Rattle.snapshots.specs.declared.entry.Entry.{Entry}
 
 -- the bytes are the record of the event; or they are none, for keepers that keep nothing
@@ -17,9 +20,28 @@ abbrev pub IsRecordFor : Bool → Event → List ℕ → Type 0
 IsRecordFor idle event bytes =
     SpellTogether bytes (event ∷ []) ⊎ ((idle ≡ true) × (bytes ≡ []))
 
--- these are that event alone, or none
-abbrev pub IsAtMost : Event → List Event → Type 0
-IsAtMost event more = (more ≡ event ∷ []) ⊎ (more ≡ [])
+-- the bytes are the records of these events; keepers that keep nothing are handed none
+abbrev pub SpellAll : Bool → List Event → List ℕ → Type 0
+SpellAll idle events bytes = MatchBool idle (bytes ≡ []) (SpellTogether bytes events)
+
+-- these are all of those events, or none
+abbrev pub AreAllOrNone : List Event → List Event → Type 0
+AreAllOrNone events more = (more ≡ events) ⊎ (more ≡ [])
+
+-- what was tried is what is listed and the events that wait beside it, of which these are the
+-- records
+pub record AreWaiting (idle : Bool) (bytes : List ℕ) (listed tried : List Entry) : Type 0 where
+  pub more : List Entry
+  pub parts : tried ≡ listed ++ more
+  pub spelled : SpellAll idle (events_in more) bytes
+
+-- Events that are to be kept and published together: the log that has sealed them, what they make,
+-- and their records. Nothing waits beside them in that log.
+pub record IsGroup (opening : SnapshotParts) (idle : Bool) (log : List Mark)
+    (parts : SnapshotParts) (counts bytes : List ℕ) : Type 0 where
+  pub whole : list_of log ≡ tried_of log
+  pub stands : StandsFor opening (list_of log) parts counts
+  pub waiting : AreWaiting idle bytes (accepted log) (list_of log)
 
 -- what is to be kept of a store: the events from before it was opened, and those of its list
 abbrev pub kept_of : List Event → List Entry → List Event

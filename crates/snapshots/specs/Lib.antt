@@ -1,7 +1,10 @@
 pub mod Marks
+pub mod Tallies
 pub mod Replays
-pub mod Keeping
 pub mod Seats
+pub mod Standings
+pub mod Keeping
+pub mod Tips
 pub mod Rules
 pub mod Views
 pub mod Grows

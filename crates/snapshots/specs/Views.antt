@@ -11,10 +11,15 @@ pub record Edition : Type 0 where
   pub marks : List Mark
   pub parts : SnapshotParts
 
--- what a book has published, how many events of each seat, and the published snapshot
+-- where a store stands: a list of events, how many of each seat, and the snapshot after them
 pub record Ledger : Type 0 where
   pub entries : List Entry
   pub counts : List ℕ
+  pub parts : SnapshotParts
+
+-- what a book has published
+pub record Published : Type 0 where
+  pub entries : List Entry
   pub parts : SnapshotParts
 
 -- what a pass has seen at its last entry, and what receipts told it

@@ -1,6 +1,8 @@
-//! Committers, which publish events one at a time.
+//! Committers, which publish events.
 
 ghost use Rattle.std.specs.Prelude.{◌≡◌, false, Some, is_none, IsTrue, IfOk, IfErr, OnErr};
+ghost use Rattle.snapshots.specs.Marks.{tried_of};
+ghost use Rattle.snapshots.specs.Tips.{IsFailure};
 ghost use Rattle.labels.specs.Contents.{is_time};
 ghost use Rattle.head.specs.BatchRows.{batch_of_rows};
 ghost use Rattle.head.specs.Batches.{is_deletion};
@@ -13,13 +15,15 @@ use crate::book::Book;
 use crate::change::Change;
 use crate::keeping::record_of;
 use crate::naming::Naming;
+use crate::prefix::LogPrefix;
 use crate::receipt::Receipt;
 use crate::seat::Seat;
+use crate::tip::Tip;
 use head::{CommitError, Event, RowBatch};
 use keeper::{Keeper, NoKeeper};
 use matchers::Matcher;
 use std::alloc::Global;
-use std::sync::{Mutex, Wait};
+use std::sync::{Condvar, Mutex, MutexGuard, Wait};
 
 /// The matchers that a deletion was made of.
 fn matchers_in(event: Event) -> Vec<Matcher>
@@ -32,25 +36,83 @@ fn matchers_in(event: Event) -> Vec<Matcher>
     }
 }
 
-/// Keeps events and publishes them, one at a time. Its drop waits for the readers.
+/// Keeps events and publishes them. While one thread keeps some, the others try theirs, and the
+/// next that may keeps all of these by one write and one sync. Its drop waits for the readers.
 #[derive(Drop)]
 pub struct Committer<J: Naming, R: Wait + Drop, K: Keeper + Drop = NoKeeper> {
+    tip: Mutex<Tip<J, K>>,
+    /// Locked by one who leads, while the tip says that it is led.
     book: Mutex<Book<J, R, K>>,
+    /// Told when what waited is published or given up.
+    news: Condvar,
     alloc: Global,
 }
 
 impl<J: Naming, R: Wait + Drop, K: Keeper + Drop> Committer<J, R, K> {
-    pub(crate) fn of(alloc: Global, book: Book<J, R, K>) -> Committer<J, R, K> {
+    pub(crate) fn of(alloc: Global, tip: Tip<J, K>, book: Book<J, R, K>) -> Committer<J, R, K> {
         Committer {
+            tip: Mutex::new(tip),
             book: Mutex::new(book),
+            news: Condvar::new(),
             alloc,
         }
     }
 
-    /// Makes the record of the event, locks the book, and makes one step of it.
-    fn step<C: Change + Drop>(
+    /// Keeps and publishes all that waits; or waits for the one who does, if there is one. Where
+    /// nothing is kept for good, no other thread comes between.
+    fn go_on<'a, W: Wait>(&'a self, rt: &W, tip: MutexGuard<'a, Tip<J, K>>) {
+        let mut tip = tip;
+        if tip.is_led() {
+            drop(self.news.wait(rt, tip));
+            return;
+        }
+        let group = match tip.seal(rt) {
+            Ok(group) => group,
+            Err(error) => {
+                tip.give_up(error);
+                drop(tip);
+                self.news.notify_all();
+                return;
+            }
+        };
+        let held = if K::is_idle() {
+            Some(tip)
+        } else {
+            drop(tip);
+            None
+        };
+        let _published = self.book.lock(rt).publish(&self.tip, held, group);
+        self.news.notify_all();
+    }
+
+    /// Waits until all that was tried up to a place of the log is published or given up.
+    fn settle<'a, W: Wait>(
+        &'a self,
+        rt: &W,
+        tip: MutexGuard<'a, Tip<J, K>>,
+        trial: &LogPrefix<J>,
+    ) -> Result<Receipt<J>, CommitError>
+        ensures receipt { IfOk result (λ r. r ≡ tried_of trial.now) }
+        ensures refused { IfErr result (λ e. IsFailure K.idle e) }
+    {
+        self.go_on(rt, tip);
+        for _ in rt.forever() {
+            let mut tip = self.tip.lock(rt);
+            match tip.outcome(rt, trial) {
+                Ok(Some(receipt)) => return Ok(receipt),
+                Ok(None) => {}
+                Err(error) => return Err(error),
+            }
+            self.go_on(rt, tip);
+        }
+        unreachable!()
+    }
+
+    /// Makes the record of the event, tries it, and waits until it is published or given up. One
+    /// that is refused waits too, until all that was tried before it is published.
+    fn step<C: Change + Drop, W: Wait>(
         &self,
-        rt: &impl Wait,
+        rt: &W,
         seat: &mut Seat<J>,
         change: C,
     ) -> Result<Receipt<J>, (C, CommitError)>
@@ -66,7 +128,23 @@ impl<J: Naming, R: Wait + Drop, K: Keeper + Drop> Committer<J, R, K> {
             Ok(bytes) => bytes,
             Err(error) => return Err((change, error)),
         };
-        self.book.lock(rt).step(seat, change, &bytes)
+        let mut tip = self.tip.lock(rt);
+        match tip.step(rt, seat, &change, &bytes) {
+            Ok(trial) => match self.settle(rt, tip, &trial) {
+                Ok(receipt) => {
+                    seat.add_one(&receipt);
+                    Ok(receipt)
+                }
+                Err(error) => Err((change, error)),
+            },
+            Err(error) => match tip.trial() {
+                None => Err((change, error)),
+                Some(trial) => match self.settle(rt, tip, &trial) {
+                    Ok(_) => Err((change, error)),
+                    Err(given_up) => Err((change, given_up)),
+                },
+            },
+        }
     }
 
     /// Publishes a batch under the seat's number, whole or not at all. The list of the receipt
@@ -75,8 +153,8 @@ impl<J: Naming, R: Wait + Drop, K: Keeper + Drop> Committer<J, R, K> {
     /// count is not the store's, `E8`, if the batch is not kept, and `E1` to `E4`. With each of
     /// those four the batch's step is refused after some list of accepted events that begins with
     /// the list of the seat's last receipt and has no event more under the seat's number. A refusal
-    /// gives the appender back and leaves the seat. It waits for the committer's lock and for the
-    /// readers of the version before.
+    /// gives the appender back and leaves the seat. It waits for the committer's lock, until its
+    /// batch is kept, which others may do with theirs, and for the readers of the version before.
     pub fn commit(
         &self,
         rt: &impl Wait,

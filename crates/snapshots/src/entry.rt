@@ -14,10 +14,14 @@ pub struct Entry {
 /// What the log of a store says. No value of it is made: clauses speak of it.
 #[derive(Drop)]
 pub enum Mark {
-    /// The event is about to be published.
+    /// The event was accepted after all that was tried before it, and waits.
     Try(Entry),
-    /// The event that was tried last is published.
+    /// What waits is to be kept and published together.
+    Seal,
+    /// What was sealed is kept and published.
     Done,
+    /// All that waits is given up, sealed or not.
+    Void,
 }
 
 /// A change that is to be published, with the number of the seat: clauses see it as an entry.

@@ -1,15 +1,15 @@
-//! How an event is kept before it is published.
+//! How events are kept before they are published.
 
 ghost use Rattle.std.specs.Prelude.{◌≡◌, ◌++◌, ◌∷◌, [], List, false, IfOk, IfErr, OnOk, OnErr};
 ghost use Rattle.head.specs.Worlds.{Event};
 ghost use Rattle.keeper.specs.Finding.{FindsOnly, IsOfAllAndMore, IsOfAllAndSome};
-ghost use Rattle.snapshots.specs.Keeping.{keep_refusal, IsAtMost, IsHindered, IsOfKeeping};
-ghost use Rattle.snapshots.specs.Keeping.{IsRecordFor};
+ghost use Rattle.snapshots.specs.Keeping.{keep_refusal, AreAllOrNone, IsHindered, IsOfKeeping};
+ghost use Rattle.snapshots.specs.Keeping.{IsRecordFor, SpellAll};
 
 use crate::change::Change;
 use head::CommitError;
 use keeper::{KeepError, Keeper, push_text};
-use std::alloc::Global;
+use std::alloc::{AllocError, Global};
 
 /// The refusal of a store whose keeper refuses so.
 fn refusal_of(error: KeepError) -> CommitError
@@ -39,28 +39,43 @@ pub fn record_of<C: Change, K: Keeper>(alloc: Global, change: &C) -> Result<Vec<
     }
 }
 
-/// Keeps an event by its record. After an `Err` the keeper keeps what it kept.
+/// Puts the record of one event more to those of other events, with which it is kept.
+pub fn push_record<K: Keeper>(records: &mut Vec<u8>, bytes: &[u8]) -> Result<(), AllocError>
+    ensures ok { OnOk result ((events : List Event) (event : Event)
+        → SpellAll K.idle events records.old.items → IsRecordFor K.idle event bytes.now
+        → SpellAll K.idle (events ++ event ∷ []) records.new.items) }
+    ensures err { OnErr result (records.new.items ≡ records.old.items) }
+{
+    if K::is_idle() {
+        return Ok(());
+    }
+    records.extend_from_slice(bytes)
+}
+
+/// Keeps several events by their records, by one write and one sync. After an `Err` the keeper
+/// keeps what it kept.
 pub fn keep<K: Keeper>(keeper: &mut K, bytes: &[u8]) -> Result<(), CommitError>
     requires held { (events : List Event) × K.holds keeper.old events }
-    requires recorded { (event : Event) × IsRecordFor K.idle event bytes.now }
-    ensures ok { OnOk result ((events : List Event) (event : Event) → K.holds keeper.old events
-        → IsRecordFor K.idle event bytes.now → K.holds keeper.new (events ++ event ∷ [])) }
-    // The event was kept last; or nothing was, if keepers of this kind keep nothing.
-    ensures last { OnOk result ((events : List Event) (event : Event) → K.holds keeper.old events
-        → IsRecordFor K.idle event bytes.now
-        → (more : List Event) × IsAtMost event more × K.kept_last keeper.new events more) }
+    requires recorded { (more : List Event) × SpellAll K.idle more bytes.now }
+    ensures ok { OnOk result ((events more : List Event) → K.holds keeper.old events
+        → SpellAll K.idle more bytes.now → K.holds keeper.new (events ++ more)) }
+    // The events were kept last; or none was, if keepers of this kind keep nothing.
+    ensures last { OnOk result ((events more : List Event) → K.holds keeper.old events
+        → SpellAll K.idle more bytes.now
+        → (few : List Event) × AreAllOrNone more few × K.kept_last keeper.new events few) }
     ensures open { OnOk result (K.closed keeper.new ≡ false) }
     ensures err { OnErr result ((events : List Event) → K.holds keeper.old events
         → K.holds keeper.new events) }
     // After a crash at any moment of the call a start finds the world of all that was kept.
-    ensures any_moment { (events : List Event) (event : Event) → K.holds keeper.old events
-        → IsRecordFor K.idle event bytes.now
+    ensures any_moment { (events more : List Event) → K.holds keeper.old events
+        → SpellAll K.idle more bytes.now
         → FindsOnly K.moment K.found_since keeper.old keeper.new (IsOfAllAndMore K.first events) }
-    // Beyond that at most this event is in it, unless the keeper was closed before.
-    ensures in_flight { (events : List Event) (event : Event) → K.holds keeper.old events
-        → IsRecordFor K.idle event bytes.now → K.closed keeper.old ≡ false
+    // Beyond that at most the first few of these events are in it, unless the keeper was closed
+    // before.
+    ensures in_flight { (events more : List Event) → K.holds keeper.old events
+        → SpellAll K.idle more bytes.now → K.closed keeper.old ≡ false
         → FindsOnly K.moment K.found_since keeper.old keeper.new
-        (IsOfAllAndSome K.first events (event ∷ [])) }
+        (IsOfAllAndSome K.first events more) }
     ensures refused { IfErr result (λ e. IsOfKeeping e) }
     // One that keeps nothing refuses nothing.
     ensures needed { OnErr result (K.idle ≡ false) }

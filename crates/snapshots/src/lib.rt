@@ -1,5 +1,4 @@
-//! Snapshots of a store that many threads read without waiting, while others publish events one
-//! at a time.
+//! Snapshots of a store that many threads read without waiting, while others publish events.
 //!
 //! [`Store::open`] gives one [`Committer`], and as many [`Pass`]es and [`Seat`]s as are asked
 //! for. A committer publishes a batch, which an [`Appender`] gathers or a [`RowBatch`] holds, a
@@ -10,10 +9,12 @@
 //! committed is seen by each thread that its receipt was passed on to.
 //!
 //! A version's list of events is not stored: the rule of the published versions says that the
-//! world of its snapshot is the replay of that list from the opening's world. [`Book::step`] is
-//! what happens under the lock, with the contract of one event: it is kept ([`Keeper`]), and then
-//! published. A store in memory alone has [`NoKeeper`]; [`Store::resume`] opens one over what a
-//! start found. Each type carries the name of its store ([`Naming`]), so a pass, a receipt and a
+//! world of its snapshot is the replay of that list from the opening's world. An event is tried
+//! under the lock of a [`Tip`], after all that were tried before it, and waits. One thread at a time
+//! takes all that waits, keeps it in the [`Book`] by one write and one sync ([`Keeper`]), and then
+//! publishes it, while the others try theirs; so many small events share a sync. If it is not kept,
+//! it is given up, with what was tried meanwhile. A store in memory alone has [`NoKeeper`];
+//! [`Store::resume`] opens one over what a start found. Each type carries the name of its store ([`Naming`]), so a pass, a receipt and a
 //! seat of another store have other types.
 //!
 //! ```
@@ -42,6 +43,7 @@ mod change;
 mod committer;
 mod entry;
 mod error;
+mod group;
 mod keeping;
 mod log;
 mod naming;
@@ -50,7 +52,10 @@ mod prefix;
 mod press;
 mod receipt;
 mod seat;
+mod standing;
 mod store;
+mod tally;
+mod tip;
 mod version;
 
 pub use appender::Appender;
@@ -66,3 +71,4 @@ pub use pass::Pass;
 pub use receipt::Receipt;
 pub use seat::Seat;
 pub use store::{MAX_HANDLES, Store};
+pub use tip::Tip;

@@ -1,4 +1,4 @@
-//! The rule of the log of a store, and the two steps that add to it.
+//! The rule of the log of a store, and the steps that add to it.
 
 ghost use Rattle.std.specs.Prelude.{◌≡◌};
 ghost use Rattle.snapshots.specs.Rules.{end_of};
@@ -61,14 +61,38 @@ impl<'a, C: Change> Plain<Tried<'a, C>, Mark, u64> for Tries {
     ghost state = { λ e. None };
 }
 
-/// What a step asks for: that the last try is done.
+/// What a step asks for: that what waits is sealed.
+pub struct Seals;
+
+impl Plain<(), Mark, u64> for Seals {
+    ghost use Rattle.std.specs.Prelude.{None};
+    ghost use Rattle.snapshots.specs.declared.entry.Mark.TheVariants.{Seal};
+
+    ghost ask = { λ e. Seal };
+
+    ghost state = { λ e. None };
+}
+
+/// What a step asks for: that what was sealed is done.
 pub struct Ends;
 
-impl<'a, C: Change> Plain<Tried<'a, C>, Mark, u64> for Ends {
+impl Plain<(), Mark, u64> for Ends {
     ghost use Rattle.std.specs.Prelude.{None};
     ghost use Rattle.snapshots.specs.declared.entry.Mark.TheVariants.{Done};
 
     ghost ask = { λ e. Done };
+
+    ghost state = { λ e. None };
+}
+
+/// What a step asks for: that what waits is given up.
+pub struct Voids;
+
+impl Plain<(), Mark, u64> for Voids {
+    ghost use Rattle.std.specs.Prelude.{None};
+    ghost use Rattle.snapshots.specs.declared.entry.Mark.TheVariants.{Void};
+
+    ghost ask = { λ e. Void };
 
     ghost state = { λ e. None };
 }

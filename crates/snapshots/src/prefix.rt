@@ -3,32 +3,43 @@
 ghost use Rattle.std.specs.Prelude.{◌≡◌, ◌+◌, ◌==◌, ◌<◌, ◌≤◌, ◌^◌, ◌++◌, ◌∷◌, [], length};
 ghost use Rattle.std.specs.Prelude.{MatchBool, IsTrue, ◌↔◌, None};
 ghost use mathlib.Core.List.{IsPrefix};
-ghost use Rattle.snapshots.specs.Marks.{accepted, list_of};
+ghost use Rattle.snapshots.specs.Marks.{accepted, list_of, tried_of, voids_of};
+ghost use Rattle.snapshots.specs.Tallies.{IsTally};
+ghost use Rattle.snapshots.specs.Tries.{entry_of};
+ghost use Rattle.snapshots.specs.declared.entry.Mark.TheVariants.{Try, Seal, Done, Void};
 
-use crate::entry::Mark;
-use crate::log::{Add, Law, LogEnd, Nothing};
+use crate::change::Change;
+use crate::entry::{Mark, Tried};
+use crate::log::{Add, Ends, Law, LogEnd, Nothing, Seals, Tries, Voids};
 use crate::naming::Naming;
+use crate::tally::Tally;
 use logbook::{Offer, Plain, Seen};
 use std::marker::{Model, PhantomData};
 use std::sync::Wait;
 
-/// A prefix of the log that was seen. Contracts see it as its marks.
+/// So many marks a log never has.
+const ROOM: u64 = 1 << 62;
+
+/// A prefix of the log that was seen, with its numbers. Contracts see it as its marks.
 #[derive(Drop)]
 pub struct LogPrefix<J: Naming> {
     marks: u64,
+    tally: Tally,
     seen: Seen<Mark, u64, Law>,
     of: PhantomData<J>,
 }
 
 impl<J: Naming> Model for LogPrefix<J> {
     ghost use Rattle.std.specs.Prelude.{◌≡◌, List, length};
+    ghost use Rattle.snapshots.specs.Tallies.{IsTally};
     ghost use Rattle.snapshots.specs.declared.entry.Mark.{Mark};
 
     ghost Value = { List Mark };
 
     ghost view = { λ p. p.seen.log };
 
-    ghost invariant = { λ p. (p.marks ≡ length p.seen.log) × (p.seen.book ≡ J.book) };
+    ghost invariant = { λ p. (p.marks ≡ length p.seen.log) × (p.seen.book ≡ J.book)
+        × IsTally p.tally p.seen.log };
 }
 
 impl<J: Naming> LogPrefix<J> {
@@ -38,6 +49,12 @@ impl<J: Naming> LogPrefix<J> {
     {
         LogPrefix {
             marks: 0,
+            tally: Tally {
+                accepted: 0,
+                listed: 0,
+                tried: 0,
+                voids: 0,
+            },
             seen,
             of: PhantomData,
         }
@@ -50,12 +67,59 @@ impl<J: Naming> LogPrefix<J> {
         self.marks
     }
 
+    /// Whether another mark has room. It always has: as many marks are never reached.
+    pub fn has_room(&self) -> bool
+        ensures { IsTrue result ↔ (length self.now < 2 ^ 62) }
+    {
+        self.marks < ROOM
+    }
+
+    /// How many events it accepted, and those that are sealed.
+    pub fn listed(&self) -> u64
+        ensures { result ≡ length (list_of self.now) }
+    {
+        self.tally.listed
+    }
+
+    /// How many events it accepted, and those that wait.
+    pub fn tried(&self) -> u64
+        ensures { result ≡ length (tried_of self.now) }
+    {
+        self.tally.tried
+    }
+
+    /// How often what waited was given up.
+    pub fn voids(&self) -> u64
+        ensures { result ≡ voids_of self.now }
+    {
+        self.tally.voids
+    }
+
+    /// Whether nothing waits: then what was tried is accepted.
+    pub fn is_settled(&self) -> bool
+        ensures settled { MatchBool result (accepted self.now ≡ tried_of self.now) (Unit {0}) }
+        ensures exact { IsTrue result
+            ↔ (length (tried_of self.now) ≡ length (accepted self.now)) }
+    {
+        self.tally.tried == self.tally.accepted
+    }
+
+    /// Whether nothing is sealed: then what it lists is accepted.
+    pub fn is_unsealed(&self) -> bool
+        ensures unsealed { MatchBool result (accepted self.now ≡ list_of self.now) (Unit {0}) }
+        ensures exact { IsTrue result
+            ↔ (length (list_of self.now) ≡ length (accepted self.now)) }
+    {
+        self.tally.listed == self.tally.accepted
+    }
+
     /// The same prefix.
     pub fn share(&self) -> LogPrefix<J>
         ensures { result ≡ self.now }
     {
         LogPrefix {
             marks: self.marks,
+            tally: self.tally,
             seen: self.seen.again(),
             of: PhantomData,
         }
@@ -93,6 +157,51 @@ impl<J: Naming> LogPrefix<J> {
         other.marks <= self.marks
     }
 
+    /// Whether this goes on from the other, and has accepted all that the other tried.
+    pub fn accepts(&self, other: &LogPrefix<J>) -> bool
+        ensures accepts { MatchBool result
+            (IsPrefix (tried_of other.now) (accepted self.now)) (Unit {0}) }
+        ensures exact { IsTrue result ↔ ((length other.now ≤ length self.now)
+            × (voids_of other.now ≡ voids_of self.now)
+            × (length (tried_of other.now) ≤ length (accepted self.now))) }
+    {
+        if !self.begins_with(other) {
+            return false;
+        }
+        if other.tally.voids != self.tally.voids {
+            return false;
+        }
+        other.tally.tried <= self.tally.accepted
+    }
+
+    /// Whether this goes on from the other, and lists just what the other tried.
+    pub fn lists(&self, other: &LogPrefix<J>) -> bool
+        ensures lists { MatchBool result (list_of self.now ≡ tried_of other.now) (Unit {0}) }
+        ensures exact { IsTrue result ↔ ((length other.now ≤ length self.now)
+            × (voids_of other.now ≡ voids_of self.now)
+            × (length (list_of self.now) ≡ length (tried_of other.now))) }
+    {
+        if !self.begins_with(other) {
+            return false;
+        }
+        if other.tally.voids != self.tally.voids {
+            return false;
+        }
+        self.tally.listed == other.tally.tried
+    }
+
+    /// Whether this goes on from the other, and has accepted just as much.
+    pub fn accepts_as(&self, other: &LogPrefix<J>) -> bool
+        ensures accepts { MatchBool result (accepted other.now ≡ accepted self.now) (Unit {0}) }
+        ensures exact { IsTrue result ↔ ((length other.now ≤ length self.now)
+            × (length (accepted other.now) ≡ length (accepted self.now))) }
+    {
+        if !self.begins_with(other) {
+            return false;
+        }
+        other.tally.accepted == self.tally.accepted
+    }
+
     /// The longer of two prefixes, of which the other is a prefix.
     pub fn longer(&self, other: &LogPrefix<J>) -> LogPrefix<J>
         ensures this { IsPrefix self.now result }
@@ -109,9 +218,10 @@ impl<J: Naming> LogPrefix<J> {
     }
 
     /// Adds a mark to all that was seen, or changes nothing.
-    fn adds<X, M: Plain<X, Mark, u64>>(&mut self, end: &LogEnd<J>, about: &X) -> bool
+    fn adds<X, M: Plain<X, Mark, u64>>(&mut self, end: &LogEnd<J>, about: &X, tally: Tally) -> bool
         requires room { length self.old < 2 ^ 62 }
         requires plain { M.state about.now ≡ None }
+        requires tally { IsTally tally (self.old ++ M.ask about.now ∷ []) }
         ensures { MatchBool result (self.new ≡ self.old ++ M.ask about.now ∷ [])
             (self.new ≡ self.old) }
     {
@@ -127,6 +237,7 @@ impl<J: Naming> LogPrefix<J> {
         }
         *self = LogPrefix {
             marks: marks + 1,
+            tally,
             seen,
             of: PhantomData,
         };
@@ -134,16 +245,79 @@ impl<J: Naming> LogPrefix<J> {
     }
 
     /// Adds a mark to all that was seen. It tries until the log is not longer than that.
-    pub fn add<X, M: Plain<X, Mark, u64>, R: Wait>(&mut self, rt: &R, end: &LogEnd<J>, about: &X)
+    fn add<X, M: Plain<X, Mark, u64>, R: Wait>(
+        &mut self,
+        rt: &R,
+        end: &LogEnd<J>,
+        about: &X,
+        tally: Tally,
+    )
         requires room { length self.old < 2 ^ 62 }
         requires plain { M.state about.now ≡ None }
+        requires tally { IsTally tally (self.old ++ M.ask about.now ∷ []) }
         ensures { self.new ≡ self.old ++ M.ask about.now ∷ [] }
     {
         for _ in rt.forever() {
-            if self.adds::<X, M>(end, about) {
+            if self.adds::<X, M>(end, about, tally) {
                 return;
             }
         }
         unreachable!()
+    }
+
+    /// Adds that an event was tried.
+    pub fn add_try<C: Change, R: Wait>(&mut self, rt: &R, end: &LogEnd<J>, tried: &Tried<'_, C>)
+        requires { length self.old < 2 ^ 62 }
+        ensures { self.new ≡ self.old ++ Try (entry_of C.event tried.now) ∷ [] }
+    {
+        let tally = Tally {
+            accepted: self.tally.accepted,
+            listed: self.tally.listed,
+            tried: self.tally.tried + 1,
+            voids: self.tally.voids,
+        };
+        self.add::<Tried<'_, C>, Tries, R>(rt, end, tried, tally);
+    }
+
+    /// Adds that what waits is sealed.
+    pub fn add_seal<R: Wait>(&mut self, rt: &R, end: &LogEnd<J>)
+        requires { length self.old < 2 ^ 62 }
+        ensures { self.new ≡ self.old ++ Seal ∷ [] }
+    {
+        let tally = Tally {
+            accepted: self.tally.accepted,
+            listed: self.tally.tried,
+            tried: self.tally.tried,
+            voids: self.tally.voids,
+        };
+        self.add::<(), Seals, R>(rt, end, &(), tally);
+    }
+
+    /// Adds that what was sealed is done.
+    pub fn add_done<R: Wait>(&mut self, rt: &R, end: &LogEnd<J>)
+        requires { length self.old < 2 ^ 62 }
+        ensures { self.new ≡ self.old ++ Done ∷ [] }
+    {
+        let tally = Tally {
+            accepted: self.tally.listed,
+            listed: self.tally.listed,
+            tried: self.tally.tried,
+            voids: self.tally.voids,
+        };
+        self.add::<(), Ends, R>(rt, end, &(), tally);
+    }
+
+    /// Adds that what waits is given up.
+    pub fn add_void<R: Wait>(&mut self, rt: &R, end: &LogEnd<J>)
+        requires { length self.old < 2 ^ 62 }
+        ensures { self.new ≡ self.old ++ Void ∷ [] }
+    {
+        let tally = Tally {
+            accepted: self.tally.accepted,
+            listed: self.tally.accepted,
+            tried: self.tally.accepted,
+            voids: self.tally.voids + 1,
+        };
+        self.add::<(), Voids, R>(rt, end, &(), tally);
     }
 }

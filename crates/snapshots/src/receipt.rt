@@ -1,14 +1,15 @@
 //! What an accepted event leaves in the hands of its caller.
 
-ghost use Rattle.std.specs.Prelude.{◌≡◌, length};
-ghost use Rattle.snapshots.specs.Marks.{accepted};
+ghost use Rattle.std.specs.Prelude.{◌≡◌, length, IfSome};
+ghost use mathlib.Core.List.{IsPrefix};
+ghost use Rattle.snapshots.specs.Marks.{accepted, tried_of};
 
 use crate::naming::Naming;
 use crate::prefix::LogPrefix;
 use std::marker::Model;
 
 /// What was published up to an event of the caller's. Contracts see it as the events up to this
-/// one, each with the number of its seat.
+/// one, each with the number of its seat. The log that it holds may have accepted more.
 #[derive(Drop)]
 pub struct Receipt<J: Naming> {
     log: LogPrefix<J>,
@@ -16,23 +17,30 @@ pub struct Receipt<J: Naming> {
 }
 
 impl<J: Naming> Model for Receipt<J> {
-    ghost use Rattle.std.specs.Prelude.{◌≡◌, List, length};
+    ghost use Rattle.std.specs.Prelude.{◌≤◌, List, length, take};
     ghost use Rattle.snapshots.specs.declared.entry.Entry.{Entry};
     ghost use Rattle.snapshots.specs.Marks.{accepted};
 
     ghost Value = { List Entry };
 
-    ghost view = { λ r. accepted r.log };
+    ghost view = { λ r. take r.events (accepted r.log) };
 
-    ghost invariant = { λ r. r.events ≡ length (accepted r.log) };
+    ghost invariant = { λ r. r.events ≤ length (accepted r.log) };
 }
 
 impl<J: Naming> Receipt<J> {
-    pub(crate) fn of(log: LogPrefix<J>, events: u64) -> Receipt<J>
-        requires { events ≡ length (accepted log) }
-        ensures { result ≡ accepted log }
+    /// The receipt of all that was tried at some place of the log, where the log is known to have
+    /// accepted it.
+    pub(crate) fn of(done: &LogPrefix<J>, trial: &LogPrefix<J>) -> Option<Receipt<J>>
+        ensures { IfSome result (λ r. r ≡ tried_of trial.now) }
     {
-        Receipt { log, events }
+        if !done.accepts(trial) {
+            return None;
+        }
+        Some(Receipt {
+            log: done.share(),
+            events: trial.tried(),
+        })
     }
 
     /// How many events its list has. It takes no memory.
@@ -44,7 +52,7 @@ impl<J: Naming> Receipt<J> {
 
     /// What was seen of the log.
     pub(crate) fn log(&self) -> &LogPrefix<J>
-        ensures { accepted result.now ≡ self.now }
+        ensures { IsPrefix self.now (accepted result.now) }
     {
         &self.log
     }

@@ -1,10 +1,12 @@
 //! Seats, under whose numbers events are published.
 
 ghost use Rattle.std.specs.Prelude.{◌≡◌, ◌+◌, ◌<◌, []};
+ghost use mathlib.Core.List.{IsPrefix};
 ghost use Rattle.snapshots.specs.Marks.{accepted};
 
 use crate::naming::Naming;
 use crate::prefix::LogPrefix;
+use crate::receipt::Receipt;
 use std::marker::Model;
 
 /// The right to publish events under a number, with the count of those that were published. It
@@ -13,17 +15,19 @@ use std::marker::Model;
 pub struct Seat<J: Naming> {
     number: usize,
     count: u64,
+    events: u64,
     log: LogPrefix<J>,
 }
 
 impl<J: Naming> Model for Seat<J> {
+    ghost use Rattle.std.specs.Prelude.{take};
     ghost use Rattle.snapshots.specs.Marks.{accepted};
     ghost use Rattle.snapshots.specs.Seats.{SeatView};
 
     ghost Value = { SeatView };
 
     ghost view = { λ s.
-        record { number = s.number; count = s.count; seen = accepted s.log } };
+        record { number = s.number; count = s.count; seen = take s.events (accepted s.log) } };
 }
 
 impl<J: Naming> Seat<J> {
@@ -35,6 +39,7 @@ impl<J: Naming> Seat<J> {
         Seat {
             number,
             count: 0,
+            events: 0,
             log,
         }
     }
@@ -55,21 +60,22 @@ impl<J: Naming> Seat<J> {
 
     /// What its last receipt knows of the log.
     pub(crate) fn log(&self) -> &LogPrefix<J>
-        ensures { accepted result.now ≡ self.now.seen }
+        ensures { IsPrefix self.now.seen (accepted result.now) }
     {
         &self.log
     }
 
-    /// One event more was published under it, and this was seen of the log.
-    pub(crate) fn add_one(&mut self, log: LogPrefix<J>)
+    /// One event more was published under it, and this is its receipt.
+    pub(crate) fn add_one(&mut self, receipt: &Receipt<J>)
         requires { self.old.count < 18446744073709551615 }
         ensures { self.new ≡ record {
           number = self.old.number;
           count = self.old.count + 1;
-          seen = accepted log;
+          seen = receipt.now;
         } }
     {
         self.count += 1;
-        self.log = log;
+        self.events = receipt.events();
+        self.log = receipt.log().share();
     }
 }

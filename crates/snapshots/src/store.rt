@@ -2,6 +2,7 @@
 
 ghost use Rattle.std.specs.Prelude.{◌≡◌, ◌≤◌, ◌<◌, ◌↔◌, [], length, map, vec_len, IfOk, IfErr};
 ghost use Rattle.std.specs.Prelude.{MatchBool, MatchResult, Ok};
+ghost use Rattle.std.specs.Arc.{arc_value};
 ghost use Rattle.std.specs.List.{All};
 ghost use Rattle.head.specs.Blocks.{part_in, opening_of};
 ghost use Rattle.head.specs.Heads.{world_of};
@@ -11,6 +12,7 @@ ghost use Rattle.snapshots.specs.Rules.{end_of};
 ghost use Rattle.snapshots.specs.Views.{nothing};
 ghost use Rattle.snapshots.specs.Grows.{Shows};
 ghost use Rattle.snapshots.specs.Seats.{AreFresh, IsRoom};
+ghost use Rattle.snapshots.specs.Standings.{StandsFor};
 
 use crate::book::Book;
 use crate::committer::Committer;
@@ -22,6 +24,8 @@ use crate::pass::Pass;
 use crate::prefix::LogPrefix;
 use crate::press::Press;
 use crate::seat::Seat;
+use crate::standing::Standing;
+use crate::tip::Tip;
 use crate::version::{Grows, Version};
 use block::Block;
 use head::{MAX_BLOCKS, Snapshot};
@@ -56,19 +60,33 @@ fn is_room(passes: usize, seats: usize) -> bool
 /// A press over the opening version.
 fn press_over<J: Naming>(
     alloc: Global,
-    opening: Snapshot,
+    opening: &Arc<Snapshot>,
     log: &LogPrefix<J>,
     passes: usize,
 ) -> Result<Press<J>, AllocError>
     requires room { (0 < passes) × (passes ≤ 64) }
-    requires opening { opening ≡ J.opening }
+    requires opening { arc_value opening.now ≡ J.opening }
     requires empty { log.now ≡ [] }
     ensures { IfOk result (λ p. Shows J.book J.opening p.desk.shown.value []) }
 {
-    let opening = Arc::new(alloc, opening)?;
-    let first = Version::of(opening, 0, log);
+    let first = Version::of(Arc::try_clone(opening)?, log);
     let second = first.share()?;
     Press::new(alloc, first, second, passes)
+}
+
+/// Where a store stands that nothing was published in.
+fn standing_of<J: Naming>(
+    alloc: Global,
+    opening: &Arc<Snapshot>,
+    seats: usize,
+) -> Result<Standing, AllocError>
+    requires { arc_value opening.now ≡ J.opening }
+    ensures { IfOk result (λ s.
+        StandsFor J.opening [] (arc_value s.snapshot) s.counts.items) }
+{
+    let snapshot = Arc::try_clone(opening)?;
+    let counts = Vec::from_elem(alloc, 0u64, seats)?;
+    Ok(Standing { snapshot, counts })
 }
 
 fn passes_of<J: Naming>(
@@ -212,18 +230,23 @@ impl Store {
         };
         let log = LogPrefix::of(seen);
         let told = log.share();
-        let (Ok(counts), Ok(seat_list)) = (
-            Vec::from_elem(alloc, 0u64, seats),
+        let Ok(opening) = Arc::new(alloc, opening) else {
+            return Err(OpenError::Memory);
+        };
+        let (Ok(ahead), Ok(base), Ok(seat_list)) = (
+            standing_of::<J>(alloc, &opening, seats),
+            standing_of::<J>(alloc, &opening, seats),
             seats_of(alloc, &told, seats),
         ) else {
             return Err(OpenError::Memory);
         };
-        let Ok(press) = press_over(alloc, opening, &log, passes) else {
+        let Ok(press) = press_over(alloc, &opening, &log, passes) else {
             return Err(OpenError::Memory);
         };
         let desk = press.factory().another();
-        let book = Book::of(rt, alloc, end, log, counts, press, keeper);
-        let committer = Committer::of(alloc, book);
+        let tip = Tip::of(alloc, end, log.share(), ahead, base);
+        let book = Book::of(rt, log, press, keeper);
+        let committer = Committer::of(alloc, tip, book);
         let Ok(desk) = desk else {
             return Err(OpenError::Unavailable);
         };

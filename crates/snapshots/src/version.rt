@@ -17,7 +17,8 @@ use std::alloc::AllocError;
 use std::marker::{Model, PhantomData};
 use std::sync::Arc;
 
-/// A snapshot, beside the log that ends with the try of its last event.
+/// A snapshot, beside the log that has sealed the last of its events. What is tried after that is in
+/// the log too, and not in the list.
 #[derive(Drop)]
 pub struct Version {
     snapshot: Arc<Snapshot>,
@@ -42,14 +43,13 @@ impl Model for Version {
 }
 
 impl Version {
-    pub fn of<J: Naming>(snapshot: Arc<Snapshot>, events: u64, log: &LogPrefix<J>) -> Version
-        requires { events ≡ length (list_of log.now) }
+    pub fn of<J: Naming>(snapshot: Arc<Snapshot>, log: &LogPrefix<J>) -> Version
         ensures { result ≡ record { book = J.book; marks = log.now; parts = arc_value snapshot } }
     {
         Version {
             snapshot,
             marks: log.len(),
-            events,
+            events: log.listed(),
             seen: log.share_seen(),
         }
     }

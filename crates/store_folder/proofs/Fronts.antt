@@ -31,9 +31,9 @@ is_none e = absurd cc
 
 one_step : (e : Event) (s : SnapshotParts) (blocks : List BlockPart) → is_deletion e ≡ false
     → KeepsBlocks e s blocks → BeginsWith s.blocks blocks
-one_step (batch xs) s blocks e k = ([], k ∙ sym (append-nil s.blocks))
-one_step (deletion ms from to) s blocks e k = is_none e
-one_step (cut t) s blocks e k =
+one_step (batch xs) s blocks none k = ([], k ∙ sym (append-nil s.blocks))
+one_step (deletion ms from to) s blocks none k = is_none none
+one_step (cut t) s blocks none k =
     ⊎_elim (λ same. ([], same ∙ sym (append-nil s.blocks))) (λ more. (more.0 ∷ [], more.1)) k
 
 none_before : (a b : Bool) → (a || b) ≡ false → a ≡ false
@@ -59,12 +59,6 @@ next_in_front events at event first s blocks within is before k none =
     (one_step event s blocks (none_here _ _ both) k)
 
 -- a store that goes on may save its snapshot
-
-like_count : (a b : List BlockPart) → AreLike a b → length a ≡ length b
-like_count [] [] l = refl
-like_count [] (y ∷ b) l = absurd l
-like_count (x ∷ a) [] l = absurd l
-like_count (x ∷ a) (y ∷ b) l = ap suc (like_count a b l.1)
 
 like_all : (blocks : List BlockPart) → AreLike blocks blocks
 like_all [] = tt
@@ -128,13 +122,3 @@ module _ {F : Type 0} (shows : F → List ℕ → Option (List ℕ) → Type 0)
       let both =
       counted (has_deletion events) same count parts s.blocks held none all counts long g.front in
       record { holds = at; world = g.world; few = both.0; front = both.1 }
-
-  -- there are as many places as blocks
-  pub count_held : (first : World) (m : JournalFile F) (len : ℕ) (closed : Bool)
-      (events : List Event) (places : List Place) (parts blocks : List BlockPart)
-      → HoldsAt shows kept sound moment left_since first m len closed events places parts
-      → AreLike blocks parts → length places ≡ length blocks
-  count_held first m len closed events places parts blocks at like =
-      ap (λ (ps : List Place). length ps) (sym at.1)
-      ∙ (as_many at.0.saved.places at.0.parts m.folder at.0.blocks
-      ∙ (ap (λ (bs : List BlockPart). length bs) at.2 ∙ sym (like_count blocks parts like)))

@@ -3,13 +3,12 @@ pub mod Faults
 pub mod Files
 pub mod Fronts
 pub mod Kept
-pub mod Litter
 pub mod OpenedBlocks
-pub mod Places
 pub mod Plains
 pub mod Refusals
 pub mod Rolls
 pub mod Saves
 pub mod Starts
+pub mod Swept
 pub mod Told
 pub mod Writes

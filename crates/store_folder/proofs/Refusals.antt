@@ -1,6 +1,6 @@
 -- What is wrong with the folder of a store, whatever folder it is.
-use Rattle.std.proofs.Common.{◌≡◌, inl, inr, ℕ, suc, Bool, List, [], ◌∷◌, ◌++◌, Option, refl}
-use Rattle.std.proofs.Common.{arith, subst, sym}
+use Rattle.std.proofs.Common.{◌≡◌, inl, inr, ℕ, Bool, List, [], ◌∷◌, ◌++◌, Option, refl}
+use Rattle.std.proofs.Common.{arith, subst, suc, sym}
 use Rattle.std.specs.List.{Contains}
 use Rattle.head.specs.Heads.{BlockPart}
 use Rattle.head_record.specs.Saved.{Place}
@@ -31,7 +31,8 @@ no_memory e = absurd cc
 among : (before after : List Place) (p : Place) → Contains (before ++ p ∷ after) p
 among [] after p = (0, omega arith, refl)
 among (q ∷ before) after p =
-    let r = among before after p in (suc r.0, omega (arith, r.1), r.2)
+    let h = among before after p in
+    (suc h.0, omega (arith, h.1), h.2)
 
 module _ {F : Type 0} (shows : F → List ℕ → Option (List ℕ) → Type 0)
     (kept : F → List ℕ → ℕ → Type 0) where

@@ -17,7 +17,7 @@ use Rattle.store_folder.specs.Blocks.{BlockFiles, name_in, named_files}
 use Rattle.store_folder.specs.Holding.{AreAt}
 use Rattle.store_folder.specs.Sweeps.{names_at, names_of}
 use Rattle.store_folder.specs.Writing.{AreRewritten, Wrote, places_from}
-use Rattle.store_folder.proofs.Litter.{among_at, at_again}
+use Rattle.store_folder.proofs.Swept.{among_at, at_again}
 use Rattle.store_folder.proofs.Rolls.{files_at, joined, there_at}
 
 abbrev names_with : List Named → List (List ℕ)

@@ -1,4 +1,3 @@
-pub mod Adding
 pub mod Blocks
 pub mod Codes
 pub mod Faults

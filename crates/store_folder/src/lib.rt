@@ -1,11 +1,11 @@
 //! The folder of a durable store: what a start reads of it, and what a roll writes.
 //!
 //! A store is one journal and the files of the blocks that its head names: `IsState`, in
-//! `specs/States.antt`. [`read_store`] gives what a folder has of one, and [`resume_store`] goes on
-//! with it; [`StoreKeeper::create`] begins one. A [`StoreKeeper`] keeps the events of a running
-//! store there, writes the files of new blocks ([`StoreKeeper::add_block`]), begins its journal anew
-//! with a head that names them ([`StoreKeeper::roll`]), and removes files that are no longer the
-//! store's ([`StoreKeeper::sweep`]); [`StoreKeeper::renew`] does the last two.
+//! `specs/States.antt`. [`open_store`] gives what a folder has of one, and [`resume_store`] goes on
+//! with it; [`begin_store`] begins one. A [`StoreKeeper`] keeps the events of a running store there.
+//! [`StartedStore::roll`] writes the blocks that the folder has not, begins the journal anew with a
+//! head that names them ([`StoreKeeper::save`]), and removes what is no longer the store's
+//! ([`StoreKeeper::sweep_blocks`]).
 //!
 //! [`read_journal`] gives the head and the events of a journal's file, or the first fault, `J1` to
 //! `J14`; [`read_blocks`] gives the blocks at places, and [`open_block`] the block that files
@@ -15,7 +15,6 @@
 //! journal has, and on `head` for snapshots and the step of an event.
 #![tactic(auto)]
 
-mod adding;
 mod blocks;
 mod codes;
 mod error;
@@ -24,10 +23,9 @@ mod journals;
 mod keeping;
 mod kinds;
 mod laws;
-mod leftovers;
+mod litter;
 mod plain;
 mod reading;
-mod renewing;
 mod rolling;
 mod saving;
 mod started;

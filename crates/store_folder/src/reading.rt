@@ -152,7 +152,6 @@ fn open_file<F: Folder>(
     ensures sound { OnOk result (F.sound folder.new ≡ true) }
     ensures refused { IfErr result (λ e.
         DeniesOpening F.shows F.kept F.failed folder.new file.items e) }
-    ensures told { IfErr result (λ e. cause_of e ≡ Refused → IsRefusal e) }
 {
     if begins_plain(&file) {
         match add_head(alloc, folder, &file) {

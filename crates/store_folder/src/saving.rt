@@ -1,7 +1,7 @@
 //! A snapshot that is saved in the place of the events that made it.
 
-ghost use Rattle.std.specs.Prelude.{◌≡◌, ◌≤◌, ◌-◌, ◌++◌, List, Err, false, true, drop, length, take};
-ghost use Rattle.std.specs.Prelude.{IfOk, OnErr, OnOk};
+ghost use Rattle.std.specs.Prelude.{◌≡◌, ◌≤◌, ◌-◌, ◌++◌, List, Err, false, true, drop, length};
+ghost use Rattle.std.specs.Prelude.{IfOk, OnErr, OnOk, take};
 ghost use Rattle.data_folder.specs.Sweeping.{KeepsStore};
 ghost use Rattle.head.specs.Heads.{BlockPart};
 ghost use Rattle.head.specs.Worlds.{Event as Change};
@@ -88,7 +88,7 @@ impl<N: Beginning, F: Folder + Drop> StoreKeeper<N, F> {
     /// the snapshot's, and the snapshot's other blocks are written anew, in folders of the numbers
     /// from `next` on, of which none is in use. No event may be kept meanwhile. The places of the
     /// snapshot's blocks, which the head then names; what is at others is litter
-    /// ([`StoreKeeper::sweep`]).
+    /// ([`StoreKeeper::sweep_blocks`]).
     ///
     /// Where it fails the journal goes on as it was, unless the fault is `Folder(Lost)`: then it is
     /// closed.

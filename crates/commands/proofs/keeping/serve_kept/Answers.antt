@@ -1,14 +1,20 @@
 use Rattle.std.proofs.Common.{inl}
 use Rattle.std.proofs.lemmas.Result.{err_from_is_err_and}
 use Rattle.commands.proofs.LineEnds.{unused}
-use Rattle.commands.proofs.Servings.{not_opened}
+use Rattle.commands.proofs.Servings.{not_opened, room_counted, seats_counted}
 use Rattle.commands.proofs.keeping.serve_kept.Goals as goal
 
-pub returns-in_err-workers-clause-err : goal.returns-in_err-workers-clause-err
-returns-in_err-workers-clause-err g c =
+pub with_cuts-workers-requires : goal.with_cuts-workers-requires
+with_cuts-workers-requires g c =
+    seats_counted c.passes_of-passes.result c.seats_of-seats.result c.in_ok-opened.opened _
+    c.seats_of-seats.ensures c.in_ok-opened.ensures.workers c.in_ok-opened.ensures.room
+
+pub returns-in_err-opened-clause-err : goal.returns-in_err-opened-clause-err
+returns-in_err-opened-clause-err g c =
     let p = err_from_is_err_and c.from_residual.result c.from_residual.ensures.1 in
     rw (p.1, p.2) (inl (
-      not_opened c.args.serving _ (λ bad room. c.in_err-workers.ensures.refused bad
-          (rw (c.passes_of-passes.ensures room) room)) (λ limit. c.in_err-workers.ensures.few limit),
+      not_opened c.args.serving _ (λ bad room. c.in_err-opened.ensures.refused bad
+          (room_counted _ _ _ _ c.passes_of-passes.ensures c.seats_of-seats.ensures room)) (λ limit.
+          c.in_err-opened.ensures.few limit),
       unused _ (g.W.Write.contents c.args.out.now),
     ))

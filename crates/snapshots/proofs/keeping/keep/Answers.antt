@@ -1,57 +1,58 @@
 use Rattle.keeper.specs.Finding.{IsOfAllAndMore, IsOfAllAndSome}
 use Rattle.keeper.proofs.Finds.{by_was, some_is_more}
 use Rattle.snapshots.specs.Keeping.{IsOfKeeping}
-use Rattle.snapshots.proofs.Keeps.{held_more, hindered, in_flight, last_more, of_keeping, spelled_by}
+use Rattle.snapshots.proofs.Keeps.{held_more, hindered, in_flight, last_more, of_keeping, spelled_some}
 use Rattle.std.proofs.Common.{sym, subst}
 use Rattle.snapshots.proofs.keeping.keep.Goals as goal
 
 pub keep-requires : goal.keep-requires
 keep-requires g c = record {
   held = c.requires.held;
-  spelled = spelled_by g.K.Keeper.idle c.requires.recorded.0 c.args.bytes.now c.requires.recorded.1;
+  spelled = spelled_some g.K.Keeper.idle c.requires.recorded.0 c.args.bytes.now c.requires.recorded.1;
 }
 
 pub returns-in-Ok-clause-ok : goal.returns-in-Ok-clause-ok
-returns-in-Ok-clause-ok g c events event held recorded =
-    held_more g.K.Keeper.idle g.K.Keeper.holds c.args.keeper.now c.keep.new.self c.args.bytes.now g.K.Keeper.any c.in-Ok.ensures.ok events event held recorded
+returns-in-Ok-clause-ok g c events more held spelled =
+    held_more g.K.Keeper.idle g.K.Keeper.holds c.args.keeper.now c.keep.new.self c.args.bytes.now g.K.Keeper.any c.in-Ok.ensures.ok events more held spelled
 
 pub returns-in-Ok-clause-last : goal.returns-in-Ok-clause-last
-returns-in-Ok-clause-last g c events event held recorded =
-    last_more g.K.Keeper.idle g.K.Keeper.holds g.K.Keeper.kept_last c.args.keeper.now c.keep.new.self c.args.bytes.now c.in-Ok.ensures.last events event held recorded
+returns-in-Ok-clause-last g c events more held spelled =
+    last_more g.K.Keeper.idle g.K.Keeper.kept_last c.keep.new.self c.args.bytes.now events more
+    (λ few spells. c.in-Ok.ensures.last events few held spells) spelled
 
 pub returns-in-Ok-clause-any_moment : goal.returns-in-Ok-clause-any_moment
-returns-in-Ok-clause-any_moment g c events event held recorded =
+returns-in-Ok-clause-any_moment g c events more held spelled =
     let k = g.K.Keeper in
     let old = c.args.keeper.now in
-    let more = spelled_by k.idle event c.args.bytes.now recorded in
-    by_was k.moment k.found_since old c.keep.new.self (k.closed old) (IsOfAllAndSome k.first events more.0) (IsOfAllAndMore k.first events)
+    let some = spelled_some k.idle more c.args.bytes.now spelled in
+    by_was k.moment k.found_since old c.keep.new.self (k.closed old) (IsOfAllAndSome k.first events some.0) (IsOfAllAndMore k.first events)
     (λ w had. g.met.K.Keeper.now old events w held had)
-    (λ w some. some_is_more k.first events more.0 w some)
+    (λ w found. some_is_more k.first events some.0 w found)
     (λ t. (c.keep.ensures.closed t).1)
-    (λ opened. c.keep.ensures.any_moment events more.0 held more.1 opened)
+    (λ opened. c.keep.ensures.any_moment events some.0 held some.1 opened)
 
 pub returns-in-Ok-clause-in_flight : goal.returns-in-Ok-clause-in_flight
-returns-in-Ok-clause-in_flight g c events event held recorded opened =
+returns-in-Ok-clause-in_flight g c events more held spelled opened =
     let k = g.K.Keeper in
-    in_flight k.moment k.first k.found_since k.idle k.holds c.args.keeper.now c.keep.new.self c.args.bytes.now
-    (λ es more h s. c.keep.ensures.any_moment es more h s opened) events event held recorded
+    in_flight k.moment k.first k.found_since c.args.keeper.now c.keep.new.self k.idle c.args.bytes.now events more
+    (λ few spells. c.keep.ensures.any_moment events few held spells opened) spelled
 
 pub returns-in-Err-clause-any_moment : goal.returns-in-Err-clause-any_moment
-returns-in-Err-clause-any_moment g c events event held recorded =
+returns-in-Err-clause-any_moment g c events more held spelled =
     let k = g.K.Keeper in
     let old = c.args.keeper.now in
-    let more = spelled_by k.idle event c.args.bytes.now recorded in
-    by_was k.moment k.found_since old c.keep.new.self (k.closed old) (IsOfAllAndSome k.first events more.0) (IsOfAllAndMore k.first events)
+    let some = spelled_some k.idle more c.args.bytes.now spelled in
+    by_was k.moment k.found_since old c.keep.new.self (k.closed old) (IsOfAllAndSome k.first events some.0) (IsOfAllAndMore k.first events)
     (λ w had. g.met.K.Keeper.now old events w held had)
-    (λ w some. some_is_more k.first events more.0 w some)
+    (λ w found. some_is_more k.first events some.0 w found)
     (λ t. (c.keep.ensures.closed t).1)
-    (λ opened. c.keep.ensures.any_moment events more.0 held more.1 opened)
+    (λ opened. c.keep.ensures.any_moment events some.0 held some.1 opened)
 
 pub returns-in-Err-clause-in_flight : goal.returns-in-Err-clause-in_flight
-returns-in-Err-clause-in_flight g c events event held recorded opened =
+returns-in-Err-clause-in_flight g c events more held spelled opened =
     let k = g.K.Keeper in
-    in_flight k.moment k.first k.found_since k.idle k.holds c.args.keeper.now c.keep.new.self c.args.bytes.now
-    (λ es more h s. c.keep.ensures.any_moment es more h s opened) events event held recorded
+    in_flight k.moment k.first k.found_since c.args.keeper.now c.keep.new.self k.idle c.args.bytes.now events more
+    (λ few spells. c.keep.ensures.any_moment events few held spells opened) spelled
 
 pub returns-in-Err-clause-refused : goal.returns-in-Err-clause-refused
 returns-in-Err-clause-refused g c = subst IsOfKeeping (sym c.refusal_of.ensures) (of_keeping c.in-Err.error)

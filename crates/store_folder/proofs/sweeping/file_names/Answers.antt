@@ -5,7 +5,7 @@ use Rattle.std.proofs.lemmas.Option.{slice_get_read}
 use Rattle.data_folder.specs.Sweeping.{names_in}
 use Rattle.event_text.proofs.Writes.{take_next}
 use Rattle.store_folder.specs.Sweeps.{names_at}
-use Rattle.store_folder.proofs.Litter.{block_more}
+use Rattle.store_folder.proofs.Swept.{block_more}
 use Rattle.store_folder.proofs.sweeping.file_names.Goals as goal
 
 pub loop-place-init : goal.loop-place-init

@@ -2,7 +2,7 @@ use Rattle.std.proofs.Common.{ℕ, ap, ◌∙◌}
 use Rattle.std.specs.Prelude.{codes}
 use Rattle.data_folder.specs.Sweeping.{names_in}
 use Rattle.store_folder.specs.Blocks.{name_in}
-use Rattle.store_folder.proofs.Litter.{four_more, name_more}
+use Rattle.store_folder.proofs.Swept.{four_more, name_more}
 use Rattle.store_folder.proofs.sweeping.push_files.Goals as goal
 
 pub returns : goal.returns

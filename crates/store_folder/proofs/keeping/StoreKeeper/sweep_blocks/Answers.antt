@@ -1,6 +1,6 @@
 use Rattle.std.proofs.Common.{refl}
 use Rattle.store_folder.specs.Sweeps.{names_at}
-use Rattle.store_folder.proofs.Litter.{holds_swept, swept_finds}
+use Rattle.store_folder.proofs.Swept.{holds_swept, swept_finds}
 use Rattle.store_folder.proofs.keeping.StoreKeeper.sweep_blocks.Goals as goal
 
 pub sweep_apart-requires : goal.sweep_apart-requires

@@ -1,0 +1,8 @@
+use Rattle.std.proofs.Common.{refl}
+use Rattle.snapshots.proofs.Accepts.{tally_done}
+use Rattle.snapshots.proofs.prefix.LogPrefix.add_done.Goals as goal
+
+pub add-requires-clause-tally : goal.add-requires-clause-tally
+add-requires-clause-tally g c =
+    rw (← c.self.view_is)
+    (tally_done c.self.inside.tally _ c.self.inside.seen.log c.self.invariant.2 refl refl refl refl)

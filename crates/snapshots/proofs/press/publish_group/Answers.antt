@@ -1,0 +1,92 @@
+use Rattle.std.proofs.Common.{◌≡◌, List, refl, rules, sym, subst}
+use Rattle.std.specs.Arc.{arc_value}
+use Rattle.head.specs.Worlds.{Event}
+use Rattle.keeper.specs.Finding.{IsOfAllAndMore, IsOfAllAndSome}
+use Rattle.keeper.proofs.Finds.{some_is_more, wider}
+use Rattle.snapshots.specs.Keeping.{kept_of}
+use Rattle.snapshots.specs.Marks.{accepted}
+use Rattle.snapshots.specs.Replays.{events_in}
+use Rattle.snapshots.proofs.Keeps.{at_most, joined}
+use Rattle.snapshots.proofs.Tips.{group_as, group_kept, group_spelled}
+use Rattle.snapshots.proofs.press.publish_group.Goals as goal
+
+-- nothing was kept
+
+pub returns-in-Err-clause-in_flight : goal.returns-in-Err-clause-in_flight
+returns-in-Err-clause-in_flight g c more is opened =
+    let bytes : c.deref.result.now ≡ c.args.group.records.items = search rules in
+    let is_group = group_as g.J.Naming.opening g.K.Keeper.idle c.args.group.log c.args.group.log (arc_value c.args.group.standing.snapshot) (arc_value c.args.group.standing.snapshot)
+    c.args.group.standing.counts.items c.args.group.standing.counts.items c.args.group.records.items c.deref.result.now refl refl refl bytes c.requires.group in
+    let group = c.args.group in
+    c.keep.ensures.in_flight (kept_of g.J.Naming.before (accepted c.args.log.now)) (events_in more) c.requires.held
+    (group_spelled g.J.Naming.opening g.K.Keeper.idle group.log (arc_value group.standing.snapshot) group.standing.counts.items c.deref.result.now
+    is_group (accepted c.args.log.now) c.requires.follows more is) opened
+
+-- it was kept and published
+
+pub returns-in-Some-clause-held : goal.returns-in-Some-clause-held
+returns-in-Some-clause-held g c =
+    let bytes : c.deref.result.now ≡ c.args.group.records.items = search rules in
+    let is_group = group_as g.J.Naming.opening g.K.Keeper.idle c.args.group.log c.args.group.log (arc_value c.args.group.standing.snapshot) (arc_value c.args.group.standing.snapshot)
+    c.args.group.standing.counts.items c.args.group.standing.counts.items c.args.group.records.items c.deref.result.now refl refl refl bytes c.requires.group in
+    let group = c.args.group in
+    let events : List Event = kept_of g.J.Naming.before (accepted c.args.log.now) in
+    let waiting = is_group.waiting in
+    subst (λ (es : List Event). g.K.Keeper.holds c.keep.new.keeper es)
+    (sym (group_kept g.J.Naming.opening g.K.Keeper.idle group.log (arc_value group.standing.snapshot) group.standing.counts.items c.deref.result.now
+    is_group (accepted c.args.log.now) c.requires.follows g.J.Naming.before (accepted c.in-Some.done) c.in-Some.ensures.list))
+    (c.in-Ok.ensures.ok events (events_in waiting.more) c.requires.held waiting.spelled)
+
+pub returns-in-Some-clause-in_flight : goal.returns-in-Some-clause-in_flight
+returns-in-Some-clause-in_flight g c more is opened =
+    let bytes : c.deref.result.now ≡ c.args.group.records.items = search rules in
+    let is_group = group_as g.J.Naming.opening g.K.Keeper.idle c.args.group.log c.args.group.log (arc_value c.args.group.standing.snapshot) (arc_value c.args.group.standing.snapshot)
+    c.args.group.standing.counts.items c.args.group.standing.counts.items c.args.group.records.items c.deref.result.now refl refl refl bytes c.requires.group in
+    let group = c.args.group in
+    c.keep.ensures.in_flight (kept_of g.J.Naming.before (accepted c.args.log.now)) (events_in more) c.requires.held
+    (group_spelled g.J.Naming.opening g.K.Keeper.idle group.log (arc_value group.standing.snapshot) group.standing.counts.items c.deref.result.now
+    is_group (accepted c.args.log.now) c.requires.follows more is) opened
+
+-- and not published
+
+pub returns-clause-held : goal.returns-clause-held
+returns-clause-held g c =
+    let bytes : c.deref.result.now ≡ c.args.group.records.items = search rules in
+    let is_group = group_as g.J.Naming.opening g.K.Keeper.idle c.args.group.log c.args.group.log (arc_value c.args.group.standing.snapshot) (arc_value c.args.group.standing.snapshot)
+    c.args.group.standing.counts.items c.args.group.standing.counts.items c.args.group.records.items c.deref.result.now refl refl refl bytes c.requires.group in
+    let events : List Event = kept_of g.J.Naming.before (accepted c.args.log.now) in
+    let waiting = is_group.waiting in
+    let last = c.in-Ok.ensures.last events (events_in waiting.more) c.requires.held waiting.spelled in
+    c.close.ensures.held events last.0 last.2
+
+pub returns-clause-any_moment : goal.returns-clause-any_moment
+returns-clause-any_moment g c =
+    let bytes : c.deref.result.now ≡ c.args.group.records.items = search rules in
+    let is_group = group_as g.J.Naming.opening g.K.Keeper.idle c.args.group.log c.args.group.log (arc_value c.args.group.standing.snapshot) (arc_value c.args.group.standing.snapshot)
+    c.args.group.standing.counts.items c.args.group.standing.counts.items c.args.group.records.items c.deref.result.now refl refl refl bytes c.requires.group in
+    let k = g.K.Keeper in
+    let events : List Event = kept_of g.J.Naming.before (accepted c.args.log.now) in
+    let waiting = is_group.waiting in
+    let last = c.in-Ok.ensures.last events (events_in waiting.more) c.requires.held waiting.spelled in
+    joined k.moment k.first k.found_since c.args.keeper.now c.keep.new.keeper c.close.new.self (IsOfAllAndMore k.first events)
+    (c.keep.ensures.any_moment events (events_in waiting.more) c.requires.held waiting.spelled)
+    (wider k.moment k.found_since c.keep.new.keeper c.close.new.self (IsOfAllAndSome k.first events last.0) (IsOfAllAndMore k.first events)
+    (λ w some. some_is_more k.first events last.0 w some)
+    (c.close.ensures.any_moment events last.0 last.2))
+
+pub returns-clause-in_flight : goal.returns-clause-in_flight
+returns-clause-in_flight g c more is opened =
+    let bytes : c.deref.result.now ≡ c.args.group.records.items = search rules in
+    let is_group = group_as g.J.Naming.opening g.K.Keeper.idle c.args.group.log c.args.group.log (arc_value c.args.group.standing.snapshot) (arc_value c.args.group.standing.snapshot)
+    c.args.group.standing.counts.items c.args.group.standing.counts.items c.args.group.records.items c.deref.result.now refl refl refl bytes c.requires.group in
+    let k = g.K.Keeper in
+    let group = c.args.group in
+    let events : List Event = kept_of g.J.Naming.before (accepted c.args.log.now) in
+    let spelled = group_spelled g.J.Naming.opening k.idle group.log (arc_value group.standing.snapshot) group.standing.counts.items c.deref.result.now
+    is_group (accepted c.args.log.now) c.requires.follows more is in
+    let last = c.in-Ok.ensures.last events (events_in more) c.requires.held spelled in
+    joined k.moment k.first k.found_since c.args.keeper.now c.keep.new.keeper c.close.new.self (IsOfAllAndSome k.first events (events_in more))
+    (c.keep.ensures.in_flight events (events_in more) c.requires.held spelled opened)
+    (wider k.moment k.found_since c.keep.new.keeper c.close.new.self (IsOfAllAndSome k.first events last.0) (IsOfAllAndSome k.first events (events_in more))
+    (λ w some. at_most k.first events (events_in more) last.0 w last.1 some)
+    (c.close.ensures.any_moment events last.0 last.2))

@@ -1,0 +1,16 @@
+use Rattle.std.proofs.Common.{rules}
+use mathlib.Core.List.{IsPrefix}
+use Rattle.snapshots.specs.Marks.{accepted, tried_of}
+use Rattle.snapshots.proofs.Prefixes.{prefix_length, take_prefix}
+use Rattle.snapshots.proofs.receipt.Receipt.of.Goals as goal
+
+pub invariant_of-result : goal.invariant_of-result
+invariant_of-result g c =
+    let begins : IsPrefix (tried_of c.args.trial.now) (accepted c.args.done.now) = search rules in
+    let short = prefix_length (tried_of c.args.trial.now) (accepted c.args.done.now) begins in
+    rw (c.tried.ensures, c.share.ensures) short
+
+pub returns : goal.returns
+returns g c =
+    let begins : IsPrefix (tried_of c.args.trial.now) (accepted c.args.done.now) = search rules in
+    rw (c.tried.ensures, c.share.ensures) (take_prefix (tried_of c.args.trial.now) (accepted c.args.done.now) begins)

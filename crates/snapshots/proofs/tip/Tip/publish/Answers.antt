@@ -1,0 +1,23 @@
+use Rattle.std.proofs.Common.{◌≡◌, true, not, rules}
+use Rattle.std.specs.Arc.{arc_value}
+use Rattle.snapshots.proofs.Tips.{behind_kept, behind_while, done_behind, done_stands, stands_tried}
+use Rattle.snapshots.proofs.tip.Tip.publish.Goals as goal
+
+pub invariant_of-self-2 : goal.invariant_of-self-2
+invariant_of-self-2 g c =
+    let t = c.self.inside in
+    let opening = g.J.Naming.opening in
+    let idle = g.K.Keeper.idle in
+    let group = c.args.group in
+    let s = arc_value group.standing.snapshot in
+    let m = group.standing.counts.items in
+    let is : t.waits ≡ true = search rules in
+    let stands = stands_tried opening t.waits t.log (arc_value t.ahead.snapshot) t.ahead.counts.items is c.self.invariant.0 in
+    let behind = behind_kept opening idle t.waits t.log (arc_value t.base.snapshot) t.base.counts.items t.records.items is c.self.invariant.1 in (
+      done_stands g.J.Naming.book opening idle group.log t.log s m group.records.items c.requires.group c.if-not-lists.ensures.lists
+          c.add_done.new.self c.add_done.ensures c.is_settled.result (arc_value t.ahead.snapshot) t.ahead.counts.items c.is_settled.ensures.settled stands,
+      behind_while (not c.is_settled.result)
+          (done_behind g.J.Naming.book opening idle group.log t.log s m group.records.items c.requires.group c.if-not-lists.ensures.lists
+          c.add_done.new.self c.add_done.ensures (arc_value t.base.snapshot) t.base.counts.items t.records.items behind),
+      c.self.invariant.2,
+    )

@@ -1,0 +1,91 @@
+use Rattle.std.proofs.Common.{◌≡◌, ◌<◌, ◌+◌, ◌∙◌, ℕ, List, [], ◌∷◌, ◌++◌, length, slice_index, refl, sym, ap, subst}
+use Rattle.std.specs.Arc.{arc_value}
+use mathlib.Core.List.{IsPrefix}
+use Rattle.head.specs.Heads.{SnapshotParts}
+use Rattle.snapshots.specs.declared.entry.Entry.{Entry}
+use Rattle.snapshots.specs.declared.entry.Mark.{Mark}
+use Rattle.snapshots.specs.Marks.{tried_of}
+use Rattle.snapshots.specs.Replays.{Steps}
+use Rattle.snapshots.specs.Seats.{count_of}
+use Rattle.snapshots.specs.Standings.{current}
+use Rattle.snapshots.specs.Views.{Ledger}
+use Rattle.snapshots.proofs.Counting.{counted_next, met_by}
+use Rattle.snapshots.proofs.Prefixes.{prefix_more}
+use Rattle.snapshots.proofs.Tips.{seen_begins, tried_all, tried_behind, tried_stands}
+use Rattle.snapshots.proofs.tip.Tip.step.Goals as goal
+
+pub returns-in-Err-clause-met : goal.returns-in-Err-clause-met
+returns-in-Err-clause-met g c other =
+    let t = c.self.inside in
+    rw (← c.self.view_is) (met_by c.args.seat.now t.ahead.counts.items (current t.waits t.log)
+    c.self.invariant.0.counted c.if-not-fits.ensures
+    (seen_begins t.waits c.log.result.now t.log c.args.seat.now.seen c.log.ensures c.if-not-begins_with.ensures.begins))
+
+pub invariant_of-self-2 : goal.invariant_of-self-2
+invariant_of-self-2 g c =
+    let t = c.self.inside in
+    let counts = t.ahead.counts.items in
+    let entry : Entry = record { event = g.C.Change.event c.args.change.now; seat = c.number-number.result } in
+    let within = subst (λ (k : ℕ). k < length counts) (sym c.number-number.ensures) c.if-not-fits.ensures.0 in
+    let more = ap (λ (k : ℕ). k + 1) (c.count.ensures ∙ sym (ap (slice_index counts) c.number-number.ensures ∙ c.if-not-fits.ensures.1)) in
+    let step = subst (λ (z : SnapshotParts). Steps z entry.event (arc_value c.in-Ok.snapshot)) c.deref.ensures c.in-Ok.ensures.ok in (
+      tried_stands g.J.Naming.opening t.waits t.log c.add_try.new.self entry (arc_value t.ahead.snapshot) (arc_value c.in-Ok.snapshot)
+          counts c.number-number.result (c.count.result + 1) c.if-is_given_up.ensures c.add_try.ensures c.self.invariant.0 step refl within more,
+      tried_behind g.J.Naming.opening g.K.Keeper.idle t.log c.add_try.new.self entry (arc_value c.set_aside.new.base.snapshot) c.set_aside.new.base.counts.items
+          c.set_aside.new.records.items c.push_record.new.records.items c.add_try.ensures c.in-Ok-set_aside.ensures.behind
+          (λ events so_far. c.in-Ok-push_record.ensures.ok events entry.event so_far c.requires),
+      c.self.invariant.2,
+    )
+
+pub returns-clause-list : goal.returns-clause-list
+returns-clause-list g c =
+    let t = c.self.inside in
+    let event = g.C.Change.event c.args.change.now in
+    let entry : Entry = record { event = event; seat = c.number-number.result } in
+    ap tried_of c.share.ensures
+    ∙ (tried_all t.waits t.log c.add_try.new.self entry c.if-is_given_up.ensures c.add_try.ensures
+    ∙ (ap (λ (k : ℕ). current t.waits t.log ++ record { event = event; seat = k } ∷ []) c.number-number.ensures
+    ∙ ap (λ (l : Ledger). l.entries ++ record { event = event; seat = c.args.seat.now.number } ∷ []) c.self.view_is))
+
+pub returns-clause-begins : goal.returns-clause-begins
+returns-clause-begins g c =
+    let t = c.self.inside in
+    let entry : Entry = record { event = g.C.Change.event c.args.change.now; seat = c.number-number.result } in
+    subst (λ (z : List Mark). IsPrefix c.args.seat.now.seen (tried_of z)) (sym c.share.ensures)
+    (prefix_more c.args.seat.now.seen (current t.waits t.log) (tried_of c.add_try.new.self) entry
+    (seen_begins t.waits c.log.result.now t.log c.args.seat.now.seen c.log.ensures c.if-not-begins_with.ensures.begins)
+    (tried_all t.waits t.log c.add_try.new.self entry c.if-is_given_up.ensures c.add_try.ensures))
+
+pub returns-clause-counted : goal.returns-clause-counted
+returns-clause-counted g c =
+    let t = c.self.inside in
+    let entry : Entry = record { event = g.C.Change.event c.args.change.now; seat = c.number-number.result } in
+    subst (λ (z : List Mark). count_of c.args.seat.now.number (tried_of z) ≡ c.args.seat.now.count + 1) (sym c.share.ensures)
+    (counted_next t.ahead.counts.items (current t.waits t.log) (tried_of c.add_try.new.self) entry c.args.seat.now.number (c.args.seat.now.count + 1)
+    c.self.invariant.0.counted
+    (tried_all t.waits t.log c.add_try.new.self entry c.if-is_given_up.ensures c.add_try.ensures)
+    c.number-number.ensures c.if-not-fits.ensures.0 (ap (λ (k : ℕ). k + 1) (sym c.if-not-fits.ensures.1)))
+
+pub returns-clause-books : goal.returns-clause-books
+returns-clause-books g c =
+    let t = c.self.inside in
+    let counts = t.ahead.counts.items in
+    let entry : Entry = record { event = g.C.Change.event c.args.change.now; seat = c.number-number.result } in
+    let within = subst (λ (k : ℕ). k < length counts) (sym c.number-number.ensures) c.if-not-fits.ensures.0 in
+    let more = ap (λ (k : ℕ). k + 1) (c.count.ensures ∙ sym (ap (slice_index counts) c.number-number.ensures ∙ c.if-not-fits.ensures.1)) in
+    let step = subst (λ (z : SnapshotParts). Steps z entry.event (arc_value c.in-Ok.snapshot)) c.deref.ensures c.in-Ok.ensures.ok in
+    let stands = tried_stands g.J.Naming.opening t.waits t.log c.add_try.new.self entry (arc_value t.ahead.snapshot) (arc_value c.in-Ok.snapshot)
+    counts c.number-number.result (c.count.result + 1) c.if-is_given_up.ensures c.add_try.ensures c.self.invariant.0 step refl within more in
+    stands.counted
+
+pub returns-clause-world : goal.returns-clause-world
+returns-clause-world g c =
+    let t = c.self.inside in
+    let counts = t.ahead.counts.items in
+    let entry : Entry = record { event = g.C.Change.event c.args.change.now; seat = c.number-number.result } in
+    let within = subst (λ (k : ℕ). k < length counts) (sym c.number-number.ensures) c.if-not-fits.ensures.0 in
+    let more = ap (λ (k : ℕ). k + 1) (c.count.ensures ∙ sym (ap (slice_index counts) c.number-number.ensures ∙ c.if-not-fits.ensures.1)) in
+    let step = subst (λ (z : SnapshotParts). Steps z entry.event (arc_value c.in-Ok.snapshot)) c.deref.ensures c.in-Ok.ensures.ok in
+    let stands = tried_stands g.J.Naming.opening t.waits t.log c.add_try.new.self entry (arc_value t.ahead.snapshot) (arc_value c.in-Ok.snapshot)
+    counts c.number-number.result (c.count.result + 1) c.if-is_given_up.ensures c.add_try.ensures c.self.invariant.0 step refl within more in
+    stands.after

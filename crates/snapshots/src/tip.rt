@@ -1,0 +1,455 @@
+//! Where the events of a store are tried.
+
+ghost use Rattle.std.specs.Prelude.{◌≡◌, ◌+◌, ◌++◌, ◌∷◌, ◌↔◌, [], slice_set};
+ghost use Rattle.std.specs.Prelude.{false, IsOk, IfOk, IfErr, IfSome, OnOk, OnErr, MatchBool};
+ghost use Rattle.std.specs.Prelude.{MatchOption};
+ghost use Rattle.std.specs.Arc.{arc_value};
+ghost use mathlib.Core.List.{IsPrefix};
+ghost use Rattle.head.specs.Outcomes.{IsStepRefusal};
+ghost use Rattle.head.specs.Heads.{world_of};
+ghost use Rattle.head.specs.Worlds.{stepped};
+ghost use Rattle.snapshots.specs.Marks.{accepted, list_of, tried_of};
+ghost use Rattle.snapshots.specs.Grows.{Shows, MayFollow};
+ghost use Rattle.snapshots.specs.Keeping.{IsGroup, IsRecordFor};
+ghost use Rattle.snapshots.specs.Replays.{IsAfter, Steps, IsEventRefusal, IsOfStore};
+ghost use Rattle.snapshots.specs.Seats.{FitsSeat, AreCounts, IsMetBy, count_of};
+ghost use Rattle.snapshots.specs.Standings.{StandsFor, current};
+ghost use Rattle.snapshots.specs.Tips.{IsBehind, IsFailure};
+
+use crate::change::Change;
+use crate::entry::Tried;
+use crate::group::Group;
+use crate::keeping::push_record;
+use crate::log::LogEnd;
+use crate::naming::Naming;
+use crate::prefix::LogPrefix;
+use crate::press::{Press, publish};
+use crate::receipt::Receipt;
+use crate::seat::Seat;
+use crate::standing::Standing;
+use crate::version::Version;
+use core::mem::{replace, replace_with, swap};
+use head::{CommitError, Snapshot};
+use keeper::Keeper;
+use std::alloc::{AllocError, Global};
+use std::marker::{Model, PhantomData};
+use std::sync::{Arc, Wait};
+
+/// Whether the seat's number is one of the store's, and its count is the same here and may grow.
+fn fits<J: Naming>(counts: &Vec<u64>, seat: &Seat<J>) -> bool
+    ensures { MatchBool result (FitsSeat seat.now counts.now.items)
+        (¬ FitsSeat seat.now counts.now.items) }
+{
+    match counts.get(seat.number()) {
+        Some(count) => *count == seat.count() && seat.count() < u64::MAX,
+        None => false,
+    }
+}
+
+/// The snapshot after a change, to be shared.
+fn snapshot_after<C: Change>(
+    alloc: Global,
+    at: &Snapshot,
+    change: &C,
+) -> Result<Arc<Snapshot>, CommitError>
+    ensures ok { IfOk result (λ s. Steps at.now (C.event change.now) (arc_value s)) }
+    ensures refused { IfErr result (λ e.
+        IsStepRefusal e (stepped (world_of at.now) (C.event change.now))) }
+{
+    let snapshot = change.apply(alloc, at)?;
+    match Arc::new(alloc, snapshot) {
+        Ok(shared) => Ok(shared),
+        Err(_) => Err(CommitError::Memory),
+    }
+}
+
+/// Whether what waited was given up, and not all who tried know it yet.
+fn is_given_up<J: Naming>(waits: bool, log: &LogPrefix<J>) -> bool
+    ensures { MatchBool result (Unit {0})
+        (MatchBool waits (Unit {0}) (accepted log.now ≡ tried_of log.now)) }
+{
+    if waits {
+        return false;
+    }
+    !log.is_settled()
+}
+
+/// Makes ready for one more event to wait. If none does, what was tried is what is published, and
+/// is set aside.
+fn set_aside<J: Naming, K: Keeper>(
+    alloc: Global,
+    log: &LogPrefix<J>,
+    waits: bool,
+    ahead: &Standing,
+    base: &mut Standing,
+    records: &mut Vec<u8>,
+) -> Result<(), AllocError>
+    requires ahead { StandsFor J.opening (current waits log.now)
+        (arc_value ahead.now.snapshot) ahead.now.counts.items }
+    requires behind { MatchBool waits (IsBehind J.opening K.idle log.now
+        (arc_value base.old.snapshot) base.old.counts.items records.old.items) (Unit {0}) }
+    requires settled { MatchBool waits (Unit {0}) (accepted log.now ≡ tried_of log.now) }
+    ensures behind { OnOk result (IsBehind J.opening K.idle log.now
+        (arc_value base.new.snapshot) base.new.counts.items records.new.items) }
+    ensures kept { OnErr result ((base.new ≡ base.old) × (records.new ≡ records.old)) }
+{
+    if waits {
+        return Ok(());
+    }
+    let set = ahead.share(alloc)?;
+    *base = set;
+    records.clear();
+    Ok(())
+}
+
+/// What is published, where what waits is given up; the other comes into its place.
+fn put_back(waits: bool, ahead: &mut Standing, base: &mut Standing)
+    ensures { MatchBool waits (ahead.new ≡ base.old) (ahead.new ≡ ahead.old) }
+{
+    if waits {
+        swap(ahead, base);
+    }
+}
+
+/// Where the events of a store are tried, each after all that were tried before it, and wait to be
+/// kept and published. Contracts see it as the list that the next event is tried after, the count
+/// of each seat in it, and the snapshot that it makes.
+#[derive(Drop)]
+pub struct Tip<J: Naming, K: Keeper> {
+    end: LogEnd<J>,
+    /// All that was seen of the log.
+    log: LogPrefix<J>,
+    /// The log up to the last events that are done.
+    done: LogPrefix<J>,
+    /// After all that was tried; or what is published, if nothing waits.
+    ahead: Standing,
+    /// What is published, if something waits.
+    base: Standing,
+    /// The records of what waits and is not sealed.
+    records: Vec<u8>,
+    /// Whether events wait that are not given up.
+    waits: bool,
+    /// Whether someone keeps what was sealed.
+    led: bool,
+    /// How many wait to know what became of their events.
+    trials: u64,
+    /// Why what waited last was given up.
+    failure: CommitError,
+    alloc: Global,
+    of: PhantomData<K>,
+}
+
+impl<J: Naming, K: Keeper> Model for Tip<J, K> {
+    ghost use Rattle.std.specs.Prelude.{MatchBool};
+    ghost use Rattle.std.specs.Arc.{arc_value};
+    ghost use Rattle.snapshots.specs.Standings.{StandsFor, current};
+    ghost use Rattle.snapshots.specs.Tips.{IsBehind, IsFailure};
+    ghost use Rattle.snapshots.specs.Views.{Ledger};
+
+    ghost Value = { Ledger };
+
+    ghost view = { λ t. record {
+      entries = current t.waits t.log;
+      counts = t.ahead.counts.items;
+      parts = arc_value t.ahead.snapshot;
+    } };
+
+    ghost invariant = { λ t.
+        StandsFor J.opening (current t.waits t.log) (arc_value t.ahead.snapshot)
+        t.ahead.counts.items
+        × MatchBool t.waits (IsBehind J.opening K.idle t.log (arc_value t.base.snapshot)
+        t.base.counts.items t.records.items) (Unit {0})
+        × IsFailure K.idle t.failure };
+}
+
+impl<J: Naming, K: Keeper> Tip<J, K> {
+    /// The tip of a store that nothing was published in. The other standing's place is for later.
+    pub(crate) fn of(
+        alloc: Global,
+        end: LogEnd<J>,
+        log: LogPrefix<J>,
+        ahead: Standing,
+        base: Standing,
+    ) -> Tip<J, K>
+        requires empty { log ≡ [] }
+        requires stands { StandsFor J.opening [] (arc_value ahead.snapshot) ahead.counts.items }
+        ensures { result ≡ record {
+          entries = [];
+          counts = ahead.counts.items;
+          parts = arc_value ahead.snapshot;
+        } }
+    {
+        let done = log.share();
+        Tip {
+            end,
+            log,
+            done,
+            ahead,
+            base,
+            records: Vec::new(alloc),
+            waits: false,
+            led: false,
+            trials: 0,
+            failure: CommitError::Memory,
+            alloc,
+            of: PhantomData,
+        }
+    }
+
+    /// Tries one event, in the form that it is held in, under a seat's number: its step after all
+    /// that was tried. It waits from then on, with its record, to be kept and published; the log
+    /// that is answered ends with its try. `E7` where the number is none of this store's, or the
+    /// seat's count is not the one here, or cannot grow; then the refusal of the event's step on
+    /// the snapshot here, whose list begins with that of the seat's last receipt and has as many
+    /// events of the seat's number as the seat counts; then `E8` while events that were given up
+    /// are still waited for. A list shorter than that of the seat's last receipt would be a refusal
+    /// of memory, and does not occur.
+    pub fn step<C: Change, R: Wait>(
+        &mut self,
+        rt: &R,
+        seat: &Seat<J>,
+        change: &C,
+        bytes: &[u8],
+    ) -> Result<LogPrefix<J>, CommitError>
+        requires { IsRecordFor K.idle (C.event change.now) bytes.now }
+        ensures fits { OnOk result (FitsSeat seat.now self.old.counts) }
+        ensures seat { IfErr result (λ e.
+            (e ≡ CommitError.Seat) ↔ (¬ FitsSeat seat.now self.old.counts)) }
+        ensures steps { OnOk result (Steps self.old.parts (C.event change.now) self.new.parts) }
+        ensures refused { IfErr result (λ e.
+            IsEventRefusal e self.old.parts (C.event change.now)) }
+        ensures met { IfErr result (λ e. ¬ IsOfStore e → IsMetBy seat.now self.old.entries) }
+        ensures journal { IfErr result (λ e. e ≡ CommitError.Journal → K.idle ≡ false) }
+        // `E8` hides no refusal of the event's step.
+        ensures ready { IfErr result (λ e. e ≡ CommitError.Journal
+            → IsOk (stepped (world_of self.old.parts) (C.event change.now))) }
+        ensures kept { OnErr result (self.new ≡ self.old) }
+        ensures list { IfOk result (λ p. tried_of p
+            ≡ self.old.entries
+            ++ record { event = C.event change.now; seat = seat.now.number } ∷ []) }
+        ensures added { IfOk result (λ p. self.new.entries ≡ tried_of p) }
+        ensures counts { OnOk result (self.new.counts
+            ≡ slice_set self.old.counts seat.now.number (seat.now.count + 1)) }
+        ensures begins { IfOk result (λ p. IsPrefix seat.now.seen (tried_of p)) }
+        ensures counted { IfOk result (λ p.
+            count_of seat.now.number (tried_of p) ≡ seat.now.count + 1) }
+        ensures books { AreCounts self.new.counts self.new.entries }
+        ensures world { IsAfter J.opening self.new.entries self.new.parts }
+    {
+        let number = seat.number();
+        if !fits(&self.ahead.counts, seat) {
+            return Err(CommitError::Seat);
+        }
+        if !self.log.has_room() {
+            return Err(CommitError::Memory);
+        }
+        if !self.log.begins_with(seat.log()) {
+            return Err(CommitError::Memory);
+        }
+        let snapshot = match snapshot_after(self.alloc, &self.ahead.snapshot, change) {
+            Ok(snapshot) => snapshot,
+            Err(error) => return Err(error),
+        };
+        if is_given_up(self.waits, &self.log) {
+            return Err(self.failure);
+        }
+        match set_aside::<J, K>(
+            self.alloc,
+            &self.log,
+            self.waits,
+            &self.ahead,
+            &mut self.base,
+            &mut self.records,
+        ) {
+            Ok(()) => {}
+            Err(_) => return Err(CommitError::Memory),
+        }
+        match push_record::<K>(&mut self.records, bytes) {
+            Ok(()) => {}
+            Err(_) => return Err(CommitError::Memory),
+        }
+        self.log.add_try::<C, R>(
+            rt,
+            &self.end,
+            &Tried {
+                change,
+                seat: number,
+            },
+        );
+        self.ahead.snapshot = snapshot;
+        self.ahead.counts[number] = seat.count() + 1;
+        self.waits = true;
+        self.trials = self.trials.saturating_add(1);
+        Ok(self.log.share())
+    }
+
+    /// The log with all that was tried, for one who waits to know what becomes of it; `None` if
+    /// nothing waits.
+    pub fn trial(&mut self) -> Option<LogPrefix<J>>
+        ensures list { IfSome result (λ p. tried_of p ≡ self.old.entries) }
+        ensures same { self.new ≡ self.old }
+    {
+        if !self.waits {
+            return None;
+        }
+        self.trials = self.trials.saturating_add(1);
+        Some(self.log.share())
+    }
+
+    /// What became of all that was tried up to a place of the log, for one who waits for it, and
+    /// does so no more: a receipt, if it is published, or why it is given up; `None` while neither
+    /// is known.
+    pub fn outcome<R: Wait>(
+        &mut self,
+        rt: &R,
+        trial: &LogPrefix<J>,
+    ) -> Result<Option<Receipt<J>>, CommitError>
+        ensures receipt { IfOk result (λ found. IfSome found (λ r. r ≡ tried_of trial.now)) }
+        ensures refused { IfErr result (λ e. IsFailure K.idle e) }
+        ensures same { self.new ≡ self.old }
+    {
+        if let Some(receipt) = Receipt::of(&self.done, trial) {
+            self.leave(rt);
+            return Ok(Some(receipt));
+        }
+        let failure = self.failure;
+        if self.log.voids() != trial.voids() {
+            self.leave(rt);
+            return Err(failure);
+        }
+        if is_given_up(self.waits, &self.log) {
+            self.leave(rt);
+            return Err(failure);
+        }
+        Ok(None)
+    }
+
+    /// One waits no more. If what waited was given up, and this was the last who did not know it,
+    /// the log says so, and events are tried anew.
+    fn leave<R: Wait>(&mut self, rt: &R)
+        ensures { self.new ≡ self.old }
+    {
+        self.trials = self.trials.saturating_sub(1);
+        if self.trials > 0 {
+            return;
+        }
+        if !is_given_up(self.waits, &self.log) {
+            return;
+        }
+        if self.waits {
+            return;
+        }
+        if !self.log.has_room() {
+            return;
+        }
+        self.log.add_void(rt, &self.end);
+    }
+
+    /// Whether someone keeps what was sealed.
+    pub fn is_led(&self) -> bool {
+        self.led
+    }
+
+    /// Seals all that waits, for one who keeps and publishes it from then on. It is refused for
+    /// memory alone.
+    pub fn seal<R: Wait>(&mut self, rt: &R) -> Result<Group<J>, CommitError>
+        ensures group { IfOk result (λ g. IsGroup J.opening K.idle g.log
+            (arc_value g.standing.snapshot) g.standing.counts.items g.records.items) }
+        ensures alike { IfOk result (λ g.
+            arc_value g.shown ≡ arc_value g.standing.snapshot) }
+        ensures refused { IfErr result (λ e. e ≡ CommitError.Memory) }
+        ensures same { self.new ≡ self.old }
+    {
+        if !self.waits {
+            return Err(CommitError::Memory);
+        }
+        if !self.log.has_room() {
+            return Err(CommitError::Memory);
+        }
+        if !self.log.is_unsealed() {
+            return Err(CommitError::Memory);
+        }
+        let Ok(standing) = self.ahead.share(self.alloc) else {
+            return Err(CommitError::Memory);
+        };
+        let Ok(shown) = Arc::try_clone(&self.ahead.snapshot) else {
+            return Err(CommitError::Memory);
+        };
+        let records = replace(&mut self.records, Vec::new(self.alloc));
+        self.log.add_seal(rt, &self.end);
+        self.led = true;
+        Ok(Group {
+            log: self.log.share(),
+            standing,
+            shown,
+            records,
+        })
+    }
+
+    /// Publishes a group that is kept, and marks that in the log, which is answered; `None` if it
+    /// is not published. What was tried meanwhile waits.
+    pub fn publish<R: Wait>(
+        &mut self,
+        rt: &R,
+        press: &mut Press<J>,
+        group: Group<J>,
+    ) -> Option<LogPrefix<J>>
+        requires group { IsGroup J.opening K.idle group.log
+            (arc_value group.standing.snapshot) group.standing.counts.items group.records.items }
+        requires alike { arc_value group.shown ≡ arc_value group.standing.snapshot }
+        requires shown { Shows J.book J.opening press.old.desk.shown.value (accepted group.log) }
+        ensures list { IfSome result (λ log. accepted log ≡ list_of group.log) }
+        ensures shown { MatchOption result
+            (press.new.desk.shown.value ≡ press.old.desk.shown.value)
+            (λ log. Shows J.book J.opening press.new.desk.shown.value (accepted log)) }
+        ensures parts { IfSome result (λ _.
+            press.new.desk.shown.value.parts ≡ arc_value group.shown) }
+    {
+        let Group {
+            log,
+            standing,
+            shown,
+            records: _,
+        } = group;
+        self.led = false;
+        if !self.waits {
+            return None;
+        }
+        if !self.log.has_room() {
+            return None;
+        }
+        if !self.log.lists(&log) {
+            return None;
+        }
+        let next = Version::of(shown, &self.log);
+        let published = replace_with(
+            press,
+            next,
+            |press: Press<J>, next: Version| -> (Press<J>, bool)
+                requires { MayFollow J.book J.opening press.desk.shown.value next }
+                ensures { MatchBool result.1 (result.0.desk.shown.value ≡ next)
+                    (result.0.desk.shown.value ≡ press.desk.shown.value) }
+            { publish(rt, press, next) },
+        );
+        if !published {
+            return None;
+        }
+        self.log.add_done(rt, &self.end);
+        self.base = standing;
+        self.waits = !self.log.is_settled();
+        self.done = self.log.share();
+        Some(self.log.share())
+    }
+
+    /// Gives up all that waits: the tip is back at what is published.
+    pub fn give_up(&mut self, error: CommitError)
+        requires { IsFailure K.idle error }
+        ensures books { AreCounts self.new.counts self.new.entries }
+        ensures world { IsAfter J.opening self.new.entries self.new.parts }
+    {
+        put_back(self.waits, &mut self.ahead, &mut self.base);
+        self.waits = false;
+        self.led = false;
+        self.failure = error;
+    }
+}

@@ -1,8 +1,0 @@
-use Rattle.data_folder.proofs.Sweeps.{nothing_removed}
-use Rattle.store_folder.proofs.adding.add_file.Goals as goal
-
-pub returns-clause-kept : goal.returns-clause-kept
-returns-clause-kept g c names apart =
-    let f = g.F.Folder in
-    nothing_removed f.shows f.kept f.sound f.moment f.left_since g.met.F.Folder.only_now names
-    c.args.folder.now
