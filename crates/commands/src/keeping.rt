@@ -18,7 +18,7 @@ ghost use Rattle.commands.specs.Keeping.{IsDataFault, IsRead, first_of};
 ghost use Rattle.commands.specs.ServingRuns.{TellsPort, IsKeepingFault, IsServingFault};
 
 use crate::command::Serving;
-use crate::data_folder::{block_path_in, cannot_read, cannot_write, lock_data, path_in};
+use crate::locking::{block_path_in, cannot_read, cannot_write, lock_data, path_in};
 use crate::fault::{Fault, Refusal};
 use crate::files::ReadFiles;
 use crate::process::Process;

@@ -32,7 +32,7 @@
 
 pub mod check;
 mod command;
-mod data_folder;
+mod locking;
 mod demo;
 mod fault;
 mod files;

@@ -16,7 +16,7 @@ ghost use Rattle.commands.specs.Listing.{IsUnreadFile, IsUnreadJournal};
 ghost use Rattle.commands.specs.Reading.{AreFirstBytes};
 ghost use Rattle.commands.specs.Selecting.{KeepsAt};
 
-use crate::data_folder::path_in;
+use crate::locking::path_in;
 use crate::fault::{Fault, Refusal};
 use crate::files::{ReadError, ReadFiles};
 use crate::sending::send;
