@@ -148,6 +148,11 @@ sealed_behind opening idle log sealed t n old new is behind none = record {
   };
 }
 
+-- while something waits
+pub current_waits : (waits : Bool) (log : List Mark) → waits ≡ true → current waits log ≡ tried_of log
+current_waits true log is = refl
+current_waits false log is = absurd (cc is)
+
 -- what was sealed is published
 
 module _ (book : Book) (opening : SnapshotParts) (idle : Bool) (group log : List Mark) (s : SnapshotParts) (counts bytes : List ℕ)
@@ -186,6 +191,11 @@ module _ (book : Book) (opening : SnapshotParts) (idle : Bool) (group log : List
         stands_as opening (tried_of log) (accepted done) t n (sym (all ∙ (ap tried_of is ∙ tried_done log))) stands
     done_stands false t n all stands = stands_as opening (tried_of log) (tried_of done) t n (sym (ap tried_of is ∙ tried_done log)) stands
 
+    pub done_current : (settled waits : Bool) → MatchBool settled (accepted done ≡ tried_of done) (Unit {0}) → waits ≡ true
+        → current (not settled) done ≡ current waits log
+    done_current true waits all waiting = all ∙ (ap tried_of is ∙ (tried_done log ∙ sym (current_waits waits log waiting)))
+    done_current false waits all waiting = ap tried_of is ∙ (tried_done log ∙ sym (current_waits waits log waiting))
+
     pub done_behind : (t : SnapshotParts) (n records : List ℕ) → IsBehind opening idle log t n records → IsBehind opening idle done s counts records
     done_behind t n records behind =
         let w = behind.waiting in
@@ -220,10 +230,6 @@ pub stands_tried : (opening : SnapshotParts) (waits : Bool) (log : List Mark) (s
 stands_tried opening true log s counts is stands = stands
 stands_tried opening false log s counts is stands = absurd (cc is)
 
-pub current_waits : (waits : Bool) (log : List Mark) → waits ≡ true → current waits log ≡ tried_of log
-current_waits true log is = refl
-current_waits false log is = absurd (cc is)
-
 pub none_behind : (waits : Bool) (P : Type 0) → waits ≡ false → MatchBool waits P (Unit {0})
 none_behind true P is = absurd (cc is)
 none_behind false P is = tt
@@ -232,10 +238,11 @@ pub sealed_current : (waits : Bool) (log sealed : List Mark) → sealed ≡ log 
 sealed_current true log sealed is = ap tried_of is ∙ tried_seal log
 sealed_current false log sealed is = ap accepted is ∙ accepted_seal log
 
--- tips that differ in nothing but how their list is written
-pub same_ledger : (xs ys : List Entry) (counts : List ℕ) (parts : SnapshotParts) → xs ≡ ys
-    → ◌≡◌ {A = Ledger} (record { entries = xs; counts = counts; parts = parts }) (record { entries = ys; counts = counts; parts = parts })
-same_ledger xs ys counts parts e = λ i. record { entries = e i; counts = counts; parts = parts }
+-- tips that differ in nothing but how their lists are written
+pub same_ledger : (us vs xs ys : List Entry) (counts : List ℕ) (parts : SnapshotParts) → us ≡ vs → xs ≡ ys
+    → ◌≡◌ {A = Ledger} (record { published = us; entries = xs; counts = counts; parts = parts })
+    (record { published = vs; entries = ys; counts = counts; parts = parts })
+same_ledger us vs xs ys counts parts d e = λ i. record { published = d i; entries = e i; counts = counts; parts = parts }
 
 -- a group by other names
 pub group_as : (opening : SnapshotParts) (idle : Bool) (log other : List Mark) (s t : SnapshotParts) (m n old new : List ℕ)
@@ -270,3 +277,7 @@ module _ (opening : SnapshotParts) (idle : Bool) (group : List Mark) (s : Snapsh
       → kept_of before entries ≡ kept_of before xs ++ events_in is_group.waiting.more
   group_kept before entries is =
       ap (kept_of before) (is ∙ group_parts) ∙ kept_more before xs is_group.waiting.more
+
+-- what is not as short as what is accepted does not begin it
+pub none_begins : (xs ys : List Entry) (m n : ℕ) → m ≡ length xs → n ≡ length ys → n < m → IsPrefix xs ys → ⊥
+none_begins xs ys m n is equal less p = absurd (let short = prefix_length xs ys p in omega (arith, short, is, equal))

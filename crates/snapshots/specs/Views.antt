@@ -11,8 +11,10 @@ pub record Edition : Type 0 where
   pub marks : List Mark
   pub parts : SnapshotParts
 
--- where a store stands: a list of events, how many of each seat, and the snapshot after them
+-- where a store stands: the list that is published, the list that the next event is tried after,
+-- how many events of each seat it has, and the snapshot after it
 pub record Ledger : Type 0 where
+  pub published : List Entry
   pub entries : List Entry
   pub counts : List ℕ
   pub parts : SnapshotParts

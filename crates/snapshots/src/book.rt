@@ -71,28 +71,29 @@ impl<J: Naming, R: Wait + Drop, K: Keeper + Drop> Book<J, R, K> {
     /// pass that enters from then on. `E8` if it is not kept; then it is given up, with all that
     /// was tried meanwhile. A group that does not follow what is published would be a refusal of
     /// memory, and does not occur. It waits for the readers of the version before. The tip is
-    /// locked after the events are kept, unless it is held.
+    /// locked after the events are kept, unless it is held; its guard comes back.
     pub fn publish<'a>(
         &mut self,
         tip: &'a Mutex<Tip<J, K>>,
         held: Option<MutexGuard<'a, Tip<J, K>>>,
         group: Group<J>,
-    ) -> Result<(), CommitError>
+    ) -> (MutexGuard<'a, Tip<J, K>>, Result<(), CommitError>)
         requires group { IsGroup J.opening K.idle group.log
             (arc_value group.standing.snapshot) group.standing.counts.items group.records.items }
         requires alike { arc_value group.shown ≡ arc_value group.standing.snapshot }
-        ensures list { OnOk result (self.new.entries ≡ list_of group.log) }
-        ensures parts { OnOk result (self.new.parts ≡ arc_value group.shown) }
-        ensures kept { OnErr result (self.new ≡ self.old) }
-        ensures refused { IfErr result (λ e. IsOfKeeping e) }
-        ensures journal { IfErr result (λ e. e ≡ CommitError.Journal → K.idle ≡ false) }
+        ensures list { OnOk result.1 (self.new.entries ≡ list_of group.log) }
+        ensures parts { OnOk result.1 (self.new.parts ≡ arc_value group.shown) }
+        ensures kept { OnErr result.1 (self.new ≡ self.old) }
+        ensures refused { IfErr result.1 (λ e. IsOfKeeping e) }
+        ensures journal { IfErr result.1 (λ e. e ≡ CommitError.Journal → K.idle ≡ false) }
         ensures world { IsAfter J.opening self.new.entries self.new.parts }
         // What is kept makes the world that is published, whatever was kept before the start.
         ensures durable { IsOfAllKept K.idle K.first J.before self.new.entries self.new.parts }
     {
         if !group.log.accepts_as(&self.log) {
-            taken(&self.rt, tip, held).give_up(CommitError::Memory);
-            return Err(CommitError::Memory);
+            let mut tip = taken(&self.rt, tip, held);
+            tip.give_up(CommitError::Memory);
+            return (tip, Err(CommitError::Memory));
         }
         publish_group(
             &self.rt,

@@ -60,19 +60,21 @@ impl<J: Naming, R: Wait + Drop, K: Keeper + Drop> Committer<J, R, K> {
 
     /// Keeps and publishes all that waits; or waits for the one who does, if there is one. Where
     /// nothing is kept for good, no other thread comes between.
-    fn go_on<'a, W: Wait>(&'a self, rt: &W, tip: MutexGuard<'a, Tip<J, K>>) {
+    fn go_on<'a, W: Wait>(
+        &'a self,
+        rt: &W,
+        tip: MutexGuard<'a, Tip<J, K>>,
+    ) -> MutexGuard<'a, Tip<J, K>> {
         let mut tip = tip;
         if tip.is_led() {
-            drop(self.news.wait(rt, tip));
-            return;
+            return self.news.wait(rt, tip);
         }
         let group = match tip.seal(rt) {
             Ok(group) => group,
             Err(error) => {
                 tip.give_up(error);
-                drop(tip);
                 self.news.notify_all();
-                return;
+                return tip;
             }
         };
         let held = if K::is_idle() {
@@ -81,8 +83,9 @@ impl<J: Naming, R: Wait + Drop, K: Keeper + Drop> Committer<J, R, K> {
             drop(tip);
             None
         };
-        let _published = self.book.lock(rt).publish(&self.tip, held, group);
+        let (tip, _published) = self.book.lock(rt).publish(&self.tip, held, group);
         self.news.notify_all();
+        tip
     }
 
     /// Waits until all that was tried up to a place of the log is published or given up.
@@ -95,15 +98,14 @@ impl<J: Naming, R: Wait + Drop, K: Keeper + Drop> Committer<J, R, K> {
         ensures receipt { IfOk result (λ r. r ≡ tried_of trial.now) }
         ensures refused { IfErr result (λ e. IsFailure K.idle e) }
     {
-        self.go_on(rt, tip);
+        let mut tip = tip;
         for _ in rt.forever() {
-            let mut tip = self.tip.lock(rt);
             match tip.outcome(rt, trial) {
                 Ok(Some(receipt)) => return Ok(receipt),
                 Ok(None) => {}
                 Err(error) => return Err(error),
             }
-            self.go_on(rt, tip);
+            tip = self.go_on(rt, tip);
         }
         unreachable!()
     }

@@ -10,12 +10,12 @@
 //!
 //! A version's list of events is not stored: the rule of the published versions says that the
 //! world of its snapshot is the replay of that list from the opening's world. An event is tried
-//! under the lock of a [`Tip`], after all that were tried before it, and waits. One thread at a time
-//! takes all that waits, keeps it in the [`Book`] by one write and one sync ([`Keeper`]), and then
-//! publishes it, while the others try theirs; so many small events share a sync. If it is not kept,
-//! it is given up, with what was tried meanwhile. A store in memory alone has [`NoKeeper`];
-//! [`Store::resume`] opens one over what a start found. Each type carries the name of its store ([`Naming`]), so a pass, a receipt and a
-//! seat of another store have other types.
+//! under the lock of a [`Tip`], after all that were tried before it, and waits. One thread at a
+//! time takes all that waits, keeps it in the [`Book`] by one write and one sync ([`Keeper`]), and
+//! then publishes it, while the others try theirs; so many small events share a sync. If it is not
+//! kept, it is given up, with what was tried meanwhile. A store in memory alone has [`NoKeeper`];
+//! [`Store::resume`] opens one over what a start found. Each type carries the name of its store
+//! ([`Naming`]), so a pass, a receipt and a seat of another store have other types.
 //!
 //! ```
 //! let opened = store.open::<J, &R>(rt, alloc, Vec::new(alloc), 1, 1);

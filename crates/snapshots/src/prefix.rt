@@ -74,6 +74,13 @@ impl<J: Naming> LogPrefix<J> {
         self.marks < ROOM
     }
 
+    /// How many events it accepted.
+    pub fn accepted(&self) -> u64
+        ensures { result ≡ length (accepted self.now) }
+    {
+        self.tally.accepted
+    }
+
     /// How many events it accepted, and those that are sealed.
     pub fn listed(&self) -> u64
         ensures { result ≡ length (list_of self.now) }
@@ -86,13 +93,6 @@ impl<J: Naming> LogPrefix<J> {
         ensures { result ≡ length (tried_of self.now) }
     {
         self.tally.tried
-    }
-
-    /// How often what waited was given up.
-    pub fn voids(&self) -> u64
-        ensures { result ≡ voids_of self.now }
-    {
-        self.tally.voids
     }
 
     /// Whether nothing waits: then what was tried is accepted.

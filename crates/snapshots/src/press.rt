@@ -56,7 +56,7 @@ pub fn taken<'a, J: Naming, R: Wait, K: Keeper>(
 /// Keeps a group by one write and one sync, publishes the snapshot after it, and marks that in the
 /// log. So what anyone has seen is kept. If it is not kept, or not published, it is given up, with
 /// all that was tried meanwhile; if it is kept and can't be published, the keeper closes. The tip
-/// is locked after the events are kept, unless it is held.
+/// is locked after the events are kept, unless it is held; its guard comes back.
 pub fn publish_group<'a, J: Naming, R: Wait, K: Keeper>(
     rt: &R,
     tip: &'a Mutex<Tip<J, K>>,
@@ -65,7 +65,7 @@ pub fn publish_group<'a, J: Naming, R: Wait, K: Keeper>(
     press: &mut Press<J>,
     keeper: &mut K,
     group: Group<J>,
-) -> Result<(), CommitError>
+) -> (MutexGuard<'a, Tip<J, K>>, Result<(), CommitError>)
     requires held { K.holds keeper.old (kept_of J.before (accepted log.old)) }
     requires group { IsGroup J.opening K.idle group.log
         (arc_value group.standing.snapshot) group.standing.counts.items group.records.items }
@@ -84,36 +84,37 @@ pub fn publish_group<'a, J: Naming, R: Wait, K: Keeper>(
         → K.closed keeper.old ≡ false
         → FindsOnly K.moment K.found_since keeper.old keeper.new (IsOfAllAndSome K.first
         (kept_of J.before (accepted log.old)) (events_in more)) }
-    ensures list { MatchResult result
+    ensures list { MatchResult result.1
         (λ _. accepted log.new ≡ list_of group.log)
         (λ _. accepted log.new ≡ accepted log.old) }
     ensures shown { Shows J.book J.opening press.new.desk.shown.value (accepted log.new) }
-    ensures parts { MatchResult result
+    ensures parts { MatchResult result.1
         (λ _. press.new.desk.shown.value.parts ≡ arc_value group.shown)
         (λ _. press.new.desk.shown.value ≡ press.old.desk.shown.value) }
-    ensures refused { IfErr result (λ e. IsOfKeeping e) }
-    ensures journal { IfErr result (λ e. e ≡ CommitError.Journal → K.idle ≡ false) }
+    ensures refused { IfErr result.1 (λ e. IsOfKeeping e) }
+    ensures journal { IfErr result.1 (λ e. e ≡ CommitError.Journal → K.idle ≡ false) }
     // `E8` has a cause.
-    ensures cause { IfErr result (λ e. e ≡ CommitError.Journal
+    ensures cause { IfErr result.1 (λ e. e ≡ CommitError.Journal
         → IsHindered K.closed K.full K.failed keeper.old keeper.new) }
 {
     match keep(keeper, &group.records) {
         Ok(()) => {}
         Err(error) => {
-            taken(rt, tip, held).give_up(error);
-            return Err(error);
+            let mut tip = taken(rt, tip, held);
+            tip.give_up(error);
+            return (tip, Err(error));
         }
     }
     let mut tip = taken(rt, tip, held);
     match tip.publish(rt, press, group) {
         Some(done) => {
             *log = done;
-            Ok(())
+            (tip, Ok(()))
         }
         None => {
             keeper.close();
             tip.give_up(CommitError::Memory);
-            Err(CommitError::Memory)
+            (tip, Err(CommitError::Memory))
         }
     }
 }

@@ -32,7 +32,8 @@ impl<J: Naming> Receipt<J> {
     /// The receipt of all that was tried at some place of the log, where the log is known to have
     /// accepted it.
     pub(crate) fn of(done: &LogPrefix<J>, trial: &LogPrefix<J>) -> Option<Receipt<J>>
-        ensures { IfSome result (λ r. r ≡ tried_of trial.now) }
+        ensures list { IfSome result (λ r. r ≡ tried_of trial.now) }
+        ensures done { IfSome result (λ r. IsPrefix r (accepted done.now)) }
     {
         if !done.accepts(trial) {
             return None;

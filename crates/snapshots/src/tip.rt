@@ -112,8 +112,8 @@ fn put_back(waits: bool, ahead: &mut Standing, base: &mut Standing)
 }
 
 /// Where the events of a store are tried, each after all that were tried before it, and wait to be
-/// kept and published. Contracts see it as the list that the next event is tried after, the count
-/// of each seat in it, and the snapshot that it makes.
+/// kept and published. Contracts see it as the list that is published, the list that the next event
+/// is tried after, the count of each seat in it, and the snapshot that it makes.
 #[derive(Drop)]
 pub struct Tip<J: Naming, K: Keeper> {
     end: LogEnd<J>,
@@ -140,8 +140,9 @@ pub struct Tip<J: Naming, K: Keeper> {
 }
 
 impl<J: Naming, K: Keeper> Model for Tip<J, K> {
-    ghost use Rattle.std.specs.Prelude.{MatchBool};
+    ghost use Rattle.std.specs.Prelude.{◌≡◌, MatchBool};
     ghost use Rattle.std.specs.Arc.{arc_value};
+    ghost use Rattle.snapshots.specs.Marks.{accepted};
     ghost use Rattle.snapshots.specs.Standings.{StandsFor, current};
     ghost use Rattle.snapshots.specs.Tips.{IsBehind, IsFailure};
     ghost use Rattle.snapshots.specs.Views.{Ledger};
@@ -149,6 +150,7 @@ impl<J: Naming, K: Keeper> Model for Tip<J, K> {
     ghost Value = { Ledger };
 
     ghost view = { λ t. record {
+      published = accepted t.log;
       entries = current t.waits t.log;
       counts = t.ahead.counts.items;
       parts = arc_value t.ahead.snapshot;
@@ -159,7 +161,7 @@ impl<J: Naming, K: Keeper> Model for Tip<J, K> {
         t.ahead.counts.items
         × MatchBool t.waits (IsBehind J.opening K.idle t.log (arc_value t.base.snapshot)
         t.base.counts.items t.records.items) (Unit {0})
-        × IsFailure K.idle t.failure };
+        × IsFailure K.idle t.failure × (accepted t.done ≡ accepted t.log) };
 }
 
 impl<J: Naming, K: Keeper> Tip<J, K> {
@@ -174,6 +176,7 @@ impl<J: Naming, K: Keeper> Tip<J, K> {
         requires empty { log ≡ [] }
         requires stands { StandsFor J.opening [] (arc_value ahead.snapshot) ahead.counts.items }
         ensures { result ≡ record {
+          published = [];
           entries = [];
           counts = ahead.counts.items;
           parts = arc_value ahead.snapshot;
@@ -228,6 +231,8 @@ impl<J: Naming, K: Keeper> Tip<J, K> {
             ≡ self.old.entries
             ++ record { event = C.event change.now; seat = seat.now.number } ∷ []) }
         ensures added { IfOk result (λ p. self.new.entries ≡ tried_of p) }
+        // What is tried is not published yet.
+        ensures published { self.new.published ≡ self.old.published }
         ensures counts { OnOk result (self.new.counts
             ≡ slice_set self.old.counts seat.now.number (seat.now.count + 1)) }
         ensures begins { IfOk result (λ p. IsPrefix seat.now.seen (tried_of p)) }
@@ -305,6 +310,11 @@ impl<J: Naming, K: Keeper> Tip<J, K> {
         trial: &LogPrefix<J>,
     ) -> Result<Option<Receipt<J>>, CommitError>
         ensures receipt { IfOk result (λ found. IfSome found (λ r. r ≡ tried_of trial.now)) }
+        ensures published { IfOk result (λ found.
+            IfSome found (λ r. IsPrefix r self.old.published)) }
+        // What is given up is not published.
+        ensures gone { IfErr result (λ e.
+            ¬ IsPrefix (tried_of trial.now) self.old.published) }
         ensures refused { IfErr result (λ e. IsFailure K.idle e) }
         ensures same { self.new ≡ self.old }
     {
@@ -312,16 +322,15 @@ impl<J: Naming, K: Keeper> Tip<J, K> {
             self.leave(rt);
             return Ok(Some(receipt));
         }
+        if !is_given_up(self.waits, &self.log) {
+            return Ok(None);
+        }
+        if trial.tried() <= self.log.accepted() {
+            return Ok(None);
+        }
         let failure = self.failure;
-        if self.log.voids() != trial.voids() {
-            self.leave(rt);
-            return Err(failure);
-        }
-        if is_given_up(self.waits, &self.log) {
-            self.leave(rt);
-            return Err(failure);
-        }
-        Ok(None)
+        self.leave(rt);
+        Err(failure)
     }
 
     /// One waits no more. If what waited was given up, and this was the last who did not know it,
@@ -404,6 +413,9 @@ impl<J: Naming, K: Keeper> Tip<J, K> {
             (λ log. Shows J.book J.opening press.new.desk.shown.value (accepted log)) }
         ensures parts { IfSome result (λ _.
             press.new.desk.shown.value.parts ≡ arc_value group.shown) }
+        ensures published { MatchOption result (self.new.published ≡ self.old.published)
+            (λ log. self.new.published ≡ accepted log) }
+        ensures tried { self.new.entries ≡ self.old.entries }
     {
         let Group {
             log,
@@ -444,6 +456,8 @@ impl<J: Naming, K: Keeper> Tip<J, K> {
     /// Gives up all that waits: the tip is back at what is published.
     pub fn give_up(&mut self, error: CommitError)
         requires { IsFailure K.idle error }
+        ensures published { self.new.published ≡ self.old.published }
+        ensures back { self.new.entries ≡ self.old.published }
         ensures books { AreCounts self.new.counts self.new.entries }
         ensures world { IsAfter J.opening self.new.entries self.new.parts }
     {

@@ -49,8 +49,8 @@ returns-in-Some-clause-in_flight g c more is opened =
 
 -- and not published
 
-pub returns-clause-held : goal.returns-clause-held
-returns-clause-held g c =
+pub returns-in-None-clause-held : goal.returns-in-None-clause-held
+returns-in-None-clause-held g c =
     let bytes : c.deref.result.now ≡ c.args.group.records.items = search rules in
     let is_group = group_as g.J.Naming.opening g.K.Keeper.idle c.args.group.log c.args.group.log (arc_value c.args.group.standing.snapshot) (arc_value c.args.group.standing.snapshot)
     c.args.group.standing.counts.items c.args.group.standing.counts.items c.args.group.records.items c.deref.result.now refl refl refl bytes c.requires.group in
@@ -59,8 +59,8 @@ returns-clause-held g c =
     let last = c.in-Ok.ensures.last events (events_in waiting.more) c.requires.held waiting.spelled in
     c.close.ensures.held events last.0 last.2
 
-pub returns-clause-any_moment : goal.returns-clause-any_moment
-returns-clause-any_moment g c =
+pub returns-in-None-clause-any_moment : goal.returns-in-None-clause-any_moment
+returns-in-None-clause-any_moment g c =
     let bytes : c.deref.result.now ≡ c.args.group.records.items = search rules in
     let is_group = group_as g.J.Naming.opening g.K.Keeper.idle c.args.group.log c.args.group.log (arc_value c.args.group.standing.snapshot) (arc_value c.args.group.standing.snapshot)
     c.args.group.standing.counts.items c.args.group.standing.counts.items c.args.group.records.items c.deref.result.now refl refl refl bytes c.requires.group in
@@ -74,8 +74,8 @@ returns-clause-any_moment g c =
     (λ w some. some_is_more k.first events last.0 w some)
     (c.close.ensures.any_moment events last.0 last.2))
 
-pub returns-clause-in_flight : goal.returns-clause-in_flight
-returns-clause-in_flight g c more is opened =
+pub returns-in-None-clause-in_flight : goal.returns-in-None-clause-in_flight
+returns-in-None-clause-in_flight g c more is opened =
     let bytes : c.deref.result.now ≡ c.args.group.records.items = search rules in
     let is_group = group_as g.J.Naming.opening g.K.Keeper.idle c.args.group.log c.args.group.log (arc_value c.args.group.standing.snapshot) (arc_value c.args.group.standing.snapshot)
     c.args.group.standing.counts.items c.args.group.standing.counts.items c.args.group.records.items c.deref.result.now refl refl refl bytes c.requires.group in

@@ -1,6 +1,8 @@
-use Rattle.std.proofs.Common.{sym, ◌∙◌}
+use Rattle.std.proofs.Common.{ap, sym, ◌∙◌}
 use Rattle.std.specs.Arc.{arc_value}
+use Rattle.snapshots.specs.Marks.{accepted}
 use Rattle.snapshots.specs.Standings.{current}
+use Rattle.snapshots.proofs.Accepts.{accepted_void}
 use Rattle.snapshots.proofs.Tips.{none_behind, same_ledger, stands_as, void_current}
 use Rattle.snapshots.proofs.tip.Tip.leave.Goals as goal
 
@@ -12,11 +14,13 @@ invariant_of-self-2 g c =
           (sym same) c.self.invariant.0,
       none_behind t.waits _ c.if-self.false,
       c.self.invariant.2,
+      c.self.invariant.3 ∙ sym (ap accepted c.add_void.ensures ∙ accepted_void t.log),
     )
 
 pub returns : goal.returns
 returns g c =
     let t = c.self.inside in
-    same_ledger (current t.waits c.add_void.new.self) (current t.waits t.log) t.ahead.counts.items (arc_value t.ahead.snapshot)
+    same_ledger (accepted c.add_void.new.self) (accepted t.log) (current t.waits c.add_void.new.self) (current t.waits t.log) t.ahead.counts.items (arc_value t.ahead.snapshot)
+    (ap accepted c.add_void.ensures ∙ accepted_void t.log)
     (void_current t.waits t.log c.add_void.new.self c.if-self.false c.add_void.ensures)
     ∙ c.self.view_is

@@ -1,6 +1,7 @@
-use Rattle.std.proofs.Common.{◌≡◌, true, not, rules}
+use Rattle.std.proofs.Common.{◌≡◌, ◌∙◌, ap, true, not, rules}
 use Rattle.std.specs.Arc.{arc_value}
-use Rattle.snapshots.proofs.Tips.{behind_kept, behind_while, done_behind, done_stands, stands_tried}
+use Rattle.snapshots.specs.Views.{Ledger}
+use Rattle.snapshots.proofs.Tips.{behind_kept, behind_while, done_behind, done_current, done_stands, stands_tried}
 use Rattle.snapshots.proofs.tip.Tip.publish.Goals as goal
 
 pub invariant_of-self-2 : goal.invariant_of-self-2
@@ -20,4 +21,14 @@ invariant_of-self-2 g c =
           (done_behind g.J.Naming.book opening idle group.log t.log s m group.records.items c.requires.group c.if-not-lists.ensures.lists
           c.add_done.new.self c.add_done.ensures (arc_value t.base.snapshot) t.base.counts.items t.records.items behind),
       c.self.invariant.2,
+      search rules,
     )
+
+pub returns-clause-tried : goal.returns-clause-tried
+returns-clause-tried g c =
+    let t = c.self.inside in
+    let group = c.args.group in
+    let is : t.waits ≡ true = search rules in
+    done_current g.J.Naming.book g.J.Naming.opening g.K.Keeper.idle group.log t.log (arc_value group.standing.snapshot) group.standing.counts.items group.records.items
+    c.requires.group c.if-not-lists.ensures.lists c.add_done.new.self c.add_done.ensures c.is_settled.result t.waits c.is_settled.ensures.settled is
+    ∙ ap (λ (l : Ledger). l.entries) c.self.view_is

@@ -1,6 +1,7 @@
-use Rattle.std.proofs.Common.{◌≡◌, ◌∙◌, true, [], sym, rules}
+use Rattle.std.proofs.Common.{◌≡◌, ◌∙◌, true, [], ap, sym, rules}
 use Rattle.std.specs.Arc.{arc_value}
-use Rattle.snapshots.specs.Marks.{tried_of}
+use Rattle.snapshots.specs.Marks.{accepted, tried_of}
+use Rattle.snapshots.proofs.Accepts.{accepted_seal}
 use Rattle.snapshots.specs.Standings.{current}
 use Rattle.snapshots.proofs.Tips.{behind_kept, behind_while, current_waits, group_as, same_ledger, sealed_behind, sealed_current, sealed_group, sealed_stands, stands_as, stands_tried}
 use Rattle.snapshots.proofs.tip.Tip.seal.Goals as goal
@@ -21,6 +22,7 @@ invariant_of-self g c =
           (sealed_behind opening g.K.Keeper.idle t.log c.add_seal.new.self (arc_value t.base.snapshot) t.base.counts.items
           t.records.items c.replace-records.new.dest.items c.add_seal.ensures behind none),
       c.self.invariant.2,
+      c.self.invariant.3 ∙ sym (ap accepted c.add_seal.ensures ∙ accepted_seal t.log),
     )
 
 pub returns-clause-group : goal.returns-clause-group
@@ -41,6 +43,7 @@ returns-clause-group g c =
 pub returns-clause-same : goal.returns-clause-same
 returns-clause-same g c =
     let t = c.self.inside in
-    same_ledger (current t.waits c.add_seal.new.self) (current t.waits t.log) t.ahead.counts.items (arc_value t.ahead.snapshot)
+    same_ledger (accepted c.add_seal.new.self) (accepted t.log) (current t.waits c.add_seal.new.self) (current t.waits t.log) t.ahead.counts.items (arc_value t.ahead.snapshot)
+    (ap accepted c.add_seal.ensures ∙ accepted_seal t.log)
     (sealed_current t.waits t.log c.add_seal.new.self c.add_seal.ensures)
     ∙ c.self.view_is

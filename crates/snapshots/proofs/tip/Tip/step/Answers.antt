@@ -4,11 +4,12 @@ use mathlib.Core.List.{IsPrefix}
 use Rattle.head.specs.Heads.{SnapshotParts}
 use Rattle.snapshots.specs.declared.entry.Entry.{Entry}
 use Rattle.snapshots.specs.declared.entry.Mark.{Mark}
-use Rattle.snapshots.specs.Marks.{tried_of}
+use Rattle.snapshots.specs.Marks.{accepted, tried_of}
 use Rattle.snapshots.specs.Replays.{Steps}
 use Rattle.snapshots.specs.Seats.{count_of}
 use Rattle.snapshots.specs.Standings.{current}
 use Rattle.snapshots.specs.Views.{Ledger}
+use Rattle.snapshots.proofs.Accepts.{accepted_try}
 use Rattle.snapshots.proofs.Counting.{counted_next, met_by}
 use Rattle.snapshots.proofs.Prefixes.{prefix_more}
 use Rattle.snapshots.proofs.Tips.{seen_begins, tried_all, tried_behind, tried_stands}
@@ -35,6 +36,7 @@ invariant_of-self-2 g c =
           c.set_aside.new.records.items c.push_record.new.records.items c.add_try.ensures c.in-Ok-set_aside.ensures.behind
           (λ events so_far. c.in-Ok-push_record.ensures.ok events entry.event so_far c.requires),
       c.self.invariant.2,
+      c.self.invariant.3 ∙ sym (ap accepted c.add_try.ensures ∙ accepted_try t.log entry),
     )
 
 pub returns-clause-list : goal.returns-clause-list
@@ -89,3 +91,9 @@ returns-clause-world g c =
     let stands = tried_stands g.J.Naming.opening t.waits t.log c.add_try.new.self entry (arc_value t.ahead.snapshot) (arc_value c.in-Ok.snapshot)
     counts c.number-number.result (c.count.result + 1) c.if-is_given_up.ensures c.add_try.ensures c.self.invariant.0 step refl within more in
     stands.after
+
+pub returns-clause-published : goal.returns-clause-published
+returns-clause-published g c =
+    let t = c.self.inside in
+    let entry : Entry = record { event = g.C.Change.event c.args.change.now; seat = c.number-number.result } in
+    ap accepted c.add_try.ensures ∙ (accepted_try t.log entry ∙ ap (λ (l : Ledger). l.published) c.self.view_is)
