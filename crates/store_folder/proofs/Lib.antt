@@ -5,8 +5,10 @@ pub mod Fronts
 pub mod Kept
 pub mod OpenedBlocks
 pub mod Refusals
+pub mod Refusing
 pub mod Rolls
 pub mod Saves
+pub mod Standing
 pub mod Starts
 pub mod Swept
 pub mod Told

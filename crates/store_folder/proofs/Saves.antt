@@ -124,7 +124,7 @@ module _ {F : Type 0} (shows : F → List ℕ → Option (List ℕ) → Type 0)
       (same : ℕ) → May first m len closed events s held parts same → same ≤ length s.blocks
   enough first m len closed events s held parts same may =
       let count = as_many shows kept held parts m.folder
-          (held_blocks first m len closed events held parts may.holds) in
+      (held_blocks first m len closed events held parts may.holds) in
       let few : same ≤ length parts = omega (arith, count, may.few) in
       shorter same parts s.blocks
       (sym (length_like (take same s.blocks) (take same parts) may.front)) few

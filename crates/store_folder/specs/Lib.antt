@@ -8,6 +8,7 @@ pub mod KeeperLaws
 pub mod Kinds
 pub mod Plain
 pub mod Refusals
+pub mod Refusing
 pub mod Rewriting
 pub mod Rolls
 pub mod Saving

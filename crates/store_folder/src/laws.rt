@@ -3,10 +3,12 @@
 ghost use Rattle.std.specs.Prelude.{◌≡◌, List, Ok};
 ghost use Rattle.data_folder.specs.Folders.{Left};
 ghost use Rattle.head.specs.Heads.{BlockPart, SnapshotParts, world_of};
+ghost use Rattle.head.specs.Resuming.{MayStand};
 ghost use Rattle.head.specs.Worlds.{Event as Change, World, replayed};
-ghost use Rattle.head_record.specs.Saved.{Saved};
+ghost use Rattle.head_record.specs.Saved.{Place, Saved, save};
 ghost use Rattle.store_folder.specs.Rewriting.{HaveSame};
 ghost use Rattle.store_folder.specs.States.{started, StartsWith};
+ghost use Rattle.store_folder.specs.Writing.{AreLike};
 
 /// What is left of a folder is the store of one world.
 pub fn one_world()
@@ -20,4 +22,11 @@ pub fn rewritten_blocks()
         (parts : List BlockPart) → HaveSame s.blocks parts → s.head ≡ saved.head
         → s.floor ≡ saved.floor → replayed first events ≡ Ok (world_of s)
         → replayed first events ≡ Ok (world_of (started saved parts)) }
+{}
+
+/// What is saved of a snapshot is never refused by a start (`J17`), wherever blocks like the
+/// snapshot's lie.
+pub fn saved_stands()
+    ensures { (s : SnapshotParts) (places : List Place) (made : List BlockPart) → MayStand s
+        → AreLike s.blocks made → MayStand (started (save s places) made) }
 {}

@@ -39,8 +39,8 @@ pub use error::{
 };
 pub use journals::{FoundJournal, read_journal};
 pub use keeping::{Beginning, StoreKeeper};
-pub use laws::{one_world, rewritten_blocks};
+pub use kinds::{has_cut, has_deletion};
+pub use laws::{one_world, rewritten_blocks, saved_stands};
 pub use plain::{begins_plain, read_plain};
 pub use reading::{FoundStore, open_store, read_store};
-pub use kinds::{has_cut, has_deletion};
 pub use starting::{StartedStore, begin_store, resume_store};

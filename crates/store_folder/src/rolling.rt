@@ -1,10 +1,11 @@
 //! A journal that begins with a new head.
 
-ghost use Rattle.std.specs.Prelude.{◌≡◌, List, false, true, Err, OnErr, OnOk};
+ghost use Rattle.std.specs.Prelude.{◌≡◌, List, false, true, Err, IfErr, OnErr, OnOk};
 ghost use Rattle.head.specs.Heads.{BlockPart};
 ghost use Rattle.head.specs.Worlds.{Event as Change};
 ghost use Rattle.head_record.specs.Saved.{Place};
 ghost use Rattle.store_folder.specs.Holding.{HoldsAt, HoldsStore};
+ghost use Rattle.store_folder.specs.Refusing.{DeniesHead};
 ghost use Rattle.store_folder.specs.Rolls.{MayRoll};
 ghost use Rattle.store_folder.specs.Starting.{StartFinds};
 
@@ -60,6 +61,8 @@ impl<N: Beginning, F: Folder + Drop> StoreKeeper<N, F> {
             → StartFinds F.moment F.left_since self.old.events.journal.medium.folder
             self.new.events.journal.medium.folder N.first events }
         ensures open { OnOk result (self.new.events.journal.closed ≡ false) }
+        ensures refused { IfErr result (λ e. DeniesHead F.failed
+            self.new.events.journal.medium.folder self.old.events.journal.closed e) }
         ensures closed { self.old.events.journal.closed ≡ true
             → (result ≡ Err (RollFault.Folder RollError.Closed)) × (self.new ≡ self.old) }
     {

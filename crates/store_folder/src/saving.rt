@@ -1,12 +1,13 @@
 //! A snapshot that is saved in the place of the events that made it.
 
-ghost use Rattle.std.specs.Prelude.{◌≡◌, ◌≤◌, ◌-◌, ◌++◌, List, Err, false, true, drop, length, take};
-ghost use Rattle.std.specs.Prelude.{IfOk, OnErr, OnOk};
+ghost use Rattle.std.specs.Prelude.{◌≡◌, ◌≤◌, ◌-◌, ◌++◌, List, Err, false, true, drop, length};
+ghost use Rattle.std.specs.Prelude.{IfErr, IfOk, OnErr, OnOk, take};
 ghost use Rattle.data_folder.specs.Sweeping.{KeepsStore};
 ghost use Rattle.head.specs.Heads.{BlockPart};
 ghost use Rattle.head.specs.Worlds.{Event as Change};
 ghost use Rattle.head_record.specs.Saved.{save};
 ghost use Rattle.store_folder.specs.Holding.{AreAt, HoldsAt, HoldsStore};
+ghost use Rattle.store_folder.specs.Refusing.{DeniesSave};
 ghost use Rattle.store_folder.specs.Saving.{MaySave};
 ghost use Rattle.store_folder.specs.Starting.{StartFinds};
 ghost use Rattle.store_folder.specs.Sweeps.{names_at};
@@ -55,6 +56,8 @@ fn write_saved<F: Folder>(
         × AreAt F.shows F.kept (places_from next (length snapshot.now.blocks - same)) parts
         folder.new) }
     ensures sound { F.sound folder.new ≡ true }
+    ensures refused { IfErr result (λ e. DeniesSave F.failed folder.new false snapshot.now same next
+        e) }
     ensures stays { KeepsStore F.shows F.kept F.sound F.moment F.left_since (names_at held.now)
         folder.old folder.new }
 {
@@ -142,6 +145,12 @@ impl<N: Beginning, F: Folder + Drop> StoreKeeper<N, F> {
             → StartFinds F.moment F.left_since self.old.events.journal.medium.folder
             self.new.events.journal.medium.folder N.first events }
         ensures open { OnOk result (self.new.events.journal.closed ≡ false) }
+        // A refusal tells why a block is not written, or that the journal was closed before, or
+        // that a call of the folder failed. `J5` if what is saved of a series is longer than 2^26
+        // bytes.
+        ensures refused { IfErr result (λ e. DeniesSave F.failed
+            self.new.events.journal.medium.folder self.old.events.journal.closed snapshot.now same
+            next e) }
         ensures closed { self.old.events.journal.closed ≡ true
             → (result ≡ Err (RollFault.Folder RollError.Closed)) × (self.new ≡ self.old) }
     {

@@ -1,11 +1,15 @@
 //! Blocks that are written anew.
 
-ghost use Rattle.std.specs.Prelude.{◌≡◌, ◌++◌, ◌∷◌, [], ℕ, List, IfOk, OnOk, codes, length, map, true};
+ghost use Rattle.std.specs.Prelude.{◌≡◌, ◌++◌, ◌∷◌, [], ℕ, List, IfErr, IfOk, OnOk, length, map};
+ghost use Rattle.std.specs.Prelude.{true};
+ghost use Rattle.block_rewriter.specs.Rows.{full_rows};
 ghost use Rattle.data_folder.specs.Sweeping.{KeepsStore, names_in};
 ghost use Rattle.head.specs.Blocks.{part_in};
 ghost use Rattle.head.specs.Heads.{BlockPart};
+ghost use Rattle.labels.specs.Parts.{rows_in};
 ghost use Rattle.store_folder.specs.Blocks.{name_in, named_files};
 ghost use Rattle.store_folder.specs.Holding.{AreAt};
+ghost use Rattle.store_folder.specs.Refusing.{DeniesBlock, DeniesBlocks, DeniesFiles};
 ghost use Rattle.store_folder.specs.Sweeps.{names_at, names_of};
 ghost use Rattle.store_folder.specs.Writing.{AreRewritten, IsRewritten, Wrote, files_in_memory};
 ghost use Rattle.store_folder.specs.Writing.{places_from};
@@ -32,6 +36,7 @@ fn write_in<F: Folder>(
         ((name_in number name.now, bytes.now) ∷ []) (names_in kept.old.items)
         (names_in kept.new.items) folder.old folder.new) }
     ensures sound { F.sound folder.new ≡ true }
+    ensures refused { IfErr result (λ e. DeniesFiles F.failed folder.new e) }
     ensures stays { KeepsStore F.shows F.kept F.sound F.moment F.left_since
         (names_in kept.old.items) folder.old folder.new }
 {
@@ -57,10 +62,18 @@ fn write_files<F: Folder>(
         (named_files (number, 0) (files_in_memory files.now)) (names_in kept.old.items)
         (names_in kept.new.items) folder.old folder.new) }
     ensures sound { F.sound folder.new ≡ true }
+    ensures refused { IfErr result (λ e. DeniesFiles F.failed folder.new e) }
     ensures stays { KeepsStore F.shows F.kept F.sound F.moment F.left_since
         (names_in kept.old.items) folder.old folder.new }
 {
-    write_in(alloc, folder, kept, number, "meta.json", files.meta.as_bytes())?;
+    write_in(
+        alloc,
+        folder,
+        kept,
+        number,
+        "meta.json",
+        files.meta.as_bytes(),
+    )?;
     write_in(alloc, folder, kept, number, "index", &files.index)?;
     write_in(alloc, folder, kept, number, "chunks/000001", &files.chunks)?;
     write_in(alloc, folder, kept, number, "tombstones", &files.tombstones)
@@ -70,6 +83,7 @@ fn write_files<F: Folder>(
 fn make_folders<F: Folder>(alloc: Global, folder: &mut F, number: u64) -> Result<(), WriteFault>
     requires { F.sound folder.old ≡ true }
     ensures sound { F.sound folder.new ≡ true }
+    ensures refused { IfErr result (λ e. DeniesFiles F.failed folder.new e) }
     ensures stays { (names : List (List ℕ)) → KeepsStore F.shows F.kept F.sound F.moment
         F.left_since names folder.old folder.new }
 {
@@ -86,18 +100,22 @@ fn make_folders<F: Folder>(alloc: Global, folder: &mut F, number: u64) -> Result
 fn make_each<F: Folder>(folder: &mut F, block: &str, chunks: &str) -> Result<(), WriteFault>
     requires { F.sound folder.old ≡ true }
     ensures sound { F.sound folder.new ≡ true }
+    ensures refused { IfErr result (λ e. DeniesFiles F.failed folder.new e) }
     ensures stays { (names : List (List ℕ)) → KeepsStore F.shows F.kept F.sound F.moment
         F.left_since names folder.old folder.new }
 {
-    let Ok(()) = add_folder(folder, "blocks") else {
-        return Err(WriteFault::Medium);
-    };
-    let Ok(()) = add_folder(folder, block) else {
-        return Err(WriteFault::Medium);
-    };
-    let Ok(()) = add_folder(folder, chunks) else {
-        return Err(WriteFault::Medium);
-    };
+    match add_folder(folder, "blocks") {
+        Ok(()) => {}
+        Err(_) => return Err(WriteFault::Medium),
+    }
+    match add_folder(folder, block) {
+        Ok(()) => {}
+        Err(_) => return Err(WriteFault::Medium),
+    }
+    match add_folder(folder, chunks) {
+        Ok(()) => {}
+        Err(_) => return Err(WriteFault::Medium),
+    }
     Ok(())
 }
 
@@ -116,6 +134,8 @@ pub(crate) fn write_block<F: Folder>(
     ensures names { OnOk result (names_in kept.new.items
         ≡ names_in kept.old.items ++ names_of (number, 0)) }
     ensures sound { F.sound folder.new ≡ true }
+    ensures refused { IfErr result (λ e. DeniesBlock F.failed folder.new
+        (full_rows (rows_in block.now.part)) e) }
     // What was to be kept stays, whatever the answer, also after a crash at any moment.
     ensures stays { KeepsStore F.shows F.kept F.sound F.moment F.left_since
         (names_in kept.old.items) folder.old folder.new }
@@ -146,13 +166,17 @@ pub(crate) fn write_blocks<F: Folder>(
     ensures names { IfOk result (λ places. names_in kept.new.items
         ≡ names_in kept.old.items ++ names_at places.items) }
     ensures sound { F.sound folder.new ≡ true }
+    // A refusal tells why one of the blocks is not written, or that the numbers are used up.
+    ensures refused { IfErr result (λ e. DeniesBlocks F.failed folder.new
+        (map part_in blocks.now) first e) }
     ensures stays { KeepsStore F.shows F.kept F.sound F.moment F.left_since
         (names_in kept.old.items) folder.old folder.new }
 {
     let mut places = Vec::new(alloc);
     for block in blocks {
-        let Some(number) = first.checked_add(places.len() as u64) else {
-            return Err(WriteFault::Numbers);
+        let number = match first.checked_add(places.len() as u64) {
+            Some(number) => number,
+            None => return Err(WriteFault::Numbers),
         };
         write_block(alloc, folder, kept, number, block)?;
         let Ok(()) = places.push(BlockPlace::new(number, 0)) else {

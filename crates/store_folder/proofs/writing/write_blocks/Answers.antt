@@ -1,6 +1,7 @@
 use Rattle.std.proofs.Common.{◌≡◌, ◌+◌, ℕ, List, [], ◌∷◌, ◌++◌, append-nil, append_assoc, arith}
 use Rattle.std.proofs.Common.{length, map, take, sym, ap, subst, ◌∙◌}
 use Rattle.std.proofs.lemmas.List.{map-append, take_more}
+use Rattle.std.proofs.lemmas.Result.{err_from_is_err_and}
 use Rattle.data_folder.specs.States.{Named}
 use Rattle.data_folder.specs.Sweeping.{AreAmong, names_in}
 use Rattle.data_folder.proofs.Sweeps.{nothing_removed}
@@ -13,6 +14,7 @@ use Rattle.store_folder.specs.Sweeps.{names_at, names_of}
 use Rattle.store_folder.specs.Writing.{AreRewritten, places_from}
 use Rattle.store_folder.proofs.Writes.{at_joined, at_stays, each_last, length_places, more_stays}
 use Rattle.store_folder.proofs.Writes.{names_joined, places_more, rewritten_joined}
+use Rattle.store_folder.proofs.Refusing.{held_at, of_block, used_up}
 use Rattle.store_folder.proofs.writing.write_blocks.Goals as goal
 
 pub loop-block-init : goal.loop-block-init
@@ -43,8 +45,8 @@ returns-in_err-write_block-clause-stays g c =
     c.args.folder.now l.folder c.write_block.new.folder l.invariant.names l.invariant.stays
     c.write_block.ensures.stays
 
-pub returns-in_default-push-clause-stays : goal.returns-in_default-push-clause-stays
-returns-in_default-push-clause-stays g c =
+pub returns-in_default-clause-stays : goal.returns-in_default-clause-stays
+returns-in_default-clause-stays g c =
     let f = g.F.Folder in
     let l = c.loop-block in
     more_stays f.shows f.kept f.sound f.moment f.left_since g.met.F.Folder.only_now
@@ -87,7 +89,7 @@ loop-block-preserved g c =
             (rewritten_joined (map part_in (take i blocks)) parts (part_in b ∷ []) (made.0 ∷ [])
             l.invariant.blocks.1 (made.1, tt)),
         subst (λ (ps : List Place). AreAt f.shows f.kept ps (parts ++ made.0 ∷ [])
-        c.write_block.new.folder) (sym next)
+            c.write_block.new.folder) (sym next)
             (at_joined f.shows f.kept old (place ∷ []) parts (made.0 ∷ []) c.write_block.new.folder
             lie made.2),
       );
@@ -105,3 +107,23 @@ loop-block-preserved g c =
           names (names_at old) c.args.folder.now l.folder c.write_block.new.folder
           l.invariant.names l.invariant.stays c.write_block.ensures.stays;
     }
+
+pub returns-in-None-clause-refused : goal.returns-in-None-clause-refused
+returns-in-None-clause-refused g c =
+    let l = c.loop-block in
+    let count : length l.places.items ≡ l.block-index =
+    ap length l.invariant.places ∙ length_places c.args.first l.block-index in
+    let is : c.len.result ≡ l.block-index = omega (arith, c.len.ensures, l.places.ok.0, count) in
+    used_up c.args.blocks.now c.args.first l.block-index c.len.result is c.loop-block-test.true
+    c.in-None.ensures
+
+pub returns-in_err-write_block-clause-refused : goal.returns-in_err-write_block-clause-refused
+returns-in_err-write_block-clause-refused g c =
+    let f = g.F.Folder in
+    let b : Shown = c.block-item.result in
+    let blocks = c.args.blocks.now in
+    let p = err_from_is_err_and c.from_residual.result c.from_residual.ensures.1 in
+    rw (p.1, p.2)
+    (of_block f.failed c.write_block.new.folder (map part_in blocks) c.args.first (part_in b) _
+    (held_at blocks c.loop-block.block-index b c.loop-block-test.true c.block-item.is)
+    c.in_err-write_block.ensures.refused)
