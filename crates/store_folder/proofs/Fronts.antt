@@ -31,9 +31,9 @@ is_none e = absurd cc
 
 one_step : (e : Event) (s : SnapshotParts) (blocks : List BlockPart) → is_deletion e ≡ false
     → KeepsBlocks e s blocks → BeginsWith s.blocks blocks
-one_step (batch xs) s blocks no k = ([], k ∙ sym (append-nil s.blocks))
-one_step (deletion ms from to) s blocks no k = is_none no
-one_step (cut t) s blocks no k =
+one_step (batch xs) s blocks none k = ([], k ∙ sym (append-nil s.blocks))
+one_step (deletion ms from to) s blocks none k = is_none none
+one_step (cut t) s blocks none k =
     ⊎_elim (λ same. ([], same ∙ sym (append-nil s.blocks))) (λ more. (more.0 ∷ [], more.1)) k
 
 none_before : (a b : Bool) → (a || b) ≡ false → a ≡ false

@@ -1,6 +1,6 @@
 -- What is wrong with the folder of a store, whatever folder it is.
 use Rattle.std.proofs.Common.{◌≡◌, inl, inr, ⊎_elim, ◌⊎◌, ℕ, Bool, true, List, [], ◌∷◌, ◌++◌, Option, refl}
-use Rattle.std.proofs.Common.{subst, sym}
+use Rattle.std.proofs.Common.{arith, subst, suc, sym}
 use Rattle.std.specs.List.{Contains}
 use Rattle.block.specs.Outcome.{Fails}
 use Rattle.data_folder.specs.Folders.{HasFile}
@@ -33,8 +33,10 @@ pub no_memory : {A : Type 0} → the Memory ≡ Refused → A
 no_memory e = absurd cc
 
 among : (before after : List Place) (p : Place) → Contains (before ++ p ∷ after) p
-among [] after p = search
-among (q ∷ before) after p = search (among before after p)
+among [] after p = (0, omega arith, refl)
+among (q ∷ before) after p =
+    let h = among before after p in
+    (suc h.0, omega (arith, h.1), h.2)
 
 module _ {F : Type 0} (shows : F → List ℕ → Option (List ℕ) → Type 0)
     (kept : F → List ℕ → ℕ → Type 0) where

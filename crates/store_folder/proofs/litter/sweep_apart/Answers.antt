@@ -9,7 +9,7 @@ returns-clause-kept g c =
     let f = g.F.Folder in
     let names = names_at c.args.places.now in
     then_kept f.shows f.kept f.sound f.moment f.left_since g.met.F.Folder.only_now names
-    c.args.folder.now c.list_names.new.folder c.sweep.new.folder (c.in-Ok.ensures.kept names)
+    c.args.folder.now c.list_names.new.folder c.sweep.new.folder (c.list_names.ensures.kept names)
     (subst (λ (x : List (List ℕ)). KeepsStore f.shows f.kept f.sound f.moment f.left_since x
     c.list_names.new.folder c.sweep.new.folder)
-    (ap names_in c.deref-2.ensures.value ∙ c.file_names.ensures) c.sweep.ensures.kept)
+    (ap names_in c.deref-2.ensures.value ∙ c.in-Ok.ensures) c.sweep.ensures.kept)

@@ -1,4 +1,4 @@
-use Rattle.std.proofs.Common.{◌≡◌, ◌≤◌, ◌∙◌, List, false, length, take, refl, sym, ap, subst, arith}
+use Rattle.std.proofs.Common.{◌≡◌, ◌<◌, ◌≤◌, ◌∙◌, List, false, length, take, refl, sym, ap, subst, arith}
 use Rattle.std.proofs.lemmas.List.{take_all}
 use Rattle.head.specs.Heads.{world_of}
 use Rattle.head.specs.Worlds.{Event, replayed}
@@ -17,7 +17,7 @@ pub loop-place-preserved : goal.loop-place-preserved
 loop-place-preserved c =
     let l = c.loop-place in
     let events = c.args.events.now in
-    let within = omega (arith, c.loop-place-test.true) in
+    let within : l.place < length events = omega (arith, c.loop-place-test.true) in
     record {
       world = replayed_more (world_of c.args.snapshot) (world_of l.at) (world_of c.in-Ok.next)
           events l.place c.index-events-place.result within c.index-events-place.is

@@ -40,8 +40,8 @@ returns-in-Ok-clause-any_moment g c parts h begins =
     (events_found f.shows f.kept f.sound f.moment f.left_since g.met.F.Folder.only_now
     (record { folder = c.args.folder }) j parts h c.requires.sound))
 
-pub returns-clause-any_moment : goal.returns-clause-any_moment
-returns-clause-any_moment g c parts h begins =
+pub returns-in-Err-clause-any_moment : goal.returns-in-Err-clause-any_moment
+returns-in-Err-clause-any_moment g c parts h begins =
     let f = g.F.Folder in
     let j = c.args.journal.now in
     resume_finds f.shows f.kept f.sound f.moment f.left_since g.met.F.Folder.only_now
