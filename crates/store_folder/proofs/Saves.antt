@@ -188,3 +188,13 @@ module _ {F : Type 0} (shows : F → List ℕ → Option (List ℕ) → Type 0)
       → AreRewritten (drop same s.blocks) news → AreLike s.blocks (take same parts ++ news)
   like_made first old len closed events s held parts same news may anew =
       made_like same s.blocks parts news may.front anew
+
+  -- there are as many places as blocks
+  pub so_many : (first : World) (m : JournalFile F) (len : ℕ) (closed : Bool)
+      (events : List Event) (s : SnapshotParts) (places : List Place) (made : List BlockPart)
+      → At first m len closed events places made → AreLike s.blocks made
+      → length places ≡ length s.blocks
+  so_many first m len closed events s places made at like =
+      as_many shows kept places made m.folder
+      (held_blocks first m len closed events places made at)
+      ∙ sym (length_like s.blocks made like)

@@ -12,4 +12,10 @@ returns-clause-kept g c =
     c.args.folder.now c.list_names.new.folder c.sweep.new.folder (c.list_names.ensures.kept names)
     (subst (λ (x : List (List ℕ)). KeepsStore f.shows f.kept f.sound f.moment f.left_since x
     c.list_names.new.folder c.sweep.new.folder)
-    (ap names_in c.deref-2.ensures.value ∙ c.in-Ok.ensures) c.sweep.ensures.kept)
+    (ap names_in c.deref-3.ensures.value ∙ c.in-Ok.ensures) c.sweep.ensures.kept)
+
+pub returns-in_default-clause-kept : goal.returns-in_default-clause-kept
+returns-in_default-clause-kept g c =
+    let f = g.F.Folder in
+    nothing_removed f.shows f.kept f.sound f.moment f.left_since g.met.F.Folder.only_now
+    (names_at c.args.places.now) c.args.folder.now
