@@ -1,0 +1,2 @@
+mod LogCalls
+mod Logs
