@@ -17,8 +17,8 @@ use std::alloc::AllocError;
 use std::marker::{Model, PhantomData};
 use std::sync::Arc;
 
-/// A snapshot, beside the log that has sealed the last of its events. What is tried after that is in
-/// the log too, and not in the list.
+/// A snapshot, beside the log that has sealed the last of its events. What is tried after that is
+/// in the log too, and not in the list.
 #[derive(Drop)]
 pub struct Version {
     snapshot: Arc<Snapshot>,
