@@ -1,7 +1,7 @@
 use Rattle.std.proofs.Common.{◌≡◌, ◌++◌, drop}
 use Rattle.std.specs.List.{flat_map}
-use Rattle.page_text.specs.Escaping.{entity}
-use Rattle.page_text.proofs.escape.append_word.Given as goal
+use Rattle.page_escape.specs.Escaping.{entity}
+use Rattle.page_escape.proofs.escape.append_word.Given as goal
 
 abbrev pub invariant-loop-byte : goal.invariant-loop-byte
 invariant-loop-byte l =

@@ -1,9 +1,9 @@
 //! How texts stand in a page.
 
 ghost use Rattle.std.specs.Prelude.{◌≡◌, ◌<◌, ◌++◌, ◌∷◌, ◌%◌, [], OnOk};
-ghost use Rattle.page_text.specs.Escaping.{entity, is_within, is_invisible, hex_digit};
-ghost use Rattle.page_text.specs.Escaping.{high_digits, low_digits, box_front, box_end};
-ghost use Rattle.page_text.specs.Escaping.{box_text, char_text, word_text, leaf_text};
+ghost use Rattle.page_escape.specs.Escaping.{entity, is_within, is_invisible, hex_digit};
+ghost use Rattle.page_escape.specs.Escaping.{high_digits, low_digits, box_front, box_end};
+ghost use Rattle.page_escape.specs.Escaping.{box_text, char_text, word_text, leaf_text};
 
 use std::alloc::AllocError;
 
@@ -64,8 +64,9 @@ fn append_digit(out: &mut Vec<u8>, digit: u32) -> Result<(), AllocError>
     Ok(out.push(hex_digit((digit % 16) as u8))?)
 }
 
+/// Appends the hexadecimal digits of a character above its last four, if it has any.
 #[tactic(auto, unfolding(crate::specs::Escaping::high_digits))]
-pub(crate) fn append_high_digits(out: &mut Vec<u8>, c: u32) -> Result<(), AllocError>
+pub fn append_high_digits(out: &mut Vec<u8>, c: u32) -> Result<(), AllocError>
     ensures { OnOk result (out.new.items ≡ out.old.items ++ high_digits c) }
 {
     if c >= 1_048_576 {
@@ -77,8 +78,9 @@ pub(crate) fn append_high_digits(out: &mut Vec<u8>, c: u32) -> Result<(), AllocE
     Ok(())
 }
 
+/// Appends the last four hexadecimal digits of a character.
 #[tactic(auto, unfolding(crate::specs::Escaping::low_digits))]
-pub(crate) fn append_low_digits(out: &mut Vec<u8>, c: u32) -> Result<(), AllocError>
+pub fn append_low_digits(out: &mut Vec<u8>, c: u32) -> Result<(), AllocError>
     ensures { OnOk result (out.new.items ≡ out.old.items ++ low_digits c) }
 {
     append_digit(out, c / 4096)?;
@@ -129,7 +131,7 @@ fn append_char(out: &mut Vec<u8>, c: char) -> Result<(), AllocError>
 }
 
 /// Appends a constant of the program.
-pub(crate) fn append_word(out: &mut Vec<u8>, word: &str) -> Result<(), AllocError>
+pub fn append_word(out: &mut Vec<u8>, word: &str) -> Result<(), AllocError>
     ensures { OnOk result (out.new.items ≡ out.old.items ++ word_text word.now) }
 {
     for byte in word.as_bytes() {
@@ -139,7 +141,7 @@ pub(crate) fn append_word(out: &mut Vec<u8>, word: &str) -> Result<(), AllocErro
 }
 
 /// Appends a text from outside.
-pub(crate) fn append_leaf(out: &mut Vec<u8>, chars: &[char]) -> Result<(), AllocError>
+pub fn append_leaf(out: &mut Vec<u8>, chars: &[char]) -> Result<(), AllocError>
     ensures { OnOk result (out.new.items ≡ out.old.items ++ leaf_text chars.now) }
 {
     for c in chars {
