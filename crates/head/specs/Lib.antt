@@ -10,7 +10,6 @@ pub mod Chunks
 pub mod Orders
 pub mod Slots
 pub mod Shown
-pub mod Counts
 pub mod Kinds
 pub mod Index
 pub mod IndexLaws

@@ -13,7 +13,7 @@ use crate::index::Index;
 use crate::order::Order;
 use crate::saved::SavedSeries;
 use crate::series::{Series, SeriesList};
-use crate::{MAX_SAMPLES, MAX_SERIES};
+use crate::MAX_SERIES;
 use labels::{LabelSet, Row, Sample, SeriesRef};
 use pages::PagedList;
 use std::alloc::{AllocError, Global};
@@ -37,8 +37,6 @@ impl HeadView {
     ghost use Rattle.head.specs.Shown.{series_of, part_of, copied_of};
     ghost use Rattle.head.specs.Heads.{HeadSeries};
     ghost use Rattle.head.specs.HeadRows.{numbered_row};
-    ghost use Rattle.head.specs.Counts.{sample_count};
-    ghost use Rattle.std.specs.List.{All};
     ghost use Rattle.std.specs.Prelude.{◌+◌, slice_index_or};
 
     pub(crate) fn empty(alloc: Global) -> Result<HeadView, AllocError>
@@ -102,18 +100,6 @@ impl HeadView {
         ensures { result ≡ length (series_of self.now) }
     {
         self.series.len()
-    }
-
-    /// How many samples the series hold. It looks at each series, and at no sample.
-    pub(crate) fn sample_count(&self) -> u64
-        requires { All (λ h. length h.samples ≤ MAX_SAMPLES) (series_of self.now) }
-        ensures { result ≡ sample_count (series_of self.now) }
-    {
-        let mut samples = 0;
-        for place in 0..self.series.len() {
-            samples += self.series.at(place).count();
-        }
-        samples
     }
 
     /// How many old samples the event that made this version copied.

@@ -1,6 +1,6 @@
 //! The samples of one label set, in chunks that versions share.
 
-ghost use Rattle.std.specs.Prelude.{◌≡◌, ◌<◌, ◌≤◌, ◌++◌, IfOk, OnOk, [], ◌∷◌, length, map, filter};
+ghost use Rattle.std.specs.Prelude.{◌≡◌, ◌<◌, ◌++◌, IfOk, OnOk, [], ◌∷◌, length, map, filter};
 ghost use Rattle.std.specs.Prelude.{nat_le, OnErr};
 ghost use Rattle.std.specs.Arc.{arc_value};
 ghost use Rattle.std.specs.Prelude.{T};
@@ -358,16 +358,6 @@ impl Series {
         let sealed = self.sealed.chunks().len();
         let last = MAX_SAMPLES / CHUNK;
         sealed > last || sealed == last && self.tail.len() >= MAX_SAMPLES % CHUNK
-    }
-
-    /// How many samples there are. It counts chunks, and looks into none.
-    pub(crate) fn count(&self) -> u64
-        requires { length self.now.samples ≤ MAX_SAMPLES }
-        ensures { result ≡ length self.now.samples }
-    {
-        let sealed = self.sealed.chunks().len() * CHUNK;
-        let samples = sealed + self.tail.len();
-        samples as u64
     }
 
     pub(crate) fn newest(&self) -> Sample

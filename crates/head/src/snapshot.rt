@@ -46,7 +46,6 @@ impl Model for Snapshot {
 
 ghost use Rattle.head.specs.Blocks.{part_in, opening_of, opening_floor, EachInside, part_names};
 ghost use Rattle.head.specs.Shown.{series_of, copied_of};
-ghost use Rattle.head.specs.Counts.{sample_count};
 ghost use Rattle.std.specs.Prelude.{[], map};
 
 /// The greatest end of the blocks' ranges, or the smallest time where there is no block.
@@ -115,13 +114,6 @@ impl Snapshot {
         ensures sound { IsSoundSnapshot self.now }
     {
         self.floor
-    }
-
-    /// How many samples the head has. It looks at each series, and at no sample.
-    pub fn head_samples(&self) -> u64
-        ensures { result ≡ sample_count self.now.head }
-    {
-        self.head.sample_count()
     }
 
     /// The head.
