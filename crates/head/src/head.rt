@@ -9,11 +9,11 @@ ghost use Rattle.head.specs.Index.{IsIndexOf};
 ghost use Rattle.head.specs.Orders.{sets_of, Extends, IsOrderOf};
 ghost use Rattle.labels.proofs.PartProps.{IsPart-prop};
 
+use crate::MAX_SERIES;
 use crate::index::Index;
 use crate::order::Order;
 use crate::saved::SavedSeries;
 use crate::series::{Series, SeriesList};
-use crate::MAX_SERIES;
 use labels::{LabelSet, Row, Sample, SeriesRef};
 use pages::PagedList;
 use std::alloc::{AllocError, Global};

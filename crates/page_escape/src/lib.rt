@@ -16,6 +16,4 @@
 
 mod escape;
 
-pub use escape::{
-    append_high_digits, append_leaf, append_low_digits, append_word, is_invisible,
-};
+pub use escape::{append_high_digits, append_leaf, append_low_digits, append_word, is_invisible};
