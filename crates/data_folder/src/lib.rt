@@ -10,7 +10,7 @@
 //! [`begin`] begins the first journal of a folder, and [`sweep`] removes files that no journal
 //! names. [`add`] and [`add_folder`] write a file and make a folder beside the journal, and
 //! [`write_apart`] writes one beside files that are to be kept. [`HostFolder`] is a folder of the
-//! host, of whose files no clause tells; [`MemoryFolder`] is for tests, and stops at some call.
+//! host, of whose files no clause tells.
 //!
 //! It stands on `journal` for records and media. That a file is replaced by a rename after it was
 //! synced, and the folder synced after that, is what SQLite, LevelDB and Prometheus do.
@@ -23,7 +23,6 @@ mod folder;
 mod host_folder;
 mod journal_file;
 mod listing;
-mod memory_folder;
 mod rolling;
 mod sweeping;
 
@@ -34,6 +33,5 @@ pub use folder::Folder;
 pub use host_folder::HostFolder;
 pub use journal_file::{JOURNAL, JournalFile};
 pub use listing::list_names;
-pub use memory_folder::MemoryFolder;
 pub use rolling::{RollError, begin, roll};
 pub use sweeping::sweep;
