@@ -11,7 +11,7 @@ TESTS_OF := selection_tests:labels,pages,matchers,postings \
 	tests/serving:guard \
 	tests/durable:keeper,event_journal,due_cuts,data_folder,block_rewriter,head_record,store_folder \
 	tests/scraping:metrics_text \
-	tests/importing:imported_values,time_cuts,block_folder,block_outputs,open_metrics,metrics_writer,exposition,blocktool_command,blocktool \
+	tests/importing:imported_values,kept_samples,time_cuts,block_folder,block_outputs,open_metrics,metrics_writer,exposition,blocktool_command,blocktool \
 	tests/pages-html:page_layout,page_style,page_escape,page_text,page_claims,page_marks,page,explain_command,explain
 # The crate or the script with the tests of a crate, or nothing.
 tests_of = $(if $(filter %_tests,$(1)),$(1),$(word 1,$(subst :, ,$(foreach it,$(TESTS_OF),$(if \

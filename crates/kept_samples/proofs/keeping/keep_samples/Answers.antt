@@ -1,6 +1,6 @@
 use Rattle.std.proofs.lemmas.Result.{err_from_is_err_and}
-use Rattle.prometheus_block.proofs.Fates.{keeps_next, keeps_none, one_next, first_refusal}
-use Rattle.prometheus_block.proofs.keeping.keep_samples.Goals as goal
+use Rattle.kept_samples.proofs.Fates.{keeps_next, keeps_none, one_next, first_refusal}
+use Rattle.kept_samples.proofs.keeping.keep_samples.Goals as goal
 
 pub loop-float-init : goal.loop-float-init
 loop-float-init c = keeps_none c.args.asked.now _ _

@@ -1,8 +1,8 @@
 //! What is kept of samples.
 
 ghost use Rattle.std.specs.Prelude.{◌≡◌, ◌++◌, OnOk, IfErr};
-ghost use Rattle.prometheus_block.specs.Keeping.{kept_one, told, IsRefused, IsRefusalOf};
-ghost use Rattle.prometheus_block.specs.Keeping.{Keeps, IsFirstRefusal};
+ghost use Rattle.kept_samples.specs.Keeping.{kept_one, told, IsRefused, IsRefusalOf};
+ghost use Rattle.kept_samples.specs.Keeping.{Keeps, IsFirstRefusal};
 
 use imported_values::{Policy, Reason, Verdict, judge};
 use index_reader::Chunk;
@@ -22,7 +22,7 @@ pub struct Times {
 
 impl Times {
     ghost use Rattle.labels.specs.Contents.{in_range};
-    ghost use Rattle.prometheus_block.specs.Series.{meets};
+    ghost use Rattle.kept_samples.specs.Keeping.{meets};
 
     /// Whether a time lies in the range.
     pub fn has(self, t: i64) -> bool
@@ -87,7 +87,7 @@ pub enum KeepError {
 }
 
 impl From<AllocError> for KeepError {
-    ghost use Rattle.prometheus_block.specs.declared.keeping.KeepError.TheVariants.{Memory};
+    ghost use Rattle.kept_samples.specs.declared.keeping.KeepError.TheVariants.{Memory};
 
     ghost from_gives = { λ _ e. e ≡ Memory };
 
@@ -97,7 +97,7 @@ impl From<AllocError> for KeepError {
 }
 
 impl<T: Drop> From<AllocFailed<T>> for KeepError {
-    ghost use Rattle.prometheus_block.specs.declared.keeping.KeepError.TheVariants.{Memory};
+    ghost use Rattle.kept_samples.specs.declared.keeping.KeepError.TheVariants.{Memory};
 
     ghost from_gives = { λ _ e. e ≡ Memory };
 
@@ -108,9 +108,12 @@ impl<T: Drop> From<AllocFailed<T>> for KeepError {
 
 /// What becomes of a sample.
 #[derive(Clone, Copy, Debug, PartialEq, Eq, Drop)]
-pub(crate) enum Fate {
+pub enum Fate {
+    /// Its time lies outside the range.
     Outside,
+    /// It is deleted.
     Deleted,
+    /// Its value is judged.
     Judged(Verdict),
 }
 
@@ -128,7 +131,7 @@ pub struct Asked<'a> {
 }
 
 impl<'a> Asked<'a> {
-    ghost use Rattle.prometheus_block.specs.Keeping.{IsFate};
+    ghost use Rattle.kept_samples.specs.Keeping.{IsFate};
 
     fn fate(&self, float: FloatSample) -> Fate
         ensures { IsFate self.now float result }

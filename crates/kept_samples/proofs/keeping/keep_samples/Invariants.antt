@@ -1,6 +1,6 @@
 use Rattle.std.proofs.Common.{take}
-use Rattle.prometheus_block.specs.Keeping.{Keeps}
-use Rattle.prometheus_block.proofs.keeping.keep_samples.Given as goal
+use Rattle.kept_samples.specs.Keeping.{Keeps}
+use Rattle.kept_samples.proofs.keeping.keep_samples.Given as goal
 
 abbrev pub invariant-loop-float : goal.invariant-loop-float
 invariant-loop-float l =

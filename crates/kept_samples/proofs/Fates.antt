@@ -4,13 +4,13 @@ use Rattle.std.proofs.Common.{drop, get_or, refl, sym, ap, subst, ◌∙◌, app
 use Rattle.std.specs.List.{AllByRecursion}
 use Rattle.std.proofs.lemmas.List.{append-nil, take-append-drop}
 use Rattle.xor_reader.specs.Grammar.{Sample}
-use Rattle.prometheus_block.specs.declared.keeping.Asked.{Asked}
-use Rattle.prometheus_block.specs.declared.keeping.Fate.{Fate}
-use Rattle.prometheus_block.specs.declared.keeping.Tally.{Tally}
-use Rattle.prometheus_block.specs.Keeping.{AreFates, IsFate, IsRefused, kept_of, kept_one, told}
-use Rattle.prometheus_block.specs.Keeping.{told_all, Keeps}
-use Rattle.prometheus_block.specs.Keeping.{IsRefusalOf, IsFirstRefusal}
-use Rattle.prometheus_block.specs.declared.keeping.KeepError.{KeepError}
+use Rattle.kept_samples.specs.declared.keeping.Asked.{Asked}
+use Rattle.kept_samples.specs.declared.keeping.Fate.{Fate}
+use Rattle.kept_samples.specs.declared.keeping.Tally.{Tally}
+use Rattle.kept_samples.specs.Keeping.{AreFates, IsFate, IsRefused, kept_of, kept_one, told}
+use Rattle.kept_samples.specs.Keeping.{told_all, Keeps}
+use Rattle.kept_samples.specs.Keeping.{IsRefusalOf, IsFirstRefusal}
+use Rattle.kept_samples.specs.declared.keeping.KeepError.{KeepError}
 use Rattle.std.proofs.lemmas.Grind.{take_at_read}
 use Rattle.std.proofs.Math.Seq.{drop-cons}
 

@@ -1,5 +1,7 @@
 -- What is kept of samples, and how each of them is counted.
 use Rattle.std.specs.Prelude.{◌≡◌, ◌⊎◌, ℕ, ℤ, ◌+◌, min, Bool, true, false, List, [], ◌∷◌, ◌++◌}
+use Rattle.std.specs.Prelude.{◌&&◌, int_le}
+use Rattle.index_reader.specs.declared.chunk.Chunk.{Chunk}
 use Rattle.labels.specs.Contents.{in_range}
 use Rattle.tombstones.specs.Covering.{covered}
 use Rattle.imported_values.specs.Values.{IsVerdict}
@@ -8,13 +10,18 @@ use Rattle.imported_values.specs.declared.policy.Reason.TheVariants as reason
 use Rattle.imported_values.specs.declared.policy.Verdict.{Verdict}
 use Rattle.imported_values.specs.declared.policy.Verdict.TheVariants.{Kept, Rounded, Left, Refused}
 use Rattle.xor_reader.specs.Grammar.{Sample}
-use Rattle.prometheus_block.specs.declared.keeping.Asked.{Asked}
-use Rattle.prometheus_block.specs.declared.keeping.Fate.{Fate}
-use Rattle.prometheus_block.specs.declared.keeping.Fate.TheVariants.{Outside, Deleted, Judged}
-use Rattle.prometheus_block.specs.declared.keeping.KeepError.{KeepError}
-use Rattle.prometheus_block.specs.declared.keeping.KeepError.TheVariants.{Memory, Value}
-use Rattle.prometheus_block.specs.declared.keeping.Tally.{Tally}
+use Rattle.kept_samples.specs.declared.keeping.Asked.{Asked}
+use Rattle.kept_samples.specs.declared.keeping.Fate.{Fate}
+use Rattle.kept_samples.specs.declared.keeping.Fate.TheVariants.{Outside, Deleted, Judged}
+use Rattle.kept_samples.specs.declared.keeping.KeepError.{KeepError}
+use Rattle.kept_samples.specs.declared.keeping.KeepError.TheVariants.{Memory, Value}
+use Rattle.kept_samples.specs.declared.keeping.Tally.{Tally}
+use Rattle.kept_samples.specs.declared.keeping.Times.{Times}
 use Rattle.std.specs.List.{AllByRecursion}
+
+-- whether the times of a chunk meet a closed range
+abbrev pub meets : Times → Chunk → Bool
+meets times c = int_le c.mint times.to && int_le times.from c.maxt
 
 -- whether a time is asked for
 abbrev pub is_asked : Asked → ℤ → Bool
