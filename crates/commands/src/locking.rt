@@ -8,7 +8,7 @@ use crate::fault::{Fault, Holder};
 use crate::process::number_in;
 use std::alloc::{AllocError, Global};
 use std::fs::{self, File, OpenOptions, TryLockError};
-use std::io::{self, Read, Write};
+use std::io::{self, ErrorKind, Read, Write};
 use std::process;
 
 /// Why a folder is not locked.
