@@ -211,8 +211,9 @@ being the real port.
 With --data, the store begins empty, and each write, deletion and cut is in DIR/journal, synced,
 before its reply goes out. A start replays them over the blocks in DIR/blocks: standard error tells
 `recovered N blocks, N events`, and how many bytes of a torn record it cut off; or `began
-DIR/journal`. If one of these is a cut, or the journal is longer than --journal-mb, the start then
-writes the blocks to DIR/blocks and begins the journal anew, and tells `rolled DIR/journal`.
+DIR/journal`. If one of these is a cut, or there are some and the journal is longer than
+--journal-mb, the start then writes the blocks to DIR/blocks and begins the journal anew, and tells
+`rolled DIR/journal`.
 Directories beside --data are a fault of the words. If the server cannot make sure that a change is
 kept, it is refused with H11 (503): no reader of this run sees it, but if the journal closed, the
 next start may find it. What is damaged is refused and left as it is: with J1 to J4 or J8 to J14
