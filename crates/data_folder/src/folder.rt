@@ -12,8 +12,8 @@ use std::alloc::Global;
 /// Files by their names. A name may have slashes: then it stands in a folder of this one.
 ///
 /// Of files that do not tell their bytes, as those of the system, any bytes may be those that a
-/// name shows; then the clauses say nothing of values. After a sync, a cut or a replacement that
-/// failed nothing more may be asked of them.
+/// name shows; then the clauses say nothing of values. After a read, a sync, a cut or a replacement
+/// that failed nothing more may be asked of them.
 pub trait Folder {
     /// This is what the name has, or that it has nothing.
     ghost shows: { Self → List ℕ → Option (List ℕ) → Type 0 };
@@ -21,7 +21,7 @@ pub trait Folder {
     /// Each crash leaves at least so many bytes of it.
     ghost kept: { Self → List ℕ → ℕ → Type 0 };
 
-    /// Whether no sync, no cut and no replacement has failed.
+    /// Whether no read, no sync, no cut and no replacement has failed.
     ghost sound: { Self → Bool };
 
     /// Whether a call has failed.

@@ -33,5 +33,5 @@ pub use folder::Folder;
 pub use host_folder::HostFolder;
 pub use journal_file::{JOURNAL, JournalFile};
 pub use listing::list_names;
-pub use rolling::{RollError, begin, roll};
+pub use rolling::{NEXT, RollError, begin, roll};
 pub use sweeping::sweep;

@@ -14,7 +14,7 @@ use crate::journal_file::{JOURNAL, JournalFile};
 use journal::{Journal, MediumError};
 
 /// The journal in the making.
-pub(crate) const NEXT: &str = "journal.next";
+pub const NEXT: &str = "journal.next";
 
 /// Why a journal is not begun anew.
 #[derive(Clone, Copy, Debug, PartialEq, Eq, Drop)]

@@ -1,10 +1,13 @@
 -- A journal that begins with a new head.
 use Rattle.std.proofs.Common.{◌≡◌, ◌≢◌, inl, inr, ⊎_elim, ℕ, ◌≤◌, Bool, true, false, List, []}
-use Rattle.std.proofs.Common.{◌∷◌, ◌++◌, Option, Some, Ok, get_or, refl, sym, ap, subst, ◌∙◌, arith}
-use Rattle.std.specs.Prelude.{codes, decimal}
+use Rattle.std.proofs.Common.{◌∷◌, ◌++◌, Option, Some, Result, Ok, Err, get_or, refl, sym, ap, subst}
+use Rattle.std.proofs.Common.{◌∙◌, arith}
+use Rattle.std.specs.Prelude.{codes, decimal, IsErrOf}
 use Rattle.std.specs.List.{AllByRecursion}
 use Rattle.std.proofs.lemmas.List.{append-nil}
 use Rattle.data_folder.specs.declared.journal_file.JournalFile.{JournalFile}
+use Rattle.data_folder.specs.declared.rolling.RollError.{RollError}
+use Rattle.data_folder.specs.declared.rolling.RollError.TheVariants.{Closed, NotWritten, Lost}
 use Rattle.data_folder.specs.Folders.{HasFile, Left, LeavesOnly, MayLeaveOf}
 use Rattle.data_folder.specs.JournalFile.{journal_name, next_name, JournalLeft}
 use Rattle.data_folder.specs.JournalLaws.{left_now}
@@ -19,6 +22,7 @@ use Rattle.head_record.specs.Spelling.{head_texts, IsSaved}
 use Rattle.head_record.proofs.Worlds.{in_front}
 use Rattle.keeper.specs.Finding.{IsOfAll}
 use Rattle.keeper.specs.Together.{IsKept}
+use Rattle.store_folder.specs.declared.error.RollFault.TheVariants as fault
 use Rattle.store_folder.specs.Blocks.{BlockFiles, named_files}
 use Rattle.store_folder.specs.Holding.{AreAt, HoldsAfterHead, HoldsAt, HoldsStore}
 use Rattle.store_folder.specs.KeeperLaws.{settled_found}
@@ -335,3 +339,13 @@ module _ {F : Type 0} (moment : F → ℕ) (left_since : F → ℕ → Left → 
     before = λ t w le had. ⊎_elim (λ past. one.before t w le past) (λ now. inr now)
         (two.before t w (omega (arith, le, one.later)) had);
   }
+
+-- a journal that is not lost goes on
+pub goes_on : {A : Type 0} (r : Result A RollError) (e : RollError) (was closed failed : Bool)
+    → r ≡ Err e → (IsErrOf r Closed → was ≡ true)
+    → (IsErrOf r NotWritten → (closed ≡ false) × (failed ≡ true))
+    → (fault.Folder e ≡ fault.Folder Lost → ⊥) → was ≡ false → closed ≡ false
+goes_on r Closed was closed failed is shut written unless opened =
+    absurd (let a : true ≡ false = sym (shut is) ∙ opened in cc)
+goes_on r NotWritten was closed failed is shut written unless opened = (written is).0
+goes_on r Lost was closed failed is shut written unless opened = absurd (unless refl)

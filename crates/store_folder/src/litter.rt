@@ -3,13 +3,13 @@
 ghost use Rattle.std.specs.Prelude.{◌≡◌, List, false};
 ghost use Rattle.head.specs.Heads.{BlockPart};
 ghost use Rattle.head.specs.Worlds.{Event as Change};
-ghost use Rattle.store_folder.specs.Holding.{HoldsAt};
+ghost use Rattle.store_folder.specs.Holding.{HoldsAt, HoldsStore};
 ghost use Rattle.store_folder.specs.Starting.{StartFinds};
 
 use crate::error::BlockFault;
 use crate::keeping::{Beginning, StoreKeeper};
 use crate::sweeping::file_names;
-use data_folder::{Folder, list_names, sweep};
+use data_folder::{Folder, NEXT, list_names, sweep};
 use head_record::BlockPlace;
 use std::alloc::{AllocError, Global};
 
@@ -41,14 +41,15 @@ fn push_litter(alloc: Global, names: &mut Vec<String>, name: &str) -> Result<(),
     Ok(())
 }
 
-/// The names of what blocks at other places than these have left behind, of the names of the
-/// folders of blocks.
+/// The names of what a roll that failed and blocks at other places than these have left behind, of
+/// the names of the folders of blocks.
 fn litter_names(
     alloc: Global,
     folders: &[String],
     places: &[BlockPlace],
 ) -> Result<Vec<String>, AllocError> {
     let mut names = Vec::new(alloc);
+    names.push(NEXT.to_string(alloc)?)?;
     for folder in folders {
         let name = folder.as_str();
         if is_number(name) && !is_place(alloc, places, name)? {
@@ -61,8 +62,9 @@ fn litter_names(
 impl<N: Beginning, F: Folder + Drop> StoreKeeper<N, F> {
     /// Removes what blocks at other places than these have left behind: the files of a block in
     /// each folder of `blocks` with the name of a number that none of the places has, and then this
-    /// folder, unless something else stands in it. The places are all that the journal's head
-    /// names. How many files and folders could not be removed.
+    /// folder, unless something else stands in it; and a next journal beside the journal. The
+    /// places are all that the journal's head names. How many files and folders could not be
+    /// removed.
     pub fn sweep_blocks(
         &mut self,
         alloc: Global,
@@ -81,6 +83,7 @@ impl<N: Beginning, F: Folder + Drop> StoreKeeper<N, F> {
             self.new.events.journal.medium self.new.events.journal.len
             self.new.events.journal.closed events places.now parts }
         ensures open { self.new.events.journal.closed ≡ false }
+        ensures len { self.new.events.journal.len ≡ self.old.events.journal.len }
         // After a crash at any moment of the call, a start finds the world of the same events.
         ensures any_moment { (events : List Change) (parts : List BlockPart)
             → HoldsAt F.shows F.kept F.sound F.moment F.left_since N.first
@@ -90,6 +93,43 @@ impl<N: Beginning, F: Folder + Drop> StoreKeeper<N, F> {
             self.new.events.journal.medium.folder N.first events }
     {
         sweep_apart(alloc, &mut self.events.journal.medium.folder, places)
+    }
+
+    /// Removes what a roll that failed has left behind, as [`StoreKeeper::sweep_blocks`] does, if
+    /// the journal goes on.
+    pub(crate) fn sweep_after(&mut self, alloc: Global, places: &[BlockPlace])
+        requires { self.old.events.journal.closed ≡ false → (events : List Change)
+            × (parts : List BlockPart) × HoldsAt F.shows F.kept F.sound F.moment F.left_since
+            N.first self.old.events.journal.medium self.old.events.journal.len
+            self.old.events.journal.closed events places.now parts }
+        ensures closed { self.new.events.journal.closed ≡ self.old.events.journal.closed }
+        // What was held is held.
+        ensures held { (events : List Change) (parts : List BlockPart)
+            → (self.old.events.journal.closed ≡ false
+            → HoldsAt F.shows F.kept F.sound F.moment F.left_since N.first
+            self.old.events.journal.medium self.old.events.journal.len
+            self.old.events.journal.closed events places.now parts)
+            → HoldsStore F.shows F.kept F.sound F.moment F.left_since N.first
+            self.old.events.journal.medium self.old.events.journal.len
+            self.old.events.journal.closed events
+            → HoldsStore F.shows F.kept F.sound F.moment F.left_since N.first
+            self.new.events.journal.medium self.new.events.journal.len
+            self.new.events.journal.closed events }
+        // After a crash at any moment since a folder, a start finds the same world.
+        ensures any_moment { (events : List Change) (parts : List BlockPart) (before : F)
+            → (self.old.events.journal.closed ≡ false
+            → HoldsAt F.shows F.kept F.sound F.moment F.left_since N.first
+            self.old.events.journal.medium self.old.events.journal.len
+            self.old.events.journal.closed events places.now parts)
+            → StartFinds F.moment F.left_since before self.old.events.journal.medium.folder
+            N.first events
+            → StartFinds F.moment F.left_since before self.new.events.journal.medium.folder
+            N.first events }
+    {
+        if self.events.journal.closed {
+            return;
+        }
+        let _ = self.sweep_blocks(alloc, places);
     }
 }
 

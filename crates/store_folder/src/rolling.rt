@@ -1,9 +1,12 @@
 //! A journal that begins with a new head.
 
-ghost use Rattle.std.specs.Prelude.{◌≡◌, List, false, true, Err, OnErr, OnOk};
+ghost use Rattle.std.specs.Prelude.{◌≡◌, List, [], false, true, Err, IfErr, OnErr, OnOk, length};
+ghost use Rattle.event_journal.specs.Holding.{contents_with};
 ghost use Rattle.head.specs.Heads.{BlockPart};
 ghost use Rattle.head.specs.Worlds.{Event as Change};
 ghost use Rattle.head_record.specs.Saved.{Place};
+ghost use Rattle.head_record.specs.Spelling.{head_texts};
+ghost use Rattle.journal.specs.Records.{file_of};
 ghost use Rattle.store_folder.specs.Holding.{HoldsAt, HoldsStore};
 ghost use Rattle.store_folder.specs.Rolls.{MayRoll};
 ghost use Rattle.store_folder.specs.Starting.{StartFinds};
@@ -60,6 +63,11 @@ impl<N: Beginning, F: Folder + Drop> StoreKeeper<N, F> {
             → StartFinds F.moment F.left_since self.old.events.journal.medium.folder
             self.new.events.journal.medium.folder N.first events }
         ensures open { OnOk result (self.new.events.journal.closed ≡ false) }
+        // Then it has the head and nothing more.
+        ensures len { OnOk result (self.new.events.journal.len
+            ≡ length (file_of (contents_with (head_texts head.now) []))) }
+        ensures goes_on { IfErr result (λ e. (e ≡ RollFault.Folder RollError.Lost → ⊥)
+            → self.old.events.journal.closed ≡ false → self.new.events.journal.closed ≡ false) }
         ensures closed { self.old.events.journal.closed ≡ true
             → (result ≡ Err (RollFault.Folder RollError.Closed)) × (self.new ≡ self.old) }
     {

@@ -1,11 +1,14 @@
 //! A snapshot that is saved in the place of the events that made it.
 
 ghost use Rattle.std.specs.Prelude.{◌≡◌, ◌≤◌, ◌-◌, ◌++◌, List, Err, false, true, drop, length};
-ghost use Rattle.std.specs.Prelude.{IfOk, OnErr, OnOk, take};
+ghost use Rattle.std.specs.Prelude.{[], IfErr, IfOk, OnErr, OnOk, take};
 ghost use Rattle.data_folder.specs.Sweeping.{KeepsStore};
+ghost use Rattle.event_journal.specs.Holding.{contents_with};
 ghost use Rattle.head.specs.Heads.{BlockPart};
 ghost use Rattle.head.specs.Worlds.{Event as Change};
 ghost use Rattle.head_record.specs.Saved.{save};
+ghost use Rattle.head_record.specs.Spelling.{head_texts};
+ghost use Rattle.journal.specs.Records.{file_of};
 ghost use Rattle.store_folder.specs.Holding.{AreAt, HoldsAt, HoldsStore};
 ghost use Rattle.store_folder.specs.Saving.{MaySave};
 ghost use Rattle.store_folder.specs.Starting.{StartFinds};
@@ -142,6 +145,11 @@ impl<N: Beginning, F: Folder + Drop> StoreKeeper<N, F> {
             → StartFinds F.moment F.left_since self.old.events.journal.medium.folder
             self.new.events.journal.medium.folder N.first events }
         ensures open { OnOk result (self.new.events.journal.closed ≡ false) }
+        // Then it has what is saved and nothing more.
+        ensures len { IfOk result (λ places. self.new.events.journal.len
+            ≡ length (file_of (contents_with (head_texts (save snapshot.now places.items)) []))) }
+        ensures goes_on { IfErr result (λ e. (e ≡ RollFault.Folder RollError.Lost → ⊥)
+            → self.old.events.journal.closed ≡ false → self.new.events.journal.closed ≡ false) }
         ensures closed { self.old.events.journal.closed ≡ true
             → (result ≡ Err (RollFault.Folder RollError.Closed)) × (self.new ≡ self.old) }
     {

@@ -1,9 +1,12 @@
 //! A store that saves its snapshot in the place of the events that made it.
 
 ghost use Rattle.std.specs.Prelude.{◌≡◌, ◌⊎◌, ◌<◌, ◌&&◌, ◌||◌, List, true, nat_lt, length};
-ghost use Rattle.std.specs.Prelude.{IfOk, IsErrOf, OnOk, OnErr, false, not};
+ghost use Rattle.std.specs.Prelude.{IfErr, IfOk, OnOk, false, not, []};
+ghost use Rattle.event_journal.specs.Holding.{contents_with};
 ghost use Rattle.head.specs.Heads.{BlockPart};
-ghost use Rattle.head_record.specs.Saved.{Place};
+ghost use Rattle.head_record.specs.Saved.{Place, save};
+ghost use Rattle.head_record.specs.Spelling.{head_texts};
+ghost use Rattle.journal.specs.Records.{file_of};
 ghost use Rattle.store_folder.specs.Holding.{HoldsStore};
 ghost use Rattle.store_folder.specs.Kinds.{has_cut, has_deletion};
 ghost use Rattle.store_folder.specs.Starting.{GoesOn, StartFinds, is_due};
@@ -64,6 +67,13 @@ impl<N: Beginning, F: Folder + Drop> StartedStore<N, F> {
             self.new.keeper.events.journal.closed self.old.journal.events.items }
         // It takes more events, unless it was lost.
         ensures open { OnOk result (self.new.keeper.events.journal.closed ≡ false) }
+        // It goes on where it fails, unless it was lost.
+        ensures goes_on { IfErr result (λ e. (e ≡ RollFault.Folder RollError.Lost → ⊥)
+            → self.new.keeper.events.journal.closed ≡ false) }
+        // After `Ok` the journal has what is saved of the snapshot, and nothing more.
+        ensures len { OnOk result ((places : List Place)
+            × (self.new.keeper.events.journal.len ≡ length (file_of (contents_with
+            (head_texts (save self.old.snapshot places)) [])))) }
         ensures counted { IfOk result (λ count. count ≡ length self.old.snapshot.blocks) }
         // After a crash at any moment of the call, a start finds the world of these events.
         ensures any_moment { StartFinds F.moment F.left_since
@@ -79,7 +89,10 @@ impl<N: Beginning, F: Folder + Drop> StartedStore<N, F> {
                 let _ = self.keeper.sweep_blocks(alloc, &places);
                 Ok(places.len())
             }
-            Err(fault) => Err(fault),
+            Err(fault) => {
+                self.keeper.sweep_after(alloc, held);
+                Err(fault)
+            }
         }
     }
 }

@@ -3,7 +3,8 @@ use Rattle.event_journal.specs.Holding.{contents_with}
 use Rattle.head_record.specs.Spelling.{head_texts}
 use Rattle.journal.specs.Group.{IsJournalText}
 use Rattle.store_folder.specs.KeeperLaws.{open_head}
-use Rattle.store_folder.proofs.Rolls.{apart_both, files_of_both, keeps_now, not_rolled, roll_finds}
+use Rattle.store_folder.proofs.Rolls.{apart_both, files_of_both, goes_on, keeps_now, not_rolled}
+use Rattle.store_folder.proofs.Rolls.{roll_finds}
 use Rattle.store_folder.proofs.Rolls.{rolled, same_head, stays_so, there_both}
 use Rattle.store_folder.proofs.keeping.StoreKeeper.roll.Goals as goal
 
@@ -39,6 +40,22 @@ returns-in-Ok-roll-clause-places g c events parts m =
     (c.in-Ok-roll.ensures.ok new
     (subst (IsJournalText new) (sym c.deref.ensures.value) c.in-Ok.ensures.text))
     c.in-Ok-roll.ensures.files
+
+pub returns-in-Ok-roll-clause-len : goal.returns-in-Ok-roll-clause-len
+returns-in-Ok-roll-clause-len g c =
+    let new = contents_with (head_texts c.args.head.now) [] in
+    let k =
+    c.in-Ok-roll.ensures.ok new
+    (subst (IsJournalText new) (sym c.deref.ensures.value) c.in-Ok.ensures.text) in
+    k.counted
+
+pub returns-clause-goes_on : goal.returns-clause-goes_on
+returns-clause-goes_on g c unless opened =
+    let f = g.F.Folder in
+    let made = c.roll.new.journal in
+    goes_on c.roll.result c.in-Err-roll.error c.args.self.now.events.journal.closed made.closed
+    (f.failed made.medium.folder) c.in-Err-roll.is c.roll.ensures.closed
+    c.roll.ensures.not_written unless opened
 
 pub returns-in-Ok-roll-clause-held : goal.returns-in-Ok-roll-clause-held
 returns-in-Ok-roll-clause-held g c events parts m =

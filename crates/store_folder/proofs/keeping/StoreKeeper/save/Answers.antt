@@ -1,5 +1,8 @@
-use Rattle.std.proofs.Common.{◌-◌, ◌++◌, inl, length, subst, sym, take, ◌∙◌, List}
-use Rattle.head_record.specs.Saved.{Place}
+use Rattle.std.proofs.Common.{◌-◌, ◌++◌, ap, inl, length, subst, sym, take, ◌∙◌, List, []}
+use Rattle.event_journal.specs.Holding.{contents_with}
+use Rattle.head_record.specs.Saved.{Place, Saved, save}
+use Rattle.head_record.specs.Spelling.{head_texts}
+use Rattle.journal.specs.Records.{file_of}
 use Rattle.store_folder.specs.Holding.{HoldsAt}
 use Rattle.store_folder.specs.Writing.{places_from}
 use Rattle.store_folder.proofs.Saves.{enough, like_made, may_roll, still_held, writing_finds}
@@ -239,3 +242,13 @@ returns-clause-any_moment g c events parts may opened =
     (record { folder = c.write_saved.new.folder }) old.len old.closed events s held parts same may c.if-self.false
     c.write_saved.ensures.stays)
     (c.in-Err-roll.ensures.any_moment events made rolls c.if-self.false)
+
+pub returns-in-Ok-roll-clause-len : goal.returns-in-Ok-roll-clause-len
+returns-in-Ok-roll-clause-len g c =
+    let s = c.args.snapshot.now in
+    let named = c.in-Ok-from_slice.ensures.items ∙ c.places.ensures in
+    let same =
+    c.in-Ok.ensures.saved
+    ∙ ap (save s) (sym (named ∙ ap (λ (h : Saved). h.places) c.in-Ok.ensures.saved)) in
+    c.in-Ok-roll.ensures.len
+    ∙ ap (λ (h : Saved). length (file_of (contents_with (head_texts h) []))) same

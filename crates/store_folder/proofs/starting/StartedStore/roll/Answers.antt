@@ -138,6 +138,26 @@ returns-in-Ok-clause-any_moment g c =
     (c.in-Ok.ensures.any_moment events parts may c.requires.1.is_open)
     (c.sweep_blocks.ensures.any_moment events placed.0 at)
 
+pub sweep_after-requires : goal.sweep_after-requires
+sweep_after-requires g c opened =
+    let f = g.F.Folder in
+    let met = g.met.F.Folder in
+    let self = c.args.self.now in
+    let j = self.keeper.events.journal in
+    let first = g.N.Beginning.first in
+    let events = self.journal.events.items in
+    let parts = c.requires.0 in
+    let held = c.places-held.result.now in
+    let same = c.kept_blocks-same.result in
+    let may : MaySave f.shows f.kept f.sound f.moment f.left_since first j.medium j.len j.closed
+    events self.snapshot held parts same =
+    may_save f.shows f.kept f.sound f.moment f.left_since first j.medium j.len j.closed events
+    self.journal.head.places held parts self.snapshot same (length held) c.requires.1
+    c.places-held.ensures refl
+    (λ some. c.kept_blocks-same.ensures.none (ap has_deletion c.deref.ensures.value ∙ some))
+    (λ none. c.kept_blocks-same.ensures.all (ap has_deletion c.deref.ensures.value ∙ none)) in
+    (events, parts, c.in-Err.ensures.err events parts may opened)
+
 pub returns-in-Err-clause-held : goal.returns-in-Err-clause-held
 returns-in-Err-clause-held g c =
     let f = g.F.Folder in
@@ -156,7 +176,8 @@ returns-in-Err-clause-held g c =
     c.places-held.ensures refl
     (λ some. c.kept_blocks-same.ensures.none (ap has_deletion c.deref.ensures.value ∙ some))
     (λ none. c.kept_blocks-same.ensures.all (ap has_deletion c.deref.ensures.value ∙ none)) in
-    c.in-Err.ensures.held events parts may
+    c.sweep_after.ensures.held events parts (λ opened. c.in-Err.ensures.err events parts may opened)
+    (c.in-Err.ensures.held events parts may)
 
 pub returns-in-Err-clause-any_moment : goal.returns-in-Err-clause-any_moment
 returns-in-Err-clause-any_moment g c =
@@ -176,4 +197,10 @@ returns-in-Err-clause-any_moment g c =
     c.places-held.ensures refl
     (λ some. c.kept_blocks-same.ensures.none (ap has_deletion c.deref.ensures.value ∙ some))
     (λ none. c.kept_blocks-same.ensures.all (ap has_deletion c.deref.ensures.value ∙ none)) in
-    c.in-Err.ensures.any_moment events parts may c.requires.1.is_open
+    c.sweep_after.ensures.any_moment events parts j.medium.folder
+    (λ opened. c.in-Err.ensures.err events parts may opened)
+    (c.in-Err.ensures.any_moment events parts may c.requires.1.is_open)
+
+pub returns-in-Ok-clause-len : goal.returns-in-Ok-clause-len
+returns-in-Ok-clause-len g c =
+    (c.in-Ok.places.items, c.sweep_blocks.ensures.len ∙ c.in-Ok.ensures.len)
