@@ -9,12 +9,12 @@ use Rattle.std.proofs.lemmas.List.{length-take-le, map-append}
 use Rattle.std.proofs.lemmas.List.Sums.{fold-append}
 use Rattle.std.specs.Int.{int_min, int_max}
 use Rattle.std.specs.List.{Contains, fold}
-use Rattle.std.specs.Prelude.{is_ok, if◌then◌else◌}
+use Rattle.std.specs.Prelude.{is_ok, true, false, if◌then◌else◌}
 use Rattle.labels.specs.Labels.{Labels}
 use Rattle.head.specs.Worlds.{Event}
 use Rattle.store_folder.specs.Codes.{read_cause}
 use Rattle.store_folder.specs.Journals.{DeniesJournal}
-use Rattle.store_folder.specs.Plain.{DeniesPlain}
+use Rattle.store_folder.specs.Plain.{DeniesPlain, begins_plain}
 use Rattle.store_folder.specs.declared.error.ReadError.{ReadError as JournalFault}
 use Rattle.store_folder.specs.declared.error.StartCause.{StartCause}
 use Rattle.store_folder.specs.declared.error.StartCause.TheVariants as causes
@@ -143,14 +143,16 @@ list_refused reads path file (Words error) found h = absurd h
 
 -- the fault of a journal that is refused, by what is wrong with its file
 fault_of : (cause : StartCause) (file : List ℕ) (error : JournalFault)
-    → DeniesJournal file error ⊎ DeniesPlain file error
+    → ((begins_plain file ≡ false) × DeniesJournal file error)
+    ⊎ ((begins_plain file ≡ true) × DeniesPlain file error)
     → IsListingFault file (start_fault cause (start.Journal error))
 fault_of causes.Memory file error h = tt
 fault_of causes.Folder file error h = tt
 fault_of causes.Refused file error h = h
 
 pub not_listed : (file : List ℕ) (error : JournalFault) (fault : Fault) → fault ≡ read_fault error
-    → DeniesJournal file error ⊎ DeniesPlain file error → IsListingFault file fault
+    → ((begins_plain file ≡ false) × DeniesJournal file error)
+    ⊎ ((begins_plain file ≡ true) × DeniesPlain file error) → IsListingFault file fault
 not_listed file error fault is h =
     subst (IsListingFault file) (sym is) (fault_of (read_cause error) file error h)
 

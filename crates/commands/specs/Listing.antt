@@ -1,5 +1,6 @@
 -- What `journal` lists of a journal.
 use Rattle.std.specs.Prelude.{◌≡◌, ◌⊎◌, ℕ, ◌+◌, ◌-◌, ℤ, List, [], ◌∷◌, ◌++◌, Option, None, length}
+use Rattle.std.specs.Prelude.{false, true}
 use Rattle.std.specs.Prelude.{codes, decimal, map, min, string_bytes, sum, ◌^◌}
 use Rattle.std.specs.Fmt.{signed_decimal}
 use Rattle.std.specs.Int.Signed.{◌≤ℤ◌}
@@ -16,7 +17,7 @@ use Rattle.head_record.specs.Spelling.{head_texts}
 use Rattle.journal.specs.Records.{file_of}
 use Rattle.event_journal.specs.Holding.{Stands, contents_with}
 use Rattle.store_folder.specs.Journals.{DeniesJournal, IsJournalOf}
-use Rattle.store_folder.specs.Plain.{DeniesPlain}
+use Rattle.store_folder.specs.Plain.{DeniesPlain, begins_plain}
 use Rattle.store_folder.specs.declared.error.StartError.TheVariants as start
 use Rattle.commands.specs.Keeping.{path_in}
 use Rattle.commands.specs.Reading.{Host, AreFirstBytes}
@@ -177,7 +178,8 @@ pub record IsListed (reads : Host) (path : List ℕ) (old new : Option (List ℕ
 -- a file is not listed: it is refused by the first check that fails, or memory failed
 abbrev pub IsListingFault : List ℕ → Fault → Type 0
 IsListingFault file (Refused (Start (start.Journal error))) =
-    DeniesJournal file error ⊎ DeniesPlain file error
+    ((begins_plain file ≡ false) × DeniesJournal file error)
+    ⊎ ((begins_plain file ≡ true) × DeniesPlain file error)
 IsListingFault file Memory = Unit {0}
 IsListingFault file other = ⊥
 

@@ -1,5 +1,6 @@
 -- Journals of events alone.
-use Rattle.std.specs.Prelude.{◌≡◌, ◌⊎◌, ℕ, Bool, true, List, [], Option, Some}
+use Rattle.std.specs.Prelude.{◌≡◌, ◌⊎◌, ℕ, Bool, true, false, ◌&&◌, nat_le, List, [], Option, None}
+use Rattle.std.specs.Prelude.{Some, slice_get}
 use Rattle.data_folder.specs.Folders.{Left, LeavesOnly}
 use Rattle.data_folder.specs.JournalFile.{journal_name}
 use Rattle.event_journal.specs.Holding.{Stands}
@@ -19,6 +20,16 @@ use Rattle.store_folder.specs.declared.error.StartError.TheVariants as errors
 use Rattle.store_folder.specs.Faults.{DeniesStore}
 use Rattle.store_folder.specs.Journals.{DeniesRecords}
 use Rattle.store_folder.specs.Starting.{nothing_saved}
+
+-- whether a content of this kind is an event
+abbrev pub is_event_kind : Option ℕ → Bool
+is_event_kind None = false
+is_event_kind (Some kind) = nat_le 1 kind && nat_le kind 3
+
+-- whether a file may be a journal of events alone: the first content, behind the header of the file
+-- and that of its record, begins as an event
+abbrev pub begins_plain : List ℕ → Bool
+begins_plain file = is_event_kind (slice_get file 13)
 
 -- contents are refused as events so: there is none, or one of them is no event
 abbrev pub DeniesEvents : List (List ℕ) → ReadError → Type 0
@@ -80,11 +91,12 @@ LeavesEither moment left_since old new events =
 abbrev pub DeniesOpening : {F : Type 0} → (F → List ℕ → Option (List ℕ) → Type 0)
     → (F → List ℕ → ℕ → Type 0) → (F → Bool) → F → List ℕ → StartError → Type 0
 DeniesOpening shows kept failed f file e =
-    DeniesStore shows kept failed f e ⊎ DeniesAdopting failed f file e
+    DeniesStore shows kept failed f e
+    ⊎ ((begins_plain file ≡ true) × DeniesAdopting failed f file e)
 
 -- a folder is not opened as a store so
 abbrev pub DeniesFolder : {F : Type 0} → (F → List ℕ → Option (List ℕ) → Type 0)
     → (F → List ℕ → ℕ → Type 0) → (F → Bool) → F → StartError → Type 0
 DeniesFolder shows kept failed f e =
     DeniesStore shows kept failed f e
-    ⊎ ((file : List ℕ) × DeniesAdopting failed f file e)
+    ⊎ ((file : List ℕ) × (begins_plain file ≡ true) × DeniesAdopting failed f file e)

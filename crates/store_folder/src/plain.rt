@@ -13,7 +13,7 @@ ghost use Rattle.journal.specs.Records.{file_of};
 ghost use Rattle.journal.specs.declared.error.JournalError.TheVariants.{Memory as NoRecord};
 ghost use Rattle.keeper.specs.Together.{texts_of};
 ghost use Rattle.store_folder.specs.Plain.{DeniesAdmitting, DeniesAdopting, DeniesEvents};
-ghost use Rattle.store_folder.specs.Plain.{DeniesPlain, DeniesText, LeavesEither};
+ghost use Rattle.store_folder.specs.Plain.{DeniesPlain, DeniesText, LeavesEither, begins_plain};
 ghost use Rattle.store_folder.specs.declared.error.ReadError.TheVariants.{Head, Journal as Records};
 ghost use Rattle.store_folder.specs.declared.error.StartError.TheVariants.{Journal};
 ghost use Rattle.store_folder.specs.Starting.{nothing_saved};
@@ -30,9 +30,11 @@ use journal::{JournalError, file_text, recover};
 use std::alloc::{AllocError, Global};
 
 /// Whether a file may be a journal of events alone: its first content begins as that of an event.
-pub fn begins_plain(file: &[u8]) -> bool {
+pub fn begins_plain(file: &[u8]) -> bool
+    ensures { result ≡ begins_plain file.now }
+{
     match file.get(13) {
-        Some(kind) => matches!(*kind, 1..=3),
+        Some(kind) => 1 <= *kind && *kind <= 3,
         None => false,
     }
 }

@@ -22,5 +22,5 @@ returns-in-Some-clause-told g c =
     (λ (e : StartError). DeniesOpening f.shows f.kept f.failed after file e)
     (λ (e : StartError). cause_of e ≡ Refused → IsRefusal e)
     (λ e d is. ⊎_elim (store_refused f.shows f.kept f.failed after e is)
-    (plain_refused f.failed after file e is) d)
+    (λ plain. plain_refused f.failed after file e is plain.1) d)
     c.open_file.ensures.refused
