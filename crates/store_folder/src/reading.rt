@@ -1,7 +1,7 @@
 //! What a folder has of a store.
 
 ghost use Rattle.std.specs.Prelude.{◌≡◌, ℕ, List, None, Some, Ok, IfOk, IfErr, IfSome, OnOk};
-ghost use Rattle.std.specs.Prelude.{map, true};
+ghost use Rattle.std.specs.Prelude.{false, map, true};
 ghost use Rattle.data_folder.specs.Folders.{HasFile, KeepsAll};
 ghost use Rattle.data_folder.specs.JournalFile.{journal_name};
 ghost use Rattle.head.specs.Blocks.{part_in};
@@ -13,7 +13,7 @@ ghost use Rattle.store_folder.specs.Faults.{DeniesStore, GivesFound, GivesStore,
 ghost use Rattle.store_folder.specs.Finding.{IsFoundStore};
 ghost use Rattle.store_folder.specs.Holding.{AreAt};
 ghost use Rattle.store_folder.specs.Journals.{IsFoundJournal, IsJournalOf};
-ghost use Rattle.store_folder.specs.Plain.{DeniesFolder, DeniesOpening};
+ghost use Rattle.store_folder.specs.Plain.{DeniesFolder, DeniesOpening, begins_plain};
 ghost use Rattle.store_folder.specs.Refusals.{IsRefusal};
 ghost use Rattle.store_folder.specs.declared.error.StartCause.TheVariants.{Refused};
 
@@ -150,6 +150,11 @@ fn open_file<F: Folder>(
     ensures none { result ≡ Ok None
         → F.shows folder.new journal_name None × F.kept folder.new journal_name 0 }
     ensures sound { OnOk result (F.sound folder.new ≡ true) }
+    ensures only { TellsFiles F.shows → (saved : Saved) (parts : List BlockPart)
+        (events : List Change) → begins_plain file.items ≡ false
+        → IsJournalOf file.items saved events
+        → AreAt F.shows F.kept saved.places parts folder.old
+        → GivesStore (F.failed folder.new) saved parts events result }
     ensures refused { IfErr result (λ e.
         DeniesOpening F.shows F.kept F.failed folder.new file.items e) }
 {
@@ -177,6 +182,13 @@ pub fn open_store<F: Folder>(
     ensures none { result ≡ Ok None
         → F.shows folder.new journal_name None × F.kept folder.new journal_name 0 }
     ensures sound { OnOk result (F.sound folder.new ≡ true) }
+    // Of a folder that tells what its files have, a store that lies there is given, unless memory
+    // runs out, reading fails or a matcher of a deletion is refused.
+    ensures only { TellsFiles F.shows → (file : List ℕ) (saved : Saved) (parts : List BlockPart)
+        (events : List Change) → HasFile F.shows F.kept journal_name file folder.old
+        → begins_plain file ≡ false → IsJournalOf file saved events
+        → AreAt F.shows F.kept saved.places parts folder.old
+        → GivesStore (F.failed folder.new) saved parts events result }
     // A refusal tells which check failed first; also where clauses tell nothing of the folder, what
     // is refused is some folder that has to be.
     ensures refused { IfErr result (λ e. DeniesFolder F.shows F.kept F.failed folder.new e) }
