@@ -11,9 +11,13 @@ use Rattle.std.specs.Int.{int_min, int_max}
 use Rattle.std.specs.List.{Contains, fold}
 use Rattle.std.specs.Prelude.{is_ok, true, false, if◌then◌else◌}
 use Rattle.labels.specs.Labels.{Labels}
+use Rattle.event_journal.specs.Holding.{contents_with}
 use Rattle.head.specs.Worlds.{Event}
+use Rattle.head_record.specs.Saved.{Saved}
+use Rattle.head_record.specs.Spelling.{head_texts}
+use Rattle.journal.specs.Records.{file_of}
 use Rattle.store_folder.specs.Codes.{read_cause}
-use Rattle.store_folder.specs.Journals.{DeniesJournal}
+use Rattle.store_folder.specs.Journals.{DeniesJournal, IsJournalOf}
 use Rattle.store_folder.specs.Plain.{DeniesPlain, begins_plain}
 use Rattle.store_folder.specs.declared.error.ReadError.{ReadError as JournalFault}
 use Rattle.store_folder.specs.declared.error.StartCause.{StartCause}
@@ -22,7 +26,7 @@ use Rattle.store_folder.specs.declared.error.StartError.TheVariants as start
 use Rattle.commands.specs.Faults.{read_fault, start_fault}
 use Rattle.commands.specs.Listing.{IsBatchLine, IsEventLine, AreLines, batch_line, IsFileAt}
 use Rattle.commands.specs.Listing.{IsListFault, IsListingFault, IsUnreadJournal, batch_start}
-use Rattle.commands.specs.Listing.{batch_end}
+use Rattle.commands.specs.Listing.{batch_end, head_line, summary_line, IsListing}
 use Rattle.commands.specs.Listing.{empty_batch_line, times_in, IsSeriesCount, IsSpan}
 use Rattle.commands.specs.Reading.{Host}
 use Rattle.commands.specs.declared.fault.Fault.{Fault}
@@ -30,9 +34,7 @@ use Rattle.commands.specs.declared.fault.Fault.TheVariants.{Words, Refused, Cann
 use Rattle.commands.specs.declared.fault.Fault.TheVariants.{CannotWriteAt, Locked}
 use Rattle.commands.specs.declared.fault.Fault.TheVariants.{CannotListen, NoListener, NoThread}
 use Rattle.commands.specs.declared.fault.Fault.TheVariants.{Memory}
-use Rattle.commands.specs.declared.fault.Refusal.TheVariants.{Labels, Matcher, Selector, Query}
-use Rattle.commands.specs.declared.fault.Refusal.TheVariants.{Commit, Block, Open, Snapshot}
-use Rattle.commands.specs.declared.fault.Refusal.TheVariants.{Start}
+use Rattle.commands.specs.declared.fault.Refusal.TheVariants as refusal
 
 -- a line more
 pub lines_more : (n m : ℕ) (es : List Event) (e : Event) (lines line : List ℕ)
@@ -122,16 +124,16 @@ batch_added (Err e) number xs old new some h = tt
 -- a file that is not listed
 pub list_refused : (reads : Host) (path file : List ℕ) (fault : Fault) → IsFileAt reads path file
     → IsListingFault file fault → IsListFault reads path fault
-list_refused reads path file (Refused (Start error)) found h = (file, found, h)
+list_refused reads path file (Refused (refusal.Start error)) found h = (file, found, h)
 list_refused reads path file Memory found h = tt
-list_refused reads path file (Refused (Labels error)) found h = absurd h
-list_refused reads path file (Refused (Matcher error)) found h = absurd h
-list_refused reads path file (Refused (Selector error)) found h = absurd h
-list_refused reads path file (Refused (Query error)) found h = absurd h
-list_refused reads path file (Refused (Commit error)) found h = absurd h
-list_refused reads path file (Refused (Block error)) found h = absurd h
-list_refused reads path file (Refused (Open error)) found h = absurd h
-list_refused reads path file (Refused (Snapshot error)) found h = absurd h
+list_refused reads path file (Refused (refusal.Labels error)) found h = absurd h
+list_refused reads path file (Refused (refusal.Matcher error)) found h = absurd h
+list_refused reads path file (Refused (refusal.Selector error)) found h = absurd h
+list_refused reads path file (Refused (refusal.Query error)) found h = absurd h
+list_refused reads path file (Refused (refusal.Commit error)) found h = absurd h
+list_refused reads path file (Refused (refusal.Block error)) found h = absurd h
+list_refused reads path file (Refused (refusal.Open error)) found h = absurd h
+list_refused reads path file (Refused (refusal.Snapshot error)) found h = absurd h
 list_refused reads path file (CannotRead at) found h = absurd h
 list_refused reads path file CannotWrite found h = absurd h
 list_refused reads path file (CannotWriteAt at) found h = absurd h
@@ -204,3 +206,25 @@ lines_next es i number e lines new line within is same each one made =
     subst₂ (λ (xs : List Event) (ls : List ℕ). AreLines 0 xs ls)
     (ap (λ (x : Event). take i es ++ x ∷ []) is ∙ sym (take_at_read es i e within).1) (sym made)
     (lines_more 0 (number + 1) (take i es) e lines line counted each one)
+
+-- the listing of a journal that begins with a head
+pub summed_up : (file : List ℕ) (saved : Saved) (events : List Event) (len : ℕ)
+    (lines front text : List ℕ) → IsJournalOf file saved events
+    → len ≡ length (file_of (contents_with (head_texts saved) events)) → AreLines 0 events lines
+    → front ≡ head_line saved
+    → text ≡ front ++ (lines ++ summary_line (length events) len (length file))
+    → IsListing file text
+summed_up file saved events len lines front text is counted each head made =
+    let rest = lines ++ summary_line (length events) len (length file) in
+    inl (
+      saved,
+      events,
+      is,
+      rest,
+      record {
+        lines = lines;
+        each = each;
+        is = ap (λ (n : ℕ). lines ++ summary_line (length events) n (length file)) counted;
+      },
+      made ∙ ap (λ (f : List ℕ). f ++ rest) head,
+    )

@@ -61,6 +61,11 @@ pub record IsRead {F : Type 0} (shows : F → List ℕ → Option (List ℕ) →
   pub has : HasFound shows kept f found
   pub is_sound : sound f ≡ true
 
+-- what is found in a folder of whose files no clause tells, as those of the host
+abbrev pub IsFoundOnHost : Option FoundStore → Type 0
+IsFoundOnHost found =
+    HasFound {F = Unit {0}} (λ f name x. Unit {0}) (λ f name n. Unit {0}) tt found
+
 -- the world before the events of what was found: that of the journal's head and blocks, or of a
 -- store that has nothing
 abbrev pub first_of : Option FoundStore → World

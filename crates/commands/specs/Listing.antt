@@ -142,13 +142,20 @@ IsUnreadJournal reads path other = ⊥
 abbrev pub saved_samples : List HeadSeries → ℕ
 saved_samples series = min (sum (map (λ (h : HeadSeries). length h.samples) series)) (2 ^ 64 - 1)
 
--- the line of a head
+-- the line of a head: its floor, and how many blocks, series and samples it has
+abbrev pub head_start : ℤ → ℕ → List ℕ
+head_start floor blocks =
+    codes "head: floor " ++ (signed_decimal floor ++ (codes ", "
+    ++ (decimal blocks ++ codes " blocks, ")))
+
+abbrev pub head_end : ℕ → ℕ → List ℕ
+head_end series samples =
+    decimal series ++ (codes " series, " ++ (decimal samples ++ codes " samples\n"))
+
 abbrev pub head_line : Saved → List ℕ
 head_line saved =
-    codes "head: floor " ++ (signed_decimal saved.floor ++ (codes ", "
-    ++ (decimal (length saved.places) ++ (codes " blocks, "
-    ++ (decimal (length saved.head) ++ (codes " series, "
-    ++ (decimal (saved_samples saved.head) ++ codes " samples\n")))))))
+    head_start saved.floor (length saved.places)
+    ++ head_end (length saved.head) (saved_samples saved.head)
 
 -- the lines of these events behind these contents, and the line that sums the file up
 pub record AreEventLines (front : List (List ℕ)) (file text : List ℕ) (events : List Event)

@@ -14,13 +14,13 @@ ghost use Rattle.store_folder.specs.States.{started};
 ghost use Rattle.server.specs.Shifts.{AreUnder, EachServed};
 ghost use Rattle.store_folder.specs.Refusals.{IsRefusal};
 ghost use Rattle.store_folder.specs.declared.error.StartCause.TheVariants.{Refused};
-ghost use Rattle.commands.specs.Keeping.{IsDataFault, IsRead, first_of};
+ghost use Rattle.commands.specs.Keeping.{IsDataFault, IsFoundOnHost, IsRead, first_of};
 ghost use Rattle.commands.specs.ServingRuns.{TellsPort, IsKeepingFault, IsServingFault};
 
 use crate::command::Serving;
-use crate::locking::{block_path_in, cannot_read, cannot_write, lock_data, path_in};
 use crate::fault::{Fault, Refusal};
 use crate::files::ReadFiles;
+use crate::locking::{block_path_in, cannot_read, cannot_write, lock_data, path_in};
 use crate::process::Process;
 use crate::serve::{counts_of, passes_of, seats_of, serve_workers, watch_at, with_cuts};
 use data_folder::{Folder, HostFolder, RollError};
@@ -91,17 +91,31 @@ fn read_data<H: Folder + Drop>(alloc: Global, disk: H, folder: &str) -> Result<F
     }
 }
 
-/// Reads as [`read_data`] does, and answers those beside that watch.
-fn read_watched<R: Threads + Clock + Eprint + Sync, F: ReadFiles, H: Folder + Drop + Send>(
+/// Reads the store that a folder of the host has, if it has one.
+fn read_host<F: ReadFiles>(
+    alloc: Global,
+    files: &F,
+    folder: &str,
+) -> Result<Option<FoundStore>, Fault>
+    ensures read { IfOk result IsFoundOnHost }
+    ensures err { IfErr result (IsDataFault folder.now) }
+{
+    let Some(host) = files.host() else {
+        return Err(cannot_write(alloc, folder));
+    };
+    let read = read_data(alloc, HostFolder::new(host, alloc, folder), folder)?;
+    Ok(read.found)
+}
+
+/// Reads as [`read_host`] does, and answers those beside that watch.
+fn read_watched<R: Threads + Clock + Sync, F: ReadFiles>(
     rt: &R,
     alloc: Global,
     files: &F,
-    disk: H,
     folder: &str,
     listener: &TcpListener,
-) -> Result<FoundData<H>, Fault>
-    requires { H.sound disk ≡ true }
-    ensures read { IfOk result (λ x. IsRead H.shows H.kept H.sound x.disk x.found) }
+) -> Result<Option<FoundStore>, Fault>
+    ensures read { IfOk result IsFoundOnHost }
     ensures err { IfErr result (IsDataFault folder.now) }
 {
     let process = Process { alloc, files };
@@ -109,12 +123,12 @@ fn read_watched<R: Threads + Clock + Eprint + Sync, F: ReadFiles, H: Folder + Dr
     let over = AtomicBool::new(false);
     let (watch, ended) = (&watch, &over);
     let apart = || report_opening(rt, alloc, watch, ended);
-    let here = || -> Result<FoundData<H>, Fault>
-        requires { IsSend H.row × (H.sound disk ≡ true) }
-        ensures read { IfOk result (λ x. IsRead H.shows H.kept H.sound x.disk x.found) }
+    let here = || -> Result<Option<FoundStore>, Fault>
+        requires { IsSync F.row }
+        ensures read { IfOk result IsFoundOnHost }
         ensures err { IfErr result (IsDataFault folder.entry.now) }
     {
-        let read = read_data(alloc, disk, folder);
+        let read = read_host(alloc, files, folder);
         ended.store(true, Ordering::SeqCst);
         read
     };
@@ -122,22 +136,20 @@ fn read_watched<R: Threads + Clock + Eprint + Sync, F: ReadFiles, H: Folder + Dr
     read
 }
 
-/// Reads as [`read_data`] does, and answers those beside that watch, if any can.
-fn read_beside<R: Threads + Clock + Eprint + Sync, F: ReadFiles, H: Folder + Drop + Send>(
+/// Reads as [`read_host`] does, and answers those beside that watch, if any can.
+fn read_beside<R: Threads + Clock + Sync, F: ReadFiles>(
     rt: &R,
     alloc: Global,
     files: &F,
-    disk: H,
     folder: &str,
     beside: Option<&TcpListener>,
-) -> Result<FoundData<H>, Fault>
-    requires { H.sound disk ≡ true }
-    ensures read { IfOk result (λ x. IsRead H.shows H.kept H.sound x.disk x.found) }
+) -> Result<Option<FoundStore>, Fault>
+    ensures read { IfOk result IsFoundOnHost }
     ensures err { IfErr result (IsDataFault folder.now) }
 {
     match beside {
-        Some(listener) => read_watched(rt, alloc, files, disk, folder, listener),
-        None => read_data(alloc, disk, folder),
+        Some(listener) => read_watched(rt, alloc, files, folder, listener),
+        None => read_host(alloc, files, folder),
     }
 }
 
@@ -433,10 +445,52 @@ fn serve_kept<
     serve_workers(rt, alloc, files, workers, rules, beside, serving, out)
 }
 
+/// The path of the folder of a store.
+#[derive(Clone, Copy)]
+struct DataPath<'a> {
+    path: &'a str,
+}
+
 /// Serves the store that was found in a folder, or that begins there, as [`serve_kept`] does: how
 /// many connections each worker served.
 fn serve_found<
     N: Beginning + Send + Sync,
+    H: Folder + Drop + Send,
+    R: Wait + Threads + Net<Listener = TcpListener, Stream = TcpStream> + Clock + Eprint + Sync,
+    F: ReadFiles,
+    W: Write,
+>(
+    rt: &R,
+    alloc: Global,
+    files: &F,
+    disk: H,
+    found: Option<FoundStore>,
+    at: DataPath<'_>,
+    rules: &Rules,
+    beside: Option<&TcpListener>,
+    serving: Serving<'_>,
+    out: &mut W,
+) -> Result<Vec<u64>, Fault>
+    requires read { IsRead H.shows H.kept H.sound disk found }
+    requires first { N.first ≡ first_of found }
+    ensures ok { OnOk result (TellsPort (W.contents out.old) (W.contents out.new)) }
+    ensures workers { IfOk result (λ counts. vec_len counts ≡ serving.entry.workers) }
+    ensures served { IfOk result (λ counts. All (λ n. n ≡ serving.entry.requests) counts.items) }
+    ensures err { IfErr result (λ fault. IsKeepingFault at.entry.path.now serving.entry
+        (W.contents out.old) (W.contents out.new) fault) }
+{
+    let most = serving.journal_mb.saturating_mul(MB);
+    let kept = start_beside::<R, N, F, H>(rt, alloc, files, disk, found, at.path, most, beside)?;
+    let name = Store::new();
+    let shifts = serve_kept::<Brand, N, H, R, F, W>(
+        rt, alloc, files, name, kept, rules, beside, serving, out,
+    )?;
+    let counts = counts_of(alloc, shifts.as_slice())?;
+    Ok(counts)
+}
+
+/// Serves the store that a folder was found to have, or that begins there, as [`serve_found`] does.
+fn serve_folder<
     H: Folder + Drop + Send,
     R: Wait + Threads + Net<Listener = TcpListener, Stream = TcpStream> + Clock + Eprint + Sync,
     F: ReadFiles,
@@ -453,51 +507,16 @@ fn serve_found<
     serving: Serving<'_>,
     out: &mut W,
 ) -> Result<Vec<u64>, Fault>
-    requires read { IsRead H.shows H.kept H.sound disk found }
-    requires first { N.first ≡ first_of found }
+    requires { IsRead H.shows H.kept H.sound disk found }
     ensures ok { OnOk result (TellsPort (W.contents out.old) (W.contents out.new)) }
     ensures workers { IfOk result (λ counts. vec_len counts ≡ serving.entry.workers) }
     ensures served { IfOk result (λ counts. All (λ n. n ≡ serving.entry.requests) counts.items) }
     ensures err { IfErr result (λ fault. IsKeepingFault folder.now serving.entry
         (W.contents out.old) (W.contents out.new) fault) }
 {
-    let most = serving.journal_mb.saturating_mul(MB);
-    let kept = start_beside::<R, N, F, H>(rt, alloc, files, disk, found, folder, most, beside)?;
-    let name = Store::new();
-    let shifts = serve_kept::<Brand, N, H, R, F, W>(
-        rt, alloc, files, name, kept, rules, beside, serving, out,
-    )?;
-    let counts = counts_of(alloc, shifts.as_slice())?;
-    Ok(counts)
-}
-
-/// Serves the store of a folder that is locked, as [`serve_found`] does.
-fn serve_folder<
-    H: Folder + Drop + Send,
-    R: Wait + Threads + Net<Listener = TcpListener, Stream = TcpStream> + Clock + Eprint + Sync,
-    F: ReadFiles,
-    W: Write,
->(
-    rt: &R,
-    alloc: Global,
-    files: &F,
-    disk: H,
-    folder: &str,
-    rules: &Rules,
-    beside: Option<&TcpListener>,
-    serving: Serving<'_>,
-    out: &mut W,
-) -> Result<Vec<u64>, Fault>
-    requires { H.sound disk ≡ true }
-    ensures ok { OnOk result (TellsPort (W.contents out.old) (W.contents out.new)) }
-    ensures workers { IfOk result (λ counts. vec_len counts ≡ serving.entry.workers) }
-    ensures served { IfOk result (λ counts. All (λ n. n ≡ serving.entry.requests) counts.items) }
-    ensures err { IfErr result (λ fault. IsKeepingFault folder.now serving.entry
-        (W.contents out.old) (W.contents out.new) fault) }
-{
-    let FoundData { disk, found } = read_beside(rt, alloc, files, disk, folder, beside)?;
+    let at = DataPath { path: folder };
     serve_found::<Brand, H, R, F, W>(
-        rt, alloc, files, disk, found, folder, rules, beside, serving, out,
+        rt, alloc, files, disk, found, at, rules, beside, serving, out,
     )
 }
 
@@ -527,8 +546,11 @@ pub(crate) fn serve_data<
         return Err(cannot_write(alloc, folder));
     };
     let lock = lock_data(alloc, host, folder)?;
+    let found = read_beside(rt, alloc, files, folder, beside)?;
     let disk = HostFolder::new(host, alloc, folder);
-    let counts = serve_folder(rt, alloc, files, disk, folder, rules, beside, serving, out)?;
+    let counts = serve_folder(
+        rt, alloc, files, disk, found, folder, rules, beside, serving, out,
+    )?;
     drop(lock);
     Ok(counts)
 }

@@ -11,14 +11,15 @@ ghost use Rattle.commands.specs.Listing.{empty_batch_line, deletion_start};
 ghost use Rattle.commands.specs.Listing.{deletion_end, deletion_line, cut_line};
 ghost use Rattle.commands.specs.Faults.{read_fault};
 ghost use Rattle.commands.specs.Listing.{AreLines, summary_line, IsListed, IsListFault, IsFileAt};
-ghost use Rattle.commands.specs.Listing.{head_line, saved_samples, IsListing, IsListingFault};
+ghost use Rattle.commands.specs.Listing.{head_start, head_end, head_line, saved_samples};
+ghost use Rattle.commands.specs.Listing.{IsListing, IsListingFault};
 ghost use Rattle.commands.specs.Listing.{IsUnreadFile, IsUnreadJournal};
 ghost use Rattle.commands.specs.Reading.{AreFirstBytes};
 ghost use Rattle.commands.specs.Selecting.{KeepsAt};
 
-use crate::locking::path_in;
 use crate::fault::{Fault, Refusal};
 use crate::files::{ReadError, ReadFiles};
+use crate::locking::path_in;
 use crate::sending::send;
 use head::{Event, EventView};
 use head_record::HeadRecord;
@@ -305,14 +306,28 @@ fn sample_count(head: &HeadRecord) -> u64
     count
 }
 
-/// The line of a head: its floor, how many blocks it names, how many series it has, and how many
-/// samples these have.
-fn head_line(alloc: Global, head: &HeadRecord) -> Result<String, AllocError>
-    ensures { IfOk result (λ line. string_bytes line ≡ head_line head.now) }
+/// The floor of a head and how many blocks it names, as the start of its line.
+fn head_start(alloc: Global, floor: i64, blocks: usize) -> Result<String, AllocError>
+    ensures { IfOk result (λ start. string_bytes start ≡ head_start floor blocks) }
 {
-    let (floor, blocks) = (head.floor(), head.places().len());
-    let (series, samples) = (head.series().len(), sample_count(head));
-    format!(in alloc; "head: floor {floor}, {blocks} blocks, {series} series, {samples} samples\n")
+    format!(in alloc; "head: floor {floor}, {blocks} blocks, ")
+}
+
+/// How many series a head has, and how many samples these have, as the end of its line.
+fn head_end(alloc: Global, series: usize, samples: u64) -> Result<String, AllocError>
+    ensures { IfOk result (λ end. string_bytes end ≡ head_end series samples) }
+{
+    format!(in alloc; "{series} series, {samples} samples\n")
+}
+
+/// Appends the line of a head.
+fn append_head(alloc: Global, out: &mut Vec<u8>, head: &HeadRecord) -> Result<(), AllocError>
+    ensures { OnOk result (out.new.items ≡ out.old.items ++ head_line head.now) }
+{
+    let start = head_start(alloc, head.floor(), head.places().len())?;
+    let end = head_end(alloc, head.series().len(), sample_count(head))?;
+    out.extend_from_slice(start.as_bytes())?;
+    out.extend_from_slice(end.as_bytes())
 }
 
 /// The lines of the events of a journal, and the line that sums it up.
@@ -355,8 +370,7 @@ fn listing_of(alloc: Global, file: &[u8]) -> Result<Vec<u8>, Fault>
         return Ok(text);
     }
     let found = read_journal(alloc, file).map_err(not_read)?;
-    let first = head_line(alloc, &found.head)?;
-    text.extend_from_slice(first.as_bytes())?;
+    append_head(alloc, &mut text, &found.head)?;
     append_events(alloc, &mut text, &found, file.len())?;
     Ok(text)
 }
