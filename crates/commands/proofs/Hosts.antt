@@ -6,7 +6,6 @@ use Rattle.head.specs.Blocks.{part_in}
 use Rattle.head.specs.Heads.{BlockPart}
 use Rattle.head_record.specs.Saved.{Place}
 use Rattle.store_folder.specs.Blocks.{named_files}
-use Rattle.store_folder.specs.Finding.{IsFoundStore}
 use Rattle.store_folder.specs.Holding.{AreAt}
 use Rattle.store_folder.specs.declared.reading.FoundStore.{FoundStore}
 use Rattle.commands.specs.Keeping.{HasFound}

@@ -220,11 +220,13 @@ summed_up file saved events len lines front text is counted each head made =
       saved,
       events,
       is,
-      rest,
-      record {
-        lines = lines;
-        each = each;
-        is = ap (λ (n : ℕ). lines ++ summary_line (length events) n (length file)) counted;
-      },
-      made ∙ ap (λ (f : List ℕ). f ++ rest) head,
+      (
+        rest,
+        record {
+          lines = lines;
+          each = each;
+          is = ap (λ (n : ℕ). lines ++ summary_line (length events) n (length file)) counted;
+        },
+        made ∙ ap (λ (f : List ℕ). f ++ rest) head,
+      ),
     )
