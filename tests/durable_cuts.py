@@ -119,7 +119,7 @@ def kept(looks, querier, work):
     before = read(f"{folder}/journal")
     server = Server(querier, "--data", folder)
     server.wait()
-    looks.at("kept: a start without --cut-every", recovered(len(out.splitlines()) - 1), server.first_told())
+    looks.at("kept: a start without --cut-every", recovered(len(out.splitlines()) - 2), server.first_told())
     wait_for(looks, "kept: what it says", server, world)
     looks.at("kept: a late sample is no reason to cut", OK, server.tell(up((10**6, 1))))
     world.apply(up((10**6, 1)))

@@ -5,8 +5,8 @@ import os
 import random
 
 from durable_house import (
-    LEAST, MOST, OK, Batch, Cut, Deletion, Looks, Server, checksum, differences, equals, journal, read, record, recovered,
-    run, short, text_of, tree, uvarint, varint, world_of,
+    LEAST, MOST, NEW, NOTHING, OK, Batch, Cut, Deletion, Head, Looks, Server, checksum, differences, equals, journal, read,
+    record, recovered, run, short, text_of, tree, uvarint, varint, world_of,
 )
 
 
@@ -59,8 +59,8 @@ def written(looks, querier, folder, events):
 
 
 def ends_of(events):
-    """Where the header and each record end."""
-    ends = [5]
+    """Where the head and each record of an event end."""
+    ends = [len(NEW)]
     for event in events:
         ends.append(ends[-1] + len(record(event.text())))
     return ends
@@ -87,7 +87,7 @@ class Journals:
         if isinstance(wanted, int):
             whole = self.ends[wanted]
             last = f"{wanted} events, {whole} bytes, {len(data) - whole} bytes of a torn record"
-            wanted = 0, "".join(f"{line}\n" for line in [*self.lines[:wanted], last]), ""
+            wanted = 0, "".join(f"{line}\n" for line in [Head().line(), *self.lines[:wanted], last]), ""
         else:
             wanted = 1, "", f"refused {wanted}\n"
         return None if (status, out, err) == wanted else f"{what}: wanted {short(wanted)}, got {short((status, out, err))}"
@@ -109,9 +109,10 @@ def cut_short(data, ends, most=4096):
 
 
 def front_of(ends, length):
+    """How many events a journal of this length has, or how it is refused."""
     if length < 5:
         return "J1 at 0" if length < 4 else "J2 at 4"
-    return sum(end <= length for end in ends) - 1
+    return sum(end <= length for end in ends) - 1 if length >= ends[0] else "J8 at 0"
 
 
 def changed(data, ends):
@@ -122,10 +123,11 @@ def changed(data, ends):
             if at < 5:
                 wanted = "J1 at 0" if at < 4 else "J2 at 4"
             else:
-                n = sum(end <= at for end in ends) - 1
-                begin = ends[n]
-                is_last = n == len(ends) - 2
-                wanted = f"J4 at {begin}" if at < begin + 8 else n if is_last else f"J3 at {begin}"
+                begins = [5, *ends]
+                n = sum(end <= at for end in begins) - 1
+                begin = begins[n]
+                is_last = n == len(begins) - 2
+                wanted = f"J4 at {begin}" if at < begin + 8 else n - 1 if is_last else f"J3 at {begin}"
             yield f"byte {at} xor {bits}", other, wanted
 
 
@@ -181,6 +183,41 @@ def no_events():
     yield "a name that is none", b"\x02\x01\x00" + text_of("1a") + text_of("b") + varint(1) + varint(2), "J14"
 
 
+def no_heads():
+    """First contents that are no head, and their refusals: the code, and behind how many contents."""
+    floor, one = varint(LEAST), texts([("a", "b")])
+    sample = varint(5) + varint(6)
+    series = b"\x11" + one + sample + b"\x01" + sample
+    yield "a series alone", [series], "J8 at 0"
+    yield "no such kind first", [b"\x12"], "J8 at 0"
+    yield "a head of one byte", [b"\x10"], "J9 at 0"
+    yield "a head that ends in its places", [b"\x10" + floor + b"\x02\x01\x00"], "J9 at 0"
+    yield "a head without a count of series", [b"\x10" + floor + b"\x00"], "J9 at 0"
+    yield "a byte behind a head", [b"\x10" + floor + b"\x00\x00\x00"], "J13 at 0"
+    yield "a head of one series, which is missing", [b"\x10" + floor + b"\x00\x01"], "J8 at 1"
+    yield "an event in the place of a series", [b"\x10" + floor + b"\x00\x01", Cut(5).text()], "J8 at 1"
+    yield "a series that is cut short", [b"\x10" + floor + b"\x00\x02", series, series[:-1]], "J9 at 2"
+    yield "a series of no label set", [b"\x10" + floor + b"\x00\x01", b"\x11" + texts([("1a", "b")]) + sample + b"\x00"], "J10 at 1"
+    yield "a byte behind a series", [b"\x10" + floor + b"\x00\x01", series + b"\x00"], "J13 at 1"
+    yield "a head behind a head", [*NOTHING, *NOTHING], "J8 at 0"
+    yield "a series too many", [b"\x10" + floor + b"\x00\x01", series, series], "J8 at 0"
+
+
+def unsound():
+    """Heads that no snapshot has."""
+    floor, one = varint(10), texts([("a", "b")])
+
+    def series(*samples, newest=(20, 1), labels=one):
+        return b"\x11" + labels + b"".join(map(varint, newest)) + uvarint(len(samples)) + b"".join(
+            varint(time) + varint(value) for time, value in samples)
+
+    yield "a floor that is no time", [b"\x10" + varint(2**62) + b"\x00\x00"]
+    yield "a sample below the floor", [b"\x10" + floor + b"\x00\x01", series((9, 1))]
+    yield "a sample above the newest", [b"\x10" + floor + b"\x00\x01", series((21, 1))]
+    yield "samples that do not ascend", [b"\x10" + floor + b"\x00\x01", series((12, 1), (12, 2))]
+    yield "a label set twice", [b"\x10" + floor + b"\x00\x02", series((12, 1)), series((13, 1))]
+
+
 def replayed():
     """Events that the store refuses after those of the small journal."""
     yield "a sample below the floor", Batch([(up("new"), [(24, 1)])])
@@ -211,8 +248,12 @@ class Served:
             return
         torn = len(data) - whole
         looks.at(f"{what}: what it says", recovered(count, torn), server.first_told(), tell=False)
-        looks.that(f"{what}: the torn end is cut off", read(f"{folder}/journal") == data[:whole], tell=False)
         world = world_of(events)
+        left = data[:whole]
+        if any(isinstance(event, Cut) for event in events):
+            # the start began the journal anew
+            left = journal([], Head.of(world, range(1, 1 + len(world.blocks))).contents())
+        looks.that(f"{what}: the torn end is cut off, and nothing else", read(f"{folder}/journal") == left, tell=False)
         more = Batch([(up("more"), [(2**61, count)])])
         for again in (False, True):
             parts, rows = server.select()
@@ -251,6 +292,8 @@ def damage(querier, work, seed):
     journals.look_at("contents that are no events", [
         (what, journal([*(event.text() for event in few), content, few[-1].text()]), f"{code} at {at}")
         for what, content, code in no_events()])
+    journals.look_at("first contents that are no head", [
+        (what, journal([], contents), code) for what, contents, code in no_heads()])
     large_ones = list(cut_short(large, of_many))
     Journals(looks, querier, work, many).look_at(f"the last {len(large_ones) - 1} bytes cut off, one after another", large_ones)
 
@@ -260,7 +303,7 @@ def damage(querier, work, seed):
             served.front(what, data, wanted, of_few[wanted])
         else:
             served.refused(what, data, wanted)
-    for length in [0, 3, 4, *range(5, 19), *chance.sample(range(20, len(small)), 10), *of_few]:
+    for length in [0, 3, 4, *range(5, len(NEW) + 14), *chance.sample(range(50, len(small)), 10), *of_few]:
         wanted = front_of(of_few, length)
         if isinstance(wanted, int):
             served.front(f"cut to {length}", small[:length], wanted, of_few[wanted])
@@ -268,8 +311,13 @@ def damage(querier, work, seed):
             served.refused(f"cut to {length}", small[:length], wanted)
     for what, content, code in no_events():
         served.refused(what, journal([*(event.text() for event in few), content]), f"{code} at {at}")
+    for what, contents, code in no_heads():
+        served.refused(what, journal([few[0].text()], contents), code)
+    for what, contents in unsound():
+        served.refused(what, journal([few[0].text()], contents), "J17 at 0")
     for what, event in replayed():
         served.refused(what, journal([one.text() for one in [*few, event]]), f"J18 at {at}")
+        served.refused(f"{what}, of before", journal([one.text() for one in [*few, event]], ()), f"J18 at {at}")
     looks.say(f"{served.count} starts over them")
     served = Served(looks, querier, f"{work}/many", many)
     for length in [*chance.sample(range(len(large) - 4096, len(large)), 12), len(large)]:

@@ -1,7 +1,9 @@
 """Events of each kind at their bounds: what is acknowledged is in the journal byte for byte, and a start says the same."""
+import os
+
 from durable_house import (
-    LEAST, MOST, OK, OPERATORS, Batch, Cut, Deletion, Looks, Server, World, differences, equals, journal, read,
-    recovered, refused,
+    LEAST, MOST, OK, OPERATORS, Batch, Cut, Deletion, Head, Looks, Server, World, differences, equals, journal, read,
+    recovered, refused, rolled,
 )
 
 # patterns that are dear to build, or odd; each is accepted or refused, and what is accepted is read again
@@ -68,7 +70,9 @@ def kept(looks, querier, folder, events, what):
     looks.that(f"{what}: the journal", read(f"{folder}/journal") == journal([event.text() for event in events]))
     server = Server(querier, "--data", folder)
     if looks.that(f"{what}: it starts again", server.wait(), server.told):
-        looks.at(f"{what}: what it says", recovered(len(events)), server.first_told())
+        head = Head.of(world, range(1, 1 + len(world.blocks)))
+        looks.at(f"{what}: what it says", [recovered(len(events)), rolled(folder, head)], server.first_lines(2))
+        looks.that(f"{what}: the journal that was begun anew", read(f"{folder}/journal") == journal([], head.contents()))
         compare(looks, f"{what}, again", server, world)
     return server, world
 
@@ -85,16 +89,19 @@ def blocks(looks, querier, work):
     deletion = Deletion([equals("suite", "durable")], 625, MOST)
     looks.at("a deletion of the head", OK, server.tell(deletion))
     looks.at("a cut of nothing", OK, server.tell(Cut(10**6)))
+    head = Head.of(world, range(1, 64)).contents()
+    looks.that("63 blocks: the journal has no event that was refused",
+               read(f"{folder}/journal") == journal([event.text() for event in (deletion, Cut(10**6))], head))
     world.apply(deletion).apply(Cut(10**6))
     server.end()
     server = Server(querier, "--data", folder)
     if looks.that("63 blocks: a third start", server.wait(), server.told):
+        head = Head.of(world, range(64, 127))
+        looks.at("63 blocks: what a third start says", [recovered(2, blocks=63), rolled(folder, head)], server.first_lines(2))
         compare(looks, "63 blocks, a third time", server, world)
         looks.at("a cut at the floor", refused("E5"), server.tell(Cut(10**6)))
+        looks.at("63 blocks: their folders", {str(n) for n in range(64, 127)}, set(os.listdir(f"{folder}/blocks")))
     server.end()
-    events += [deletion, Cut(10**6)]
-    looks.that("63 blocks: the journal has no event that was refused",
-               read(f"{folder}/journal") == journal([event.text() for event in events]))
 
 
 def patterns(looks, querier, work):

@@ -35,6 +35,11 @@ def session():
     ]
 
 
+def is_cannot(server):
+    """Whether the last that it told is what it cannot do."""
+    return bool(server.told_err) and server.told_err[-1].startswith("cannot ")
+
+
 class Faults:
     def __init__(self, looks, querier, preload, work):
         self.looks, self.querier, self.preload, self.work, self.count = looks, querier, preload, work, 0
@@ -89,7 +94,7 @@ class Faults:
         if not server.wait():
             status = server.ended()
             self.looks.at(f"{what}: the status of a start", 3, status, tell=False)
-            self.looks.that(f"{what}: what a start says", server.told.startswith("cannot "), server.told, tell=False)
+            self.looks.that(f"{what}: what a start says", is_cannot(server), server.told, tell=False)
             failed = self.counts(folder)[3]
             self.again(what, folder, [world])
             return None, failed
@@ -189,25 +194,26 @@ def failing_starts(faults, looks):
     with open(f"{base}/journal", "ab") as file:
         file.write(b"\x00\x00\x00")
     for kind in ("WRITE", "SYNC", "CUT"):
-        ended = 0
-        for n in range(1, 20):
+        ended, not_rolled = 0, 0
+        for n in range(1, 200):
             folder = faults.folder()
             shutil.copytree(base, folder)
             server = faults.start(folder, **{f"FAIL_{kind}": f"{n},1"})
             listens, what = server.wait(), f"{kind.lower()} {n} of a start fails"
             failed = faults.counts(folder)[3]
             if listens:
-                # a fault that hinders nothing, or none
+                # a fault that hinders nothing, or the roll of the journal
+                not_rolled += any(line.startswith("did not roll ") for line in server.first_lines(2))
                 faults.says(what, server, world)
                 server.end()
             else:
                 ended += 1
                 looks.at(f"{what}: the status", 3, server.ended(), tell=False)
-                looks.that(f"{what}: what it says", server.told.startswith("cannot "), server.told, tell=False)
+                looks.that(f"{what}: what it says", is_cannot(server), server.told, tell=False)
             faults.again(what, folder, [faults.replay(session())])
             if not failed:
                 break
-        looks.say(f"{ended} starts ended, of which each {kind.lower()} failed in turn")
+        looks.say(f"each {kind.lower()} of a start failed in turn: {ended} starts ended, {not_rolled} did not roll")
 
 
 def several(faults, looks):

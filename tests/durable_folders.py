@@ -5,7 +5,7 @@ import os
 import signal
 
 from durable_house import (
-    OK, Batch, Cut, Deletion, HEADER, Looks, Server, World, equals, journal, read, recovered, run, tree,
+    NEW, OK, Batch, Cut, Deletion, Looks, Server, World, equals, journal, read, recovered, run, tree,
 )
 
 
@@ -18,7 +18,7 @@ def one_server(looks, querier, work):
     server = Server(querier, "--data", folder)
     looks.that("a folder that is not there is made", server.wait() and os.path.isdir(folder), server.told)
     looks.at("what a start in a new folder says", f"began {folder}/journal", server.first_told())
-    looks.at("a new journal", HEADER, read(f"{folder}/journal"))
+    looks.at("a new journal", NEW, read(f"{folder}/journal"))
     looks.at("a write", OK, server.tell(up((1, 1))))
     held = tree(folder)
     other = Server(querier, "--data", folder)
@@ -26,7 +26,8 @@ def one_server(looks, querier, work):
     looks.at("a second server", (3, f"cannot lock {folder}: process {server.process.pid} has it"), (other.end(), other.told))
     looks.at("what the second one changed", held, tree(folder))
     status, out, _ = run([querier, "journal", folder])
-    looks.at("journal beside a server", (0, "1 batch 1 samples of 1 series, 1 to 1"), (status, out.splitlines()[0]))
+    looks.at("journal beside a server", (0, ["head: floor -4611686018427387904, 0 blocks, 0 series, 0 samples",
+                                             "1 batch 1 samples of 1 series, 1 to 1"]), (status, out.splitlines()[:2]))
     looks.at("the first one goes on", OK, server.tell(up((2, 2))))
     with open(f"{folder}/lock", "wb"):
         pass
@@ -71,7 +72,7 @@ def new_folders(looks, querier, work):
         make(folder)
         server = Server(querier, "--data", folder)
         if looks.that(what, server.wait(), server.told):
-            looks.at(f"{what}: a new journal", HEADER, read(f"{folder}/journal"))
+            looks.at(f"{what}: a new journal", NEW, read(f"{folder}/journal"))
             looks.at(f"{what}: a write", OK, server.tell(up((1, 1))))
         server.end()
         looks.at(f"{what}: the journal", journal([up((1, 1)).text()]), read(f"{folder}/journal"))
@@ -109,6 +110,8 @@ def refused_folders(looks, querier, work, blocks):
         ("the version of a character", sound[:4] + b"1" + sound[5:], "J2 at 4"),
         ("a journal of no byte", b"", "J1 at 0"),
         ("a journal of four bytes", b"FZLJ", "J2 at 4"),
+        ("a journal of no record", sound[:5], "J8 at 0"),
+        ("a journal whose head is cut short", sound[:20], "J8 at 0"),
         ("a text", b"hello\n", "J1 at 0"),
         ("zeros", bytes(4096), "J1 at 0"),
     ]:
@@ -144,6 +147,11 @@ def refused_folders(looks, querier, work, blocks):
         server.wait()
         looks.at(f"blocks beside --data ({' '.join(words)[-40:]})", (2, True, False),
                  (server.end(), "Usage:" in server.told, os.path.exists(folder)))
+    for word in ("0", "-1", "1048577", "x", "1.5", ""):
+        server = Server(querier, "--data", folder, "--journal-mb", word)
+        server.wait()
+        looks.at(f"--journal-mb {word!r}", (2, True, False),
+                 (server.end(), "error: " in server.told, os.path.exists(folder)))
     status, _, told = run([querier, "journal", f"{work}/none"])
     looks.at("journal of what is not there", (3, f"cannot read {work}/none\n"), (status, told))
     status, _, told = run([querier, "journal"])
@@ -219,16 +227,16 @@ def calls(looks, querier, preload, work):
         server = Server(querier, "--workers", "1", "--data", folder, env={"LD_PRELOAD": preload, "FOLDER": folder, "TRACE": trace})
         looks.that(f"{start}: it listens", server.wait(), server.told)
         before = lines_of(trace)
-        wanted = ["lock lock", "sync journal", "read journal", "cut journal", "sync journal"]
+        wanted = ["lock lock", "sync journal", "sync .", "read journal", "cut journal", "sync journal"]
         if start == "a first start":
-            wanted = ["make .", "sync ..", "lock lock", "write journal.next", "sync journal.next", "rename journal", "sync .",
-                      *wanted[1:]]
+            wanted = ["make .", "sync ..", "lock lock", "write journal.next", "sync journal.next", "sync .", "rename journal",
+                      "sync ."]
         looks.that(f"{start}: its calls", is_within(wanted, before), before)
         looks.that(f"{start}: the folder and the one above are synced", {"sync .", "sync .."} <= set(before), before)
         touched = [line for line in before if line.split()[0] != "remove" and "journal" in line]
         looks.that(f"{start}: nothing before the lock", before.index("lock lock") < before.index(touched[0]), before)
-        looks.at(f"{start}: how the journal is opened", ["open journal rw append"],
-                 [line for line in before if line.startswith("open journal ")])
+        opened = ["open journal r"] if start == "a first start" else ["open journal r", "open journal w append"]
+        looks.at(f"{start}: how the journal is opened", opened, [line for line in before if line.startswith("open journal ")])
         refused = [up((0, 5)), Cut(0)] if start == "a second start" else []
         for event in refused:
             looks.at(f"{start}: {event.line()}", 409, server.tell(event)[0])
@@ -236,7 +244,8 @@ def calls(looks, querier, preload, work):
         for event in events:
             before = lines_of(trace)
             looks.at(f"{start}: {event.line()}", OK, server.tell(event))
-            looks.at(f"{start}: its calls", ["write journal", "sync journal", "reply"], short_of(lines_of(trace)[len(before):]))
+            lines = [line for line in lines_of(trace)[len(before):] if line != "open journal w append"]
+            looks.at(f"{start}: its calls", ["write journal", "sync journal", "reply"], short_of(lines))
         before = lines_of(trace)
         server.select()
         looks.at(f"{start}: calls of a query", ["reply"], short_of(lines_of(trace)[len(before):]))

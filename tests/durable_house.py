@@ -66,8 +66,16 @@ def record(content):
 HEADER = b"FZLJ\x01"
 
 
-def journal(contents):
-    return HEADER + b"".join(map(record, contents))
+# the head of a store that has nothing: its floor, no blocks and no series
+NOTHING = (b"\x10" + varint(LEAST) + b"\x00\x00",)
+
+
+def journal(contents, head=NOTHING):
+    """A journal of these events behind a head; `head=()` is the form of before, which had none."""
+    return HEADER + b"".join(map(record, [*head, *contents]))
+
+
+NEW = journal([])
 
 
 def contents_of(data):
@@ -83,6 +91,92 @@ def contents_of(data):
         contents.append(content[:length])
         at += length + 12
     return contents, at
+
+
+class Reader:
+    """The fields of a content."""
+
+    def __init__(self, data):
+        self.data, self.at = data, 0
+
+    def byte(self):
+        self.at += 1
+        return self.data[self.at - 1]
+
+    def uvarint(self):
+        number = shift = 0
+        while True:
+            byte = self.byte()
+            number |= (byte & 127) << shift
+            shift += 7
+            if byte < 128:
+                return number
+
+    def varint(self):
+        number = self.uvarint()
+        return (number >> 1) ^ -(number & 1)
+
+    def text(self):
+        length = self.uvarint()
+        self.at += length
+        return self.data[self.at - length : self.at].decode()
+
+    def labels(self):
+        return tuple((self.text(), self.text()) for _ in range(self.uvarint()))
+
+    def sample(self):
+        return self.varint(), self.varint()
+
+
+class Head:
+    """What a journal begins with: a floor, the numbers of the folders of blocks, and series of label set, newest sample and
+    samples by their times."""
+
+    def __init__(self, floor=LEAST, numbers=(), series=()):
+        self.floor, self.numbers, self.series = floor, list(numbers), list(series)
+
+    def __eq__(self, other):
+        return isinstance(other, Head) and self.contents() == other.contents()
+
+    @staticmethod
+    def of(world, numbers):
+        """The head that a roll writes."""
+        return Head(world.floor, numbers, [
+            (labels, last, sorted(world.head.get(labels, {}).items())) for labels, last in world.newest.items()])
+
+    @staticmethod
+    def read(contents):
+        """The head that the first contents of a journal are, and the others; or None and all of them."""
+        if not contents or contents[0][0] != 16:
+            return None, contents
+        first = Reader(contents[0][1:])
+        floor, numbers = first.varint(), []
+        for _ in range(first.uvarint()):
+            numbers.append(first.uvarint())
+            assert first.uvarint() == 0, "an edition of deletions"
+        count, series = first.uvarint(), []
+        for content in contents[1 : 1 + count]:
+            fields = Reader(content)
+            assert fields.byte() == 17
+            labels, newest = fields.labels(), fields.sample()
+            series.append((labels, newest, [fields.sample() for _ in range(fields.uvarint())]))
+            assert fields.at == len(content)
+        assert len(series) == count
+        return Head(floor, numbers, series), contents[1 + count :]
+
+    def contents(self):
+        texts = [b"\x10" + varint(self.floor) + uvarint(len(self.numbers))
+                 + b"".join(uvarint(number) + uvarint(0) for number in self.numbers) + uvarint(len(self.series))]
+        for labels, newest, samples in self.series:
+            text = b"\x11" + uvarint(len(labels)) + b"".join(text_of(name) + text_of(value) for name, value in labels)
+            text += b"".join(varint(number) for number in newest) + uvarint(len(samples))
+            texts.append(text + b"".join(varint(time) + varint(value) for time, value in samples))
+        return texts
+
+    def line(self):
+        """What `querier journal` says of it."""
+        samples = sum(len(samples) for _, _, samples in self.series)
+        return f"head: floor {self.floor}, {len(self.numbers)} blocks, {len(self.series)} series, {samples} samples"
 
 
 class Batch:
@@ -324,13 +418,16 @@ class Server:
     def told(self):
         return "\n".join(self.told_err)
 
-    def first_told(self):
-        """Its first line on standard error, for which it has two seconds."""
+    def first_lines(self, count):
+        """Its first lines on standard error, for which it has two seconds."""
         for _ in range(200):
-            if self.told_err:
-                return self.told_err[0]
+            if len(self.told_err) >= count:
+                break
             time.sleep(0.01)
-        return ""
+        return self.told_err[:count]
+
+    def first_told(self):
+        return "".join(self.first_lines(1))
 
     def end(self, how=signal.SIGKILL):
         """Kills it if it runs, and says its exit status."""
@@ -378,10 +475,17 @@ class Server:
         return [rows_in(part["rows"]) for part in reply["parts"]], rows_in(reply["rows"])
 
 
-def recovered(count, torn=0):
-    """What a start says."""
+def recovered(count, torn=0, blocks=0):
+    """What a start says first."""
+    over = f"{blocks} block{'' if blocks == 1 else 's'}, " if blocks else ""
     cut = f", {torn} bytes of a torn record cut off" if torn else ""
-    return f"recovered {count} event{'' if count == 1 else 's'}{cut}"
+    return f"recovered {over}{count} event{'' if count == 1 else 's'}{cut}"
+
+
+def rolled(folder, head):
+    """What a start says that began the journal anew with this head."""
+    blocks = len(head.numbers)
+    return f"rolled {folder}/journal: {blocks} block{'' if blocks == 1 else 's'}, {len(head.series)} series"
 
 
 def kill_all():

@@ -9,8 +9,8 @@ import threading
 import time
 
 from durable_house import (
-    LEAST, MOST, OK, Batch, Cut, Deletion, Looks, Lost, Server, World, contents_of, differences, equals, read, recovered,
-    refused, run,
+    LEAST, MOST, OK, Batch, Cut, Deletion, Head, Looks, Lost, Server, World, contents_of, differences, equals, read, recovered,
+    refused, rolled, run,
 )
 
 CLIENTS = 4
@@ -126,6 +126,8 @@ class Store:
         self.looks, self.querier, self.preload, self.folder = looks, querier, preload, folder
         self.random = random.Random(f"{seed} the store")
         self.world, self.contents, self.kept, self.starts, self.took = World(), [], 0, 0, 0.1
+        # the head of the journal, if there is one, and how often it was begun anew
+        self.head, self.rolls = None, 0
         self.clients = [Client(number, seed) for number in range(CLIENTS)]
         # it writes a sample at the begin of each round, so that each cut makes a block
         self.main = Main()
@@ -155,15 +157,29 @@ class Store:
         os.truncate(self.journal, left)
         return size - left
 
+    def found(self):
+        """The journal, and of it the head, the events, and how many bytes these take; or nothing."""
+        if not os.path.exists(self.journal):
+            return None, None, [], 0
+        data = read(self.journal)
+        contents, whole = contents_of(data)
+        return data, *Head.read(contents), whole
+
     def restart(self):
         """Starts it over what a crash left, sometimes with a crash while it starts; None if it does not start."""
         looks = self.looks
+        data, head, contents, whole = self.found()
+        looks.that("the head is the one of before", self.head in (None, head), tell=False)
+        self.listed(contents)
         if self.random.random() < 0.2:
             server = self.start()
             time.sleep(self.random.uniform(0, self.took * 1.2))
             self.crash(server, self.random.random() < 0.5)
-        data = read(self.journal) if os.path.exists(self.journal) else None
-        contents, whole = contents_of(data) if data is not None else ([], 5)
+            was = head, contents
+            data, head, contents, whole = self.found()
+            looks.that("a start that was killed leaves the events, or a new head", was[0] in (None, head) and contents == was[1]
+                       or head is not None and not contents, len(contents), tell=False)
+        self.contents = contents
         before = time.monotonic()
         server = self.start()
         listens = server.wait()
@@ -172,12 +188,25 @@ class Store:
             server.end()
             return None
         torn = len(data) - whole if data else 0
-        line = f"began {self.journal}" if data is None else recovered(len(contents), torn)
+        line = f"began {self.journal}" if data is None else recovered(len(contents), torn, len(head.numbers))
         looks.at("what it says", line, server.first_told(), tell=False)
-        if data is not None:
-            looks.that("the torn end is cut off, and nothing else", read(self.journal) == data[:whole], tell=False)
-        self.listed(contents)
+        left, self.head, self.contents, _ = self.found()
+        if any(content[0] == 3 for content in contents):
+            self.rolls += 1
+            looks.at("a journal with a cut is begun anew", rolled(self.folder, self.head), "".join(server.first_lines(2)[1:]), tell=False)
+            looks.at("its events", [], self.contents, tell=False)
+            self.checked()
+        elif data is not None:
+            looks.that("the torn end is cut off, and nothing else", left == data[:whole], tell=False)
         return server
+
+    def checked(self):
+        """Each folder of a block is named by the head, and holds a block."""
+        names = [f"{self.folder}/blocks/{number}" for number in self.head.numbers]
+        there = sorted(os.listdir(f"{self.folder}/blocks"), key=int)
+        self.looks.at("the folders of blocks", [str(number) for number in sorted(self.head.numbers)], there, tell=False)
+        status, out, err = run([self.querier, "check", *names])
+        self.looks.at("what check says of them", (0, len(names), ""), (status, out.count(": ok "), err), tell=False)
 
     def listed(self, contents):
         """Each event that was acknowledged has one record, those of a client in their order; and of each client at most the
@@ -201,8 +230,7 @@ class Store:
         lost = sum(map(len, waiting))
         looks.that("records of what was acknowledged", not lost, f"{lost} are missing", tell=False)
         looks.that("records of what nobody sent, or of what was refused", not strange, f"{strange}", tell=False)
-        self.found = [client.flying is not None and one is None for client, one in zip(writers, flying)]
-        self.contents = contents
+        self.seen = [client.flying is not None and one is None for client, one in zip(writers, flying)]
         self.events = len(contents)
 
     def settle(self, server):
@@ -210,7 +238,7 @@ class Store:
         looks, world = self.looks, self.world
         parts, rows = server.select()
         here, cuts = 0, 0
-        for client, recorded in zip(self.clients, self.found):
+        for client, recorded in zip(self.clients, self.seen):
             event, client.flying = client.flying, None
             if isinstance(event, Cut):
                 probe = Batch([({"__name__": "probe"}, [(event.at - 1, 1), (event.at - 1, 2)])])
@@ -297,7 +325,7 @@ class Store:
     def journal_lines(self, events):
         """What `querier journal` says."""
         status, out, err = run([self.querier, "journal", self.folder])
-        lines = [f"{n + 1} {event.line()}" for n, event in enumerate(events)]
+        lines = [self.head.line(), *(f"{n + 1} {event.line()}" for n, event in enumerate(events))]
         lines.append(f"{len(events)} events, {os.path.getsize(self.journal)} bytes, 0 bytes of a torn record")
         self.looks.at("what journal says", (0, lines, ""), (status, out.splitlines(), err), tell=False)
 
@@ -358,7 +386,7 @@ def rounds(querier, preload, work, count, seed):
         store.probe(server)
         looks.say(
             f"{number}: {told} events acknowledged in {seconds:.2f} s and {flying} under way, of which {here} are there; "
-            f"{store.events} events, {len(store.world.blocks)} blocks"
+            f"{store.events} events, {len(store.world.blocks)} blocks, {store.rolls} rolls"
             + (f"; the power cut took {lost} bytes" if lost else "") + ("" if looks.failed == failed else "; NOT AS WANTED"))
         if looks.failed > failed:
             break

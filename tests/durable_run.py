@@ -4,6 +4,7 @@ import random
 import sys
 
 sys.dont_write_bytecode = True
+from durable_blocks import blocks  # noqa: E402
 from durable_cuts import cuts  # noqa: E402
 from durable_damage import damage  # noqa: E402
 from durable_events import events  # noqa: E402
@@ -27,6 +28,7 @@ def main():
         "folders": lambda: folders(querier, preload, within("folders"), [block]),
         "events": lambda: events(querier, within("events")),
         "cuts": lambda: cuts(querier, preload, within("cuts"), block),
+        "blocks": lambda: blocks(querier, preload, within("blocks")),
         "damage": lambda: damage(querier, within("damage"), seed),
         "faults": lambda: faults(querier, preload, within("faults")),
         "rounds": lambda: rounds(querier, preload, within("rounds"), count, seed),

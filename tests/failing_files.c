@@ -1,6 +1,8 @@
 /* Preloaded into a program, has calls on the files of a folder fail, FOLDER and what is below it. FAIL_WRITE, FAIL_SYNC
    (fsync and fdatasync) and FAIL_CUT (ftruncate) are two numbers, as 3,1: which such call is the first that fails,
    counted from 1 over all threads, and how many fail from there on (0: all). FAIL_WITH is the error's number (5, EIO).
+   KILL_AT is a number: the program is killed before its nth call that changes something in FOLDER (a file that is made or
+   emptied, a write, a sync, a cut, a folder that is made, a rename, a removal), or in the middle of it if it is a write.
    FAIL_PART has the first of the failing writes take so many bytes, and the next ones fail. FAIL_ROOM refuses, as a full
    disk does, what goes beyond so many bytes of a file, and takes what has room.
    KEPT is a file of five numbers of eight bytes: the length of FOLDER/journal up to which the last sync kept it, how
@@ -11,6 +13,7 @@
 #define _GNU_SOURCE
 #include <errno.h>
 #include <fcntl.h>
+#include <signal.h>
 #include <stdarg.h>
 #include <stdio.h>
 #include <stdlib.h>
@@ -30,7 +33,7 @@ static struct told {
 
 static const char *folder, *opened, *trace;
 static int error = EIO;
-static unsigned long first[CALLS], many[CALLS], part, room;
+static unsigned long first[CALLS], many[CALLS], part, room, kill_at, changes, next_kept;
 
 static unsigned long number(const char *name, unsigned long otherwise)
 {
@@ -50,6 +53,7 @@ __attribute__((constructor)) static void begin(void)
     error = (int)number("FAIL_WITH", EIO);
     part = number("FAIL_PART", 0);
     room = number("FAIL_ROOM", 0);
+    kill_at = number("KILL_AT", 0);
     folder = getenv("FOLDER");
     opened = getenv("OPENED");
     trace = getenv("TRACE");
@@ -109,13 +113,30 @@ static int is_inside(int fd, const char *what, char *path, size_t size)
     return 0;
 }
 
-static void tell(const char *what, const char *path, const char *how)
+/* Whether the program is to be killed at this call, which changes something. */
+static int is_over(void)
+{
+    return kill_at && __atomic_add_fetch(&changes, 1, __ATOMIC_RELAXED) == kill_at;
+}
+
+static void end(void)
+{
+    kill(getpid(), SIGKILL);
+    for (;;)
+        pause();
+}
+
+/* A call that may change something is told, if it does; the program may be killed before it. */
+static void tell(const char *what, const char *path, const char *how, int is_change)
 {
     char below[4096];
     if (opened && strcmp(how, "r"))
         add_line(opened, path, "", "");
-    if (is_below(path, below, sizeof below))
+    if (is_below(path, below, sizeof below)) {
         add_line(trace, what, below, how);
+        if (is_change && is_over())
+            end();
+    }
 }
 
 /* Whether this call, the nth of its kind, fails; so many bytes of it are to be taken else. */
@@ -141,6 +162,10 @@ ssize_t write(int fd, const void *bytes, size_t count)
     if (!is_inside(fd, "write", path, sizeof path)) {
         errno = before;
         return syscall(SYS_write, fd, bytes, count);
+    }
+    if (is_over()) {
+        syscall(SYS_write, fd, bytes, count / 2);
+        end();
     }
     if (fails(WRITE, &taken))
         return -1;
@@ -170,14 +195,16 @@ static int synced(int fd, long how)
         errno = before;
         return (int)syscall(how, fd);
     }
+    if (is_over())
+        end();
     if (fails(SYNC, &taken))
         return -1;
     struct stat now;
-    int is_journal = (!strcmp(path, "journal") || !strcmp(path, "journal.next")) && !fstat(fd, &now);
+    int is_next = !strcmp(path, "journal.next"), is_known = (is_next || !strcmp(path, "journal")) && !fstat(fd, &now);
     errno = before;
     int result = (int)syscall(how, fd);
-    if (!result && is_journal)
-        told->kept = (unsigned long)now.st_size;
+    if (!result && is_known)
+        *(is_next ? &next_kept : &told->kept) = (unsigned long)now.st_size;
     return result;
 }
 
@@ -196,8 +223,12 @@ int ftruncate(int fd, off_t length)
     char path[4096];
     unsigned long taken = 0;
     int before = errno;
-    if (is_inside(fd, "cut", path, sizeof path) && fails(CUT, &taken))
-        return -1;
+    if (is_inside(fd, "cut", path, sizeof path)) {
+        if (is_over())
+            end();
+        if (fails(CUT, &taken))
+            return -1;
+    }
     errno = before;
     return (int)syscall(SYS_ftruncate, fd, length);
 }
@@ -213,7 +244,7 @@ static int opens(int at, const char *path, int how, mode_t mode)
     char text[64];
     snprintf(text, sizeof text, "%s%s%s%s", hows[how & O_ACCMODE], how & O_APPEND ? " append" : "",
              how & O_CREAT ? " create" : "", how & O_TRUNC ? " empty" : "");
-    tell("open", path, text);
+    tell("open", path, text, (how & (O_CREAT | O_TRUNC)) != 0);
     return (int)syscall(SYS_openat, at, path, how, mode);
 }
 
@@ -255,20 +286,30 @@ int openat64(int at, const char *path, int how, ...)
 
 int mkdir(const char *path, mode_t mode)
 {
-    tell("make", path, "");
+    tell("make", path, "", 1);
     return (int)syscall(SYS_mkdirat, AT_FDCWD, path, mode);
 }
 
 int rename(const char *from, const char *to)
 {
-    tell("rename", to, "");
-    return (int)syscall(SYS_renameat2, AT_FDCWD, from, AT_FDCWD, to, 0);
+    char path[4096];
+    tell("rename", to, "", 1);
+    int result = (int)syscall(SYS_renameat2, AT_FDCWD, from, AT_FDCWD, to, 0);
+    if (!result && is_below(to, path, sizeof path) && !strcmp(path, "journal"))
+        told->kept = next_kept;
+    return result;
 }
 
 int unlink(const char *path)
 {
-    tell("remove", path, "");
+    tell("remove", path, "", 1);
     return (int)syscall(SYS_unlinkat, AT_FDCWD, path, 0);
+}
+
+int rmdir(const char *path)
+{
+    tell("remove", path, "", 1);
+    return (int)syscall(SYS_unlinkat, AT_FDCWD, path, AT_REMOVEDIR);
 }
 
 int flock(int fd, int how)

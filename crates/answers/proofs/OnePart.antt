@@ -24,9 +24,10 @@ use Rattle.block_search.specs.declared.answered.AnsweredPart.TheVariants.{Search
 use Rattle.block_search.proofs.Agreement.{all_agree}
 use Rattle.series_merge.specs.Merging.{laid_each, row_lists, merged_content}
 use Rattle.answers.specs.Audited.{selected_in}
-use Rattle.answers.specs.MergedRows.{first_rows, rows_by, has_rows, AreMergedFrom}
-use Rattle.answers.specs.declared.audited.MergedRows.{MergedRows}
-use Rattle.answers.specs.declared.audited.MergedRows.TheVariants.{OfOnePart, Merged}
+use Rattle.series_merge.specs.OnePart.{has_rows, AreMergedFrom}
+use Rattle.series_merge.specs.declared.one_part.MergedRows.{MergedRows}
+use Rattle.series_merge.specs.declared.one_part.MergedRows.TheVariants.{OfOnePart, Merged}
+use Rattle.answers.specs.MergedRows.{first_rows, rows_by}
 use Rattle.answers.proofs.MergedAnswers.{each_answers, merged_is_selected}
 
 -- the rows of the first answer that has any

@@ -1,13 +1,12 @@
 //! The answer of a snapshot to a query: what is told of each part, and the rows of all.
 
-ghost use Rattle.std.specs.Prelude.{◌≡◌, ◌≤◌, IfOk, OnOk, drop, filter, length};
+ghost use Rattle.std.specs.Prelude.{◌≡◌, ◌≤◌, IfOk, OnOk, drop, length};
 ghost use Rattle.labels.specs.Rows.{AreRows};
 ghost use Rattle.block_search.specs.Skipping.{LosesNothing};
 ghost use Rattle.block_search.specs.Answers.{AreAnswers};
 ghost use Rattle.block_search.specs.Answered.{AreAnsweredParts};
 ghost use Rattle.answers.specs.Audited.{selected_in};
-ghost use Rattle.answers.specs.MergedRows.{rows_told, first_rows, rows_of, AreMergedFrom};
-ghost use Rattle.answers.specs.MergedRows.{has_rows, HasRowsNext};
+ghost use Rattle.answers.specs.MergedRows.{rows_told, first_rows, rows_of, HasRowsNext};
 
 use block_search::{
     AnsweredPart, OpenGate, answered_parts, search, search_in_turn, search_one_by_one,
@@ -16,18 +15,9 @@ use cover::PartAnswer;
 use head::Snapshot;
 use labels::Row;
 use matchers::Query;
-use series_merge::merge;
+use series_merge::{MergedRows, merged_rows};
 use std::alloc::{AllocError, Global};
 use std::thread::Threads;
-
-/// The rows of all parts.
-#[derive(Drop)]
-pub(crate) enum MergedRows {
-    /// At most one part has rows: they are that part's, and are not kept a second time.
-    OfOnePart,
-    /// The rows of several parts, merged.
-    Merged(Vec<Row>),
-}
 
 /// What is told of each part, in the order of the parts, and the rows of all of them.
 #[derive(Drop)]
@@ -103,36 +93,6 @@ impl AuditedAnswer {
             MergedRows::Merged(_) => self.parts.len(),
         }
     }
-}
-
-fn has_rows(answer: &PartAnswer) -> bool
-    ensures { result ≡ has_rows answer.now }
-{
-    !answer.rows.as_slice().is_empty()
-}
-
-/// How many answers have rows.
-fn count_with_rows(answers: &[PartAnswer]) -> usize
-    ensures { result ≡ length (filter has_rows answers.now) }
-{
-    let mut count = 0;
-    for answer in answers {
-        if has_rows(answer) {
-            count += 1;
-        }
-    }
-    count
-}
-
-/// The rows of the answers of all parts. Those of one part alone are neither copied nor compared.
-fn merged_rows(alloc: Global, answers: &[PartAnswer]) -> Result<MergedRows, AllocError>
-    ensures { IfOk result (AreMergedFrom answers.now) }
-{
-    if count_with_rows(answers) <= 1 {
-        return Ok(MergedRows::OfOnePart);
-    }
-    let rows = merge(alloc, answers)?;
-    Ok(MergedRows::Merged(rows))
 }
 
 /// The audited answer of a snapshot, given the answers of the parts that are searched.

@@ -8,7 +8,7 @@ use Rattle.labels.specs.Contents.{Content, in_range}
 use Rattle.labels.specs.Rows.{Row, points_in, points_of}
 use Rattle.labels.specs.Parts.{laid_over, within}
 use Rattle.labels.proofs.Restricting.{kept, kept-laid_over, kept-points_in, kept-++}
-use Rattle.prometheus_block.specs.declared.keeping.Tally.{Tally}
+use Rattle.kept_samples.specs.declared.keeping.Tally.{Tally}
 use Rattle.index_reader.specs.Indexes.{Indexed}
 use Rattle.tombstones.specs.declared.deletion.Deletion.{Deletion}
 use Rattle.imported_values.specs.declared.policy.Policy.{Policy}

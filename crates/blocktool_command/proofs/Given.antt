@@ -7,7 +7,7 @@ use Rattle.std.proofs.Common.{Global}
 use Rattle.std.proofs.lemmas.Grind.{take_at_read}
 use Rattle.std.proofs.lemmas.List.{map-append}
 use Rattle.labels.specs.Rows.{Row}
-use Rattle.prometheus_block.specs.declared.keeping.Tally.{Tally}
+use Rattle.kept_samples.specs.declared.keeping.Tally.{Tally}
 use Rattle.block_folder.specs.Steps.{Did}
 use Rattle.block_outputs.specs.declared.tiles.Stretch.{Stretch}
 use Rattle.block_outputs.specs.Joined.{lists_in}

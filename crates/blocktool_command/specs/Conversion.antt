@@ -4,7 +4,7 @@ use Rattle.labels.specs.Contents.{Content}
 use Rattle.labels.specs.Rows.{Row, points_of}
 use Rattle.labels.specs.Parts.{laid_over}
 use Rattle.prometheus_block.specs.declared.chunk.Counted.{Counted}
-use Rattle.prometheus_block.specs.declared.keeping.Tally.{Tally}
+use Rattle.kept_samples.specs.declared.keeping.Tally.{Tally}
 use Rattle.block_folder.specs.Steps.{Did}
 use Rattle.block_outputs.specs.declared.tiles.Stretch.{Stretch}
 use Rattle.block_outputs.specs.Contents.{restricted, HoldAll}

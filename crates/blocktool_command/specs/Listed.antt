@@ -3,7 +3,7 @@ use Rattle.std.specs.Prelude.{◌≡◌, ◌+◌, List, []}
 use Rattle.labels.specs.Contents.{Content}
 use Rattle.labels.specs.Rows.{Row, points_of}
 use Rattle.labels.specs.Parts.{laid_over}
-use Rattle.prometheus_block.specs.declared.keeping.Tally.{Tally}
+use Rattle.kept_samples.specs.declared.keeping.Tally.{Tally}
 use Rattle.prometheus_block.specs.Rows.{rows_between}
 use Rattle.block_outputs.specs.declared.tiles.Stretch.{Stretch}
 use Rattle.block_outputs.specs.Contents.{restricted}

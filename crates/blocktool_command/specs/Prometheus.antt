@@ -5,7 +5,7 @@ use Rattle.labels.specs.Rows.{Row, points_of}
 use Rattle.index_reader.specs.Indexes.{Indexed}
 use Rattle.tombstones.specs.declared.deletion.Deletion.{Deletion}
 use Rattle.imported_values.specs.declared.policy.Policy.{Policy}
-use Rattle.prometheus_block.specs.declared.keeping.Tally.{Tally}
+use Rattle.kept_samples.specs.declared.keeping.Tally.{Tally}
 use Rattle.prometheus_block.specs.declared.rows.Wanted.{Wanted}
 use Rattle.prometheus_block.specs.Narrowing.{AreReadAlike}
 use Rattle.prometheus_block.specs.Rows.{AreRowsOf}

@@ -10,7 +10,7 @@ use Rattle.serde_json.specs.Read.{read as read_text}
 use Rattle.labels.specs.Contents.{in_range}
 use Rattle.labels.specs.Rows.{Row, points_of}
 use Rattle.labels.specs.Parts.{laid_over}
-use Rattle.prometheus_block.specs.declared.keeping.Tally.{Tally}
+use Rattle.kept_samples.specs.declared.keeping.Tally.{Tally}
 use Rattle.imported_values.specs.declared.policy.Rest.{Rest}
 use Rattle.imported_values.specs.declared.policy.Rest.TheVariants.{Drop, Refuse, Round}
 use Rattle.open_metrics.specs.declared.comments.Format.{Format}

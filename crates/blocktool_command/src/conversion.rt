@@ -13,8 +13,8 @@ use crate::target::{Target, send};
 use block_folder::Disk;
 use block_outputs::{Stretch, count_samples, join, write_output};
 use block_writer::PartRows;
+use kept_samples::Tally;
 use labels::Row;
-use prometheus_block::Tally;
 use std::alloc::Global;
 use std::io::Write;
 

@@ -2,13 +2,14 @@
 
 ghost use Rattle.std.specs.Prelude.{List, IfOk};
 ghost use Rattle.labels.specs.Rows.{Row as RowValue};
-ghost use Rattle.prometheus_block.specs.declared.keeping.Tally.{Tally as TallyValue};
+ghost use Rattle.kept_samples.specs.declared.keeping.Tally.{Tally as TallyValue};
 ghost use Rattle.block_outputs.specs.declared.tiles.Stretch.{Stretch as StretchValue};
 
 use crate::fault::Fault;
 use block_outputs::{Counts, Stretch};
+use kept_samples::Tally;
 use labels::Row;
-use prometheus_block::{Counted, Tally};
+use prometheus_block::Counted;
 use std::alloc::Global;
 
 /// What gives rows in a range of times, and counts what it read.

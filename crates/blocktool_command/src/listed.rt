@@ -9,8 +9,9 @@ ghost use Rattle.blocktool_command.specs.Listed.{RowsGiveTheirContent};
 use crate::fault::Fault;
 use crate::input::{Input, joined};
 use block_outputs::{Counts, Stretch, count_samples};
+use kept_samples::Tally;
 use labels::{Row, Sample};
-use prometheus_block::{Counted, Tally};
+use prometheus_block::Counted;
 use std::alloc::{AllocError, Global};
 
 /// How many samples are counted together.

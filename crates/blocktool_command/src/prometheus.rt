@@ -10,10 +10,10 @@ use crate::input::{Input, joined};
 use block_outputs::{Counts, Stretch};
 use imported_values::Policy;
 use index_reader::{Chunk, Index};
+use kept_samples::{KeepError, Tally, Times};
 use labels::{LabelSet, Row};
 use prometheus_block::{
-    Counted, Held, KeepError, ReadSegments, RowsError, SourceError, Tally, Times, Wanted,
-    count_samples, read_rows,
+    Counted, Held, ReadSegments, RowsError, SourceError, Wanted, count_samples, read_rows,
 };
 use std::alloc::{AllocError, Global};
 use std::fs;

@@ -17,7 +17,7 @@ use Rattle.clap.specs.declared.parser.matches.Found.{Found}
 use Rattle.clap.proofs.WalkLemmas.{one_text-rows}
 use Rattle.commands.specs.Lines.{IsTimeIn, IsDemo, IsSelect, IsCheck, IsSelectionIn, IsLineIn}
 use Rattle.commands.specs.Lines.{IsJournal, IsFoundLine}
-use Rattle.commands.specs.ServingLines.{IsCountIn, IsFlagIn, IsServe, IsServingIn, IsReadingIn}
+use Rattle.commands.specs.ServingLines.{IsCountIn, IsFlagIn, IsServingIn, IsReadingIn}
 use Rattle.commands.specs.ServingLines.{IsServeIn, IsServeLine, IsFoundServe, IsOneStore}
 use Rattle.commands.specs.declared.command.Reading.{Reading}
 use Rattle.commands.specs.declared.command.Line.{Line}

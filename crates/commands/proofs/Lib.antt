@@ -11,6 +11,5 @@ pub mod WholeFiles
 pub mod Servings
 pub mod TokenTexts
 pub mod Folders
+pub mod Hosts
 pub mod Listings
-pub mod Beginnings
-pub mod Stores

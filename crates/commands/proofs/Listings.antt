@@ -9,15 +9,24 @@ use Rattle.std.proofs.lemmas.List.{length-take-le, map-append}
 use Rattle.std.proofs.lemmas.List.Sums.{fold-append}
 use Rattle.std.specs.Int.{int_min, int_max}
 use Rattle.std.specs.List.{Contains, fold}
-use Rattle.std.specs.Prelude.{is_ok, if◌then◌else◌}
+use Rattle.std.specs.Prelude.{is_ok, true, false, if◌then◌else◌}
 use Rattle.labels.specs.Labels.{Labels}
+use Rattle.event_journal.specs.Holding.{contents_with}
 use Rattle.head.specs.Worlds.{Event}
-use Rattle.event_journal.specs.Starting.{DeniesRead}
-use Rattle.event_journal.specs.declared.error.StartError.{StartError}
-use Rattle.event_journal.specs.declared.error.StartError.TheVariants as start
-use Rattle.commands.specs.Faults.{start_fault}
+use Rattle.head_record.specs.Saved.{Saved}
+use Rattle.head_record.specs.Spelling.{head_texts}
+use Rattle.journal.specs.Records.{file_of}
+use Rattle.store_folder.specs.Codes.{read_cause}
+use Rattle.store_folder.specs.Journals.{DeniesJournal, IsJournalOf}
+use Rattle.store_folder.specs.Plain.{DeniesPlain, begins_plain}
+use Rattle.store_folder.specs.declared.error.ReadError.{ReadError as JournalFault}
+use Rattle.store_folder.specs.declared.error.StartCause.{StartCause}
+use Rattle.store_folder.specs.declared.error.StartCause.TheVariants as causes
+use Rattle.store_folder.specs.declared.error.StartError.TheVariants as start
+use Rattle.commands.specs.Faults.{read_fault, start_fault}
 use Rattle.commands.specs.Listing.{IsBatchLine, IsEventLine, AreLines, batch_line, IsFileAt}
-use Rattle.commands.specs.Listing.{IsListFault, IsUnreadJournal, batch_start, batch_end}
+use Rattle.commands.specs.Listing.{IsListFault, IsListingFault, IsUnreadJournal, batch_start}
+use Rattle.commands.specs.Listing.{batch_end, head_line, summary_line, IsListing}
 use Rattle.commands.specs.Listing.{empty_batch_line, times_in, IsSeriesCount, IsSpan}
 use Rattle.commands.specs.Reading.{Host}
 use Rattle.commands.specs.declared.fault.Fault.{Fault}
@@ -25,6 +34,7 @@ use Rattle.commands.specs.declared.fault.Fault.TheVariants.{Words, Refused, Cann
 use Rattle.commands.specs.declared.fault.Fault.TheVariants.{CannotWriteAt, Locked}
 use Rattle.commands.specs.declared.fault.Fault.TheVariants.{CannotListen, NoListener, NoThread}
 use Rattle.commands.specs.declared.fault.Fault.TheVariants.{Memory}
+use Rattle.commands.specs.declared.fault.Refusal.TheVariants as refusal
 
 -- a line more
 pub lines_more : (n m : ℕ) (es : List Event) (e : Event) (lines line : List ℕ)
@@ -111,13 +121,42 @@ batch_added (Ok x) number xs old new some h = (
 )
 batch_added (Err e) number xs old new some h = tt
 
--- a journal that is refused
-pub list_refused : (reads : Host) (path file : List ℕ) (error : StartError)
-    → IsFileAt reads path file → DeniesRead file error → IsListFault reads path (start_fault error)
-list_refused reads path file start.Memory found h = tt
-list_refused reads path file (start.Journal error) found h = (file, found, h)
-list_refused reads path file (start.Event refused) found h = (file, found, h)
-list_refused reads path file (start.Step refused) found h = absurd h
+-- a file that is not listed
+pub list_refused : (reads : Host) (path file : List ℕ) (fault : Fault) → IsFileAt reads path file
+    → IsListingFault file fault → IsListFault reads path fault
+list_refused reads path file (Refused (refusal.Start error)) found h = (file, found, h)
+list_refused reads path file Memory found h = tt
+list_refused reads path file (Refused (refusal.Labels error)) found h = absurd h
+list_refused reads path file (Refused (refusal.Matcher error)) found h = absurd h
+list_refused reads path file (Refused (refusal.Selector error)) found h = absurd h
+list_refused reads path file (Refused (refusal.Query error)) found h = absurd h
+list_refused reads path file (Refused (refusal.Commit error)) found h = absurd h
+list_refused reads path file (Refused (refusal.Block error)) found h = absurd h
+list_refused reads path file (Refused (refusal.Open error)) found h = absurd h
+list_refused reads path file (Refused (refusal.Snapshot error)) found h = absurd h
+list_refused reads path file (CannotRead at) found h = absurd h
+list_refused reads path file CannotWrite found h = absurd h
+list_refused reads path file (CannotWriteAt at) found h = absurd h
+list_refused reads path file (Locked at holder) found h = absurd h
+list_refused reads path file (CannotListen port) found h = absurd h
+list_refused reads path file NoListener found h = absurd h
+list_refused reads path file NoThread found h = absurd h
+list_refused reads path file (Words error) found h = absurd h
+
+-- the fault of a journal that is refused, by what is wrong with its file
+fault_of : (cause : StartCause) (file : List ℕ) (error : JournalFault)
+    → ((begins_plain file ≡ false) × DeniesJournal file error)
+    ⊎ ((begins_plain file ≡ true) × DeniesPlain file error)
+    → IsListingFault file (start_fault cause (start.Journal error))
+fault_of causes.Memory file error h = tt
+fault_of causes.Folder file error h = tt
+fault_of causes.Refused file error h = h
+
+pub not_listed : (file : List ℕ) (error : JournalFault) (fault : Fault) → fault ≡ read_fault error
+    → ((begins_plain file ≡ false) × DeniesJournal file error)
+    ⊎ ((begins_plain file ≡ true) × DeniesPlain file error) → IsListingFault file fault
+not_listed file error fault is h =
+    subst (IsListingFault file) (sym is) (fault_of (read_cause error) file error h)
 
 -- a journal that is not read
 pub list_unread : (reads : Host) (path : List ℕ) (fault : Fault)
@@ -167,3 +206,27 @@ lines_next es i number e lines new line within is same each one made =
     subst₂ (λ (xs : List Event) (ls : List ℕ). AreLines 0 xs ls)
     (ap (λ (x : Event). take i es ++ x ∷ []) is ∙ sym (take_at_read es i e within).1) (sym made)
     (lines_more 0 (number + 1) (take i es) e lines line counted each one)
+
+-- the listing of a journal that begins with a head
+pub summed_up : (file : List ℕ) (saved : Saved) (events : List Event) (len : ℕ)
+    (lines front text : List ℕ) → IsJournalOf file saved events
+    → len ≡ length (file_of (contents_with (head_texts saved) events)) → AreLines 0 events lines
+    → front ≡ head_line saved
+    → text ≡ front ++ (lines ++ summary_line (length events) len (length file))
+    → IsListing file text
+summed_up file saved events len lines front text is counted each head made =
+    let rest = lines ++ summary_line (length events) len (length file) in
+    inl (
+      saved,
+      events,
+      is,
+      (
+        rest,
+        record {
+          lines = lines;
+          each = each;
+          is = ap (λ (n : ℕ). lines ++ summary_line (length events) n (length file)) counted;
+        },
+        made ∙ ap (λ (f : List ℕ). f ++ rest) head,
+      ),
+    )

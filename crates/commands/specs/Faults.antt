@@ -14,9 +14,12 @@ use Rattle.head.specs.Codes.{commit_code}
 use Rattle.head.specs.declared.error.CommitError.{CommitError}
 use Rattle.head.specs.declared.error.CommitError.TheVariants as commit
 use Rattle.block.specs.Codes as blocks
-use Rattle.event_journal.specs.Codes.{start_code, start_place}
-use Rattle.event_journal.specs.declared.error.StartError.{StartError}
-use Rattle.event_journal.specs.declared.error.StartError.TheVariants as start
+use Rattle.store_folder.specs.Codes.{read_cause, start_code, start_place}
+use Rattle.store_folder.specs.declared.error.ReadError.{ReadError as JournalFault}
+use Rattle.store_folder.specs.declared.error.StartCause.{StartCause}
+use Rattle.store_folder.specs.declared.error.StartCause.TheVariants as causes
+use Rattle.store_folder.specs.declared.error.StartError.{StartError}
+use Rattle.store_folder.specs.declared.error.StartError.TheVariants as start
 use Rattle.block.specs.declared.error.BlockError.{BlockError}
 use Rattle.block.specs.declared.error.BlockError.TheVariants as block
 use Rattle.snapshots.specs.Refusals.{open_code, snapshot_code}
@@ -198,9 +201,12 @@ serve_fault serve.NoListener = NoListener
 serve_fault serve.NoThread = NoThread
 serve_fault serve.Memory = Memory
 
--- the fault that a refused journal makes
-abbrev pub start_fault : StartError → Fault
-start_fault start.Memory = Memory
-start_fault (start.Journal error) = Refused (Start (start.Journal error))
-start_fault (start.Event refused) = Refused (Start (start.Event refused))
-start_fault (start.Step refused) = Refused (Start (start.Step refused))
+-- the fault that a start's error makes, if neither memory nor the folder failed
+abbrev pub start_fault : StartCause → StartError → Fault
+start_fault causes.Memory error = Memory
+start_fault causes.Folder error = Memory
+start_fault causes.Refused error = Refused (Start error)
+
+-- the fault that a journal makes which is not read
+abbrev pub read_fault : JournalFault → Fault
+read_fault error = start_fault (read_cause error) (start.Journal error)

@@ -1,41 +1,22 @@
 -- The folder of a store that is kept, and what a start finds in it.
-use Rattle.std.specs.Prelude.{◌≡◌, ◌⊎◌, ℕ, Bool, List, [], ◌∷◌, ◌++◌, Ok, Option, Some, codes}
-use Rattle.std.specs.Prelude.{string_bytes}
-use Rattle.block_folder.specs.Steps.{Call, Write, Rename, Sync}
-use Rattle.head.specs.Blocks.{opening_of}
+use Rattle.std.specs.Prelude.{◌≡◌, ◌⊎◌, ℕ, Bool, true, List, [], ◌++◌, Option, None, Some}
+use Rattle.std.specs.Prelude.{codes, map, string_bytes}
+use Rattle.data_folder.specs.JournalFile.{journal_name}
+use Rattle.head.specs.Blocks.{opening_of, part_in}
 use Rattle.head.specs.Heads.{world_of}
-use Rattle.head.specs.Worlds.{replayed}
-use Rattle.journal.specs.FileMedium.{file_sound}
-use Rattle.journal.specs.declared.file_medium.FileMedium.{FileMedium}
-use Rattle.event_journal.specs.Holding.{Holds, Stands}
-use Rattle.event_journal.specs.Starting.{DeniesStart}
-use Rattle.commands.specs.declared.data_folder.DataPaths.{DataPaths}
+use Rattle.head.specs.Worlds.{World}
+use Rattle.store_folder.specs.Finding.{IsFoundStore}
+use Rattle.store_folder.specs.Refusals.{IsRefusal}
+use Rattle.store_folder.specs.States.{started}
+use Rattle.store_folder.specs.declared.reading.FoundStore.{FoundStore}
 use Rattle.commands.specs.declared.fault.Fault.{Fault}
 use Rattle.commands.specs.declared.fault.Fault.TheVariants.{Refused, CannotRead, CannotWriteAt}
 use Rattle.commands.specs.declared.fault.Fault.TheVariants.{Locked, Memory}
 use Rattle.commands.specs.declared.fault.Refusal.TheVariants.{Start}
-use Rattle.commands.specs.declared.keeping.KeptStore.{KeptStore}
-use Rattle.commands.specs.declared.keeping.ResumeError.{ResumeError}
-use Rattle.commands.specs.declared.keeping.ResumeError.TheVariants as resume
 
 -- the path of a name in a folder
 abbrev pub path_in : List ℕ → List ℕ → List ℕ
 path_in folder name = folder ++ (codes "/" ++ name)
-
--- the paths of what stands in a folder
-pub record ArePathsIn (folder : List ℕ) (paths : DataPaths) : Type 0 where
-  pub lock : string_bytes paths.lock ≡ path_in folder (codes "lock")
-  pub journal : string_bytes paths.journal ≡ path_in folder (codes "journal")
-  pub next : string_bytes paths.next ≡ path_in folder (codes "journal.next")
-
--- how a journal is begun: it is written and synced under another name, then it gets its name, and
--- the folder is synced
-abbrev pub calls_of : List ℕ → List ℕ → List Call
-calls_of folder text =
-    Write (path_in folder (codes "journal.next")) text
-    ∷ Rename (path_in folder (codes "journal.next")) (path_in folder (codes "journal"))
-    ∷ Sync folder
-    ∷ []
 
 -- what stands at a path cannot be written, or memory failed
 abbrev pub IsWriteFault : List ℕ → Fault → Type 0
@@ -62,42 +43,31 @@ IsFolderFault folder (CannotRead path) = IsWithin folder (string_bytes path)
 IsFolderFault folder Memory = Unit {0}
 IsFolderFault folder other = ⊥
 
--- why the store of a folder is not opened: by the folder, or by the first fault of its journal,
--- whatever file that is
+-- why the store of a folder is not opened: by the folder, or by the first fault of what is in it
 abbrev pub IsDataFault : List ℕ → Fault → Type 0
-IsDataFault folder (Refused (Start error)) = (file : List ℕ) × DeniesStart file error
+IsDataFault folder (Refused (Start error)) = IsRefusal error
 IsDataFault folder other = IsFolderFault folder other
 
--- why the store of a journal with these bytes, at a path, is not opened: it is refused, or its torn
--- end cannot be cut off, or memory failed
-abbrev pub IsStoreFault : List ℕ → List ℕ → Fault → Type 0
-IsStoreFault file path (Refused (Start error)) = DeniesStart file error
-IsStoreFault file path (CannotWriteAt at) = string_bytes at ≡ path
-IsStoreFault file path Memory = Unit {0}
-IsStoreFault file path other = ⊥
+-- what was found in a folder lies there for good: no journal, or a store
+abbrev pub HasFound : {F : Type 0} → (F → List ℕ → Option (List ℕ) → Type 0)
+    → (F → List ℕ → ℕ → Type 0) → F → Option FoundStore → Type 0
+HasFound shows kept f None = shows f journal_name None × kept f journal_name 0
+HasFound shows kept f (Some s) = IsFoundStore shows kept s.journal (map part_in s.blocks.items) f
 
--- why the store of a file is not resumed: the file is refused, or its torn end cannot be cut off
-abbrev pub IsResumeFault : List ℕ → ResumeError → Type 0
-IsResumeFault file (resume.Start error) = DeniesStart file error
-IsResumeFault file resume.Medium = Unit {0}
+-- a folder was read, and nothing of it has failed
+pub record IsRead {F : Type 0} (shows : F → List ℕ → Option (List ℕ) → Type 0)
+    (kept : F → List ℕ → ℕ → Type 0) (sound : F → Bool) (f : F) (found : Option FoundStore)
+    : Type 0 where
+  pub has : HasFound shows kept f found
+  pub is_sound : sound f ≡ true
 
--- the store is what the events make for which the file of its journal stands, and its keeper holds
--- them
-pub record IsKeptStore {M : Type 0} (shows : M → List ℕ → Type 0) (kept : M → ℕ → Type 0)
-    (sound : M → Bool) (moment : M → ℕ) (left_since : M → ℕ → List ℕ → Type 0)
-    (file : List ℕ) (store : KeptStore M) : Type 0 where
-  pub stands : Stands [] file store.events.items
-  pub world : replayed (world_of (opening_of [])) store.events.items
-      ≡ Ok (world_of store.snapshot)
-  pub held : Holds shows kept sound moment left_since [] store.keeper.journal.journal.medium
-      store.keeper.journal.journal.len store.keeper.journal.journal.closed store.events.items
+-- what is found in a folder of whose files no clause tells, as those of the host
+abbrev pub IsFoundOnHost : Option FoundStore → Type 0
+IsFoundOnHost found =
+    HasFound {F = Unit {0}} (λ f name x. Unit {0}) (λ f name n. Unit {0}) tt found
 
--- the same of a store whose journal is a file of the host, which had these bytes
-abbrev pub IsKeptInFile : List ℕ → KeptStore FileMedium → Type 0
-IsKeptInFile file store =
-    IsKeptStore (λ medium bytes. Unit {0}) (λ medium n. Unit {0}) file_sound (λ medium. 0)
-    (λ medium t left. ⊥) file store
-
--- the same, whatever bytes the file had
-abbrev pub IsKeptInSome : KeptStore FileMedium → Type 0
-IsKeptInSome store = (file : List ℕ) × IsKeptInFile file store
+-- the world before the events of what was found: that of the journal's head and blocks, or of a
+-- store that has nothing
+abbrev pub first_of : Option FoundStore → World
+first_of None = world_of (opening_of [])
+first_of (Some s) = world_of (started s.journal.head (map part_in s.blocks.items))

@@ -1,6 +1,7 @@
 -- What `journal` lists of a journal.
 use Rattle.std.specs.Prelude.{◌≡◌, ◌⊎◌, ℕ, ◌+◌, ◌-◌, ℤ, List, [], ◌∷◌, ◌++◌, Option, None, length}
-use Rattle.std.specs.Prelude.{codes, decimal, map, string_bytes}
+use Rattle.std.specs.Prelude.{false, true}
+use Rattle.std.specs.Prelude.{codes, decimal, map, min, string_bytes, sum, ◌^◌}
 use Rattle.std.specs.Fmt.{signed_decimal}
 use Rattle.std.specs.Int.Signed.{◌≤ℤ◌}
 use Rattle.std.specs.Io.KnownBytes.{Appends}
@@ -10,10 +11,14 @@ use Rattle.labels.specs.Labels.{Labels, labels_cmp}
 use Rattle.matchers.specs.Grammar.{op_text, written}
 use Rattle.matchers.specs.Views.{MatcherView}
 use Rattle.head.specs.Worlds.{Event, batch, deletion, cut}
+use Rattle.head.specs.Heads.{HeadSeries}
+use Rattle.head_record.specs.Saved.{Saved}
+use Rattle.head_record.specs.Spelling.{head_texts}
 use Rattle.journal.specs.Records.{file_of}
-use Rattle.keeper.specs.Together.{texts_of}
-use Rattle.event_journal.specs.Holding.{Stands}
-use Rattle.event_journal.specs.Starting.{DeniesRead}
+use Rattle.event_journal.specs.Holding.{Stands, contents_with}
+use Rattle.store_folder.specs.Journals.{DeniesJournal, IsJournalOf}
+use Rattle.store_folder.specs.Plain.{DeniesPlain, begins_plain}
+use Rattle.store_folder.specs.declared.error.StartError.TheVariants as start
 use Rattle.commands.specs.Keeping.{path_in}
 use Rattle.commands.specs.Reading.{Host, AreFirstBytes}
 use Rattle.commands.specs.declared.fault.Fault.{Fault}
@@ -133,23 +138,64 @@ IsUnreadJournal reads path (CannotRead file) =
 IsUnreadJournal reads path Memory = Unit {0}
 IsUnreadJournal reads path other = ⊥
 
--- the lines of the events for which a journal stands were written, and the line that sums it up
+-- how many samples the series of a head have; a sum above 2^64 - 1 is that number
+abbrev pub saved_samples : List HeadSeries → ℕ
+saved_samples series = min (sum (map (λ (h : HeadSeries). length h.samples) series)) (2 ^ 64 - 1)
+
+-- the line of a head: its floor, and how many blocks, series and samples it has
+abbrev pub head_start : ℤ → ℕ → List ℕ
+head_start floor blocks =
+    codes "head: floor " ++ (signed_decimal floor ++ (codes ", "
+    ++ (decimal blocks ++ codes " blocks, ")))
+
+abbrev pub head_end : ℕ → ℕ → List ℕ
+head_end series samples =
+    decimal series ++ (codes " series, " ++ (decimal samples ++ codes " samples\n"))
+
+abbrev pub head_line : Saved → List ℕ
+head_line saved =
+    head_start saved.floor (length saved.places)
+    ++ head_end (length saved.head) (saved_samples saved.head)
+
+-- the lines of these events behind these contents, and the line that sums the file up
+pub record AreEventLines (front : List (List ℕ)) (file text : List ℕ) (events : List Event)
+    : Type 0 where
+  pub lines : List ℕ
+  pub each : AreLines 0 events lines
+  pub is : text
+      ≡ lines ++ summary_line (length events) (length (file_of (contents_with front events)))
+      (length file)
+
+-- the text lists what a file stands for: a head and the events after it, or events alone
+abbrev pub IsListing : List ℕ → List ℕ → Type 0
+IsListing file text =
+    ((saved : Saved) × (events : List Event) × IsJournalOf file saved events
+    × ((rest : List ℕ) × AreEventLines (head_texts saved) file rest events
+    × (text ≡ head_line saved ++ rest)))
+    ⊎ ((events : List Event) × Stands [] file events × AreEventLines [] file text events)
+
+-- what a file stands for was listed
 pub record IsListed (reads : Host) (path : List ℕ) (old new : Option (List ℕ)) : Type 0 where
   pub file : List ℕ
   pub found : IsFileAt reads path file
-  pub events : List Event
-  pub stands : Stands [] file events
-  pub lines : List ℕ
-  pub each : AreLines 0 events lines
-  pub written : Appends old new
-      (lines ++ summary_line (length events) (length (file_of (texts_of events))) (length file))
+  pub text : List ℕ
+  pub listing : IsListing file text
+  pub written : Appends old new text
+
+-- a file is not listed: it is refused by the first check that fails, or memory failed
+abbrev pub IsListingFault : List ℕ → Fault → Type 0
+IsListingFault file (Refused (Start (start.Journal error))) =
+    ((begins_plain file ≡ false) × DeniesJournal file error)
+    ⊎ ((begins_plain file ≡ true) × DeniesPlain file error)
+IsListingFault file Memory = Unit {0}
+IsListingFault file other = ⊥
 
 -- why a journal is not listed: it can't be read, it is refused by the first check that fails, or
 -- memory or the writer failed
 abbrev pub IsListFault : Host → List ℕ → Fault → Type 0
 IsListFault reads path (CannotRead file) = IsUnreadJournal reads path (CannotRead file)
 IsListFault reads path (Refused (Start error)) =
-    (file : List ℕ) × IsFileAt reads path file × DeniesRead file error
+    (file : List ℕ) × IsFileAt reads path file × IsListingFault file (Refused (Start error))
 IsListFault reads path CannotWrite = Unit {0}
 IsListFault reads path Memory = Unit {0}
 IsListFault reads path other = ⊥

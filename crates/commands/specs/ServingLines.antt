@@ -41,14 +41,15 @@ text_rule name = record (new_rule name) { long = Some name; value_names = 1 }
 -- the options of `serve` with a number
 abbrev pub counts_app : App
 counts_app =
-    with_rule (with_rule (with_rule (with_rule (with_rule (with_rule (new_app (codes "serve"))
-    port_rule) (count_rule (codes "workers") 1 64))
+    with_rule (with_rule (with_rule (with_rule (with_rule (with_rule (with_rule
+    (new_app (codes "serve")) port_rule) (count_rule (codes "workers") 1 64))
     (count_rule (codes "requests") 0 18446744073709551615))
     (count_rule (codes "idle-seconds") 0 4294967295)) (count_rule (codes "status-port") 1 65535))
-    (count_rule (codes "cut-every") 1 4611686018427387903)
+    (count_rule (codes "cut-every") 1 4611686018427387903))
+    (count_rule (codes "journal-mb") 1 1048576)
 
 -- serve --port P [--workers W] [--requests N] [--idle-seconds S] [--status-port P]
--- [--cut-every MS] [--read-only] [--guard FILE] [--data DIR] [--quiet] [DIR]...
+-- [--cut-every MS] [--journal-mb MB] [--read-only] [--guard FILE] [--data DIR] [--quiet] [DIR]...
 abbrev pub serve_app : App
 serve_app =
     with_rule (with_rule (with_rule (with_rule (with_rule counts_app
@@ -84,6 +85,7 @@ pub record IsServingIn (rows : List Row) (serving : Serving) : Type 0 where
   pub read_only : IsFlagIn (one_of (codes "read-only") rows) serving.read_only
   pub guard : option_map (λ file. file.now) serving.guard ≡ first_of (codes "guard") rows
   pub folder : option_map (λ folder. folder.now) serving.folder ≡ first_of (codes "data") rows
+  pub journal : IsCountIn (one_of (codes "journal-mb") rows) 64 serving.journal_mb
 
 -- the directories that arguments name, and whether they are read quietly
 pub record IsReadingIn (rows : List Row) (reading : Reading) : Type 0 where

@@ -55,6 +55,8 @@ pub struct Serving<'a> {
     pub guard: Option<&'a str>,
     /// The folder in which the store is kept, if it is; then there are no directories.
     pub folder: Option<&'a str>,
+    /// With how many MB of changes its journal is begun anew by a start.
+    pub journal_mb: u64,
 }
 
 /// What is read, as it was written.
@@ -169,13 +171,19 @@ const GUARD: &str = "The file with a token that each POST has to bear, readable 
 
 const DATA: &str = "A folder that keeps each change; it is made if there is none [default: none]";
 
+const JOURNAL_MB: &str =
+    "Above how many MB a start begins the journal of --data anew, 1 to 1048576 [default: 64]";
+
 const PATH: &str = "A journal, or the folder of --data that it stands in";
 
 const JOURNALS: &str =
     r#"A journal is what `querier serve --data DIR` keeps in DIR/journal: one record for each change
 that was accepted. Nothing is changed, and a server may have the folder locked meanwhile.
 
-For each change, in their order, one line is printed, with its number from 1:
+A journal begins with a head, what the store had when the journal was begun; for it a line stands
+first, with the floor in milliseconds (one of before has none):
+  head: floor 20, 1 blocks, 2 series, 40 samples
+For each change since, in their order, one line is printed, with its number from 1:
   1 batch 120 samples of 3 series, 10 to 20
   2 deletion {job="a"} 0 to 10
   3 cut at 20
@@ -186,7 +194,7 @@ record stand behind them, which the next start cuts off:
 Refusals, the first that holds, with its place; nothing is printed then:
   J1 at 0, J2 at 4   no journal, or of another version
   J3, J4 at BYTE     damage before the last record: a checksum or a length that is wrong
-  J8 to J14 at N     the content behind N others is no change
+  J8 to J14 at N     the content behind N others is none of a head, or behind N changes no change
 
 docs/FORMATS.md of the project explains each code.
 
@@ -201,13 +209,17 @@ head, in memory alone: what is written to it ends with the program. Then `listen
 being the real port.
 
 With --data, the store begins empty, and each write, deletion and cut is in DIR/journal, synced,
-before its reply goes out. A start replays them: standard error tells `recovered N events`, and how
-many bytes of a torn record it cut off; or `began DIR/journal`. Directories beside --data are a
-fault of the words. If the server cannot make sure that a change is kept, it is refused with H11
-(503): no reader of this run sees it, but if the journal closed, the next start may find it. A
-journal that is damaged before its end is refused with J1 to J4, J8 to J14 or J18 and the place, and
-left as it is (`querier journal --help` tells the codes; J18 is a change that those before it do not
-admit). DIR/lock is locked as long as the server runs.
+before its reply goes out. A start replays them over the blocks in DIR/blocks: standard error tells
+`recovered N blocks, N events`, and how many bytes of a torn record it cut off; or `began
+DIR/journal`. If one of these is a cut, or there are some and the journal is longer than
+--journal-mb, the start then writes the blocks to DIR/blocks and begins the journal anew, and tells
+`rolled DIR/journal`.
+Directories beside --data are a fault of the words. If the server cannot make sure that a change is
+kept, it is refused with H11 (503): no reader of this run sees it, but if the journal closed, the
+next start may find it. What is damaged is refused and left as it is: with J1 to J4 or J8 to J14
+(`querier journal --help` tells these), J15 at N if a file of DIR/blocks/N is missing, J16 at N if
+they are no block, J17 if no store has what the journal begins with, or J18 at N if the change
+behind N others is one that those do not admit. DIR/lock is locked as long as the server runs.
 
   GET /select?selector=up%7Bjob%3D%22a%22%7D&from=0&to=100
                  the audited answer, as `querier select` prints it
@@ -381,7 +393,8 @@ fn counts<'a>(alloc: Global) -> Result<Command<'a>, AllocError>
         .arg(count(alloc, "requests", "N", (0, u64::MAX), REQUESTS))?
         .arg(count(alloc, "idle-seconds", "S", (0, u32::MAX as u64), IDLE))?
         .arg(count(alloc, "status-port", "P", (1, 65535), STATUS_PORT))?
-        .arg(count(alloc, "cut-every", "MS", (1, LONGEST), CUT_EVERY))
+        .arg(count(alloc, "cut-every", "MS", (1, LONGEST), CUT_EVERY))?
+        .arg(count(alloc, "journal-mb", "MB", (1, 1048576), JOURNAL_MB))
 }
 
 fn serve<'a>(alloc: Global) -> Result<Command<'a>, AllocError>
@@ -515,6 +528,7 @@ fn serving_in<'a>(found: &ArgMatches<'a>) -> Serving<'a>
     let idle_seconds = count_in(found, "idle-seconds", 30);
     let status_port = count_in(found, "status-port", 0);
     let cut_every = count_in(found, "cut-every", 0);
+    let journal_mb = count_in(found, "journal-mb", 64);
     Serving {
         port,
         workers,
@@ -525,6 +539,7 @@ fn serving_in<'a>(found: &ArgMatches<'a>) -> Serving<'a>
         read_only: flag_in(found, "read-only"),
         guard: given_in(found, "guard"),
         folder: given_in(found, "data"),
+        journal_mb,
     }
 }
 

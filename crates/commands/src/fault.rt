@@ -6,7 +6,6 @@ ghost use Rattle.commands.specs.Faults.{refusal_code, refusal_place, status_of, 
 
 use answers::AskError;
 use block::BlockError;
-use event_journal::StartError;
 use head::CommitError;
 use labels::LabelError;
 use matchers::{MatcherError, QueryError, SelectorError};
@@ -16,6 +15,7 @@ use std::alloc::{AllocError, AllocFailed};
 use std::error::Error;
 use std::fmt;
 use std::io::{self, Write};
+use store_folder::StartError;
 
 /// What was refused, and why.
 #[derive(Clone, Copy, Debug, PartialEq, Eq, Drop)]
@@ -36,7 +36,7 @@ pub enum Refusal {
     Open(OpenError),
     /// A snapshot of a store: `S1`.
     Snapshot(SnapshotError),
-    /// The journal of a store that is kept: `J1` to `J4`, `J8` to `J14`, `J18`.
+    /// The folder of a store that is kept: `J1` to `J4`, `J8` to `J18`.
     Start(StartError),
 }
 
@@ -59,7 +59,8 @@ impl Refusal {
     }
 
     /// The place of the fault, from 0: in a selector in bytes, in a batch the number of the sample,
-    /// in a journal the byte (`J1` to `J4`) or the number of the event.
+    /// in a journal the byte (`J1` to `J4`) or how many contents of its head or events are before
+    /// it, of a block the number of its folder (`J15`, `J16`).
     pub fn place(&self) -> Option<usize>
         ensures { result ≡ refusal_place self.now }
     {
@@ -346,20 +347,6 @@ impl From<ServeError> for Fault {
             ServeError::NoListener => Fault::NoListener,
             ServeError::NoThread => Fault::NoThread,
             ServeError::Memory => Fault::Memory,
-        }
-    }
-}
-
-impl From<StartError> for Fault {
-    ghost use Rattle.std.specs.Prelude.{◌≡◌};
-    ghost use Rattle.commands.specs.Faults.{start_fault};
-
-    ghost from_gives = { λ error fault. fault ≡ start_fault error };
-
-    fn from(error: StartError) -> Fault {
-        match error {
-            StartError::Memory => Fault::Memory,
-            refusal => Fault::Refused(Refusal::Start(refusal)),
         }
     }
 }

@@ -1,37 +1,33 @@
 //! A store that is kept in a folder, and its server.
 
-ghost use Rattle.std.specs.Prelude.{◌≡◌, true, [], Ok, IfOk, IfErr, OnOk, vec_len};
-ghost use Rattle.std.specs.Prelude.{string_bytes};
+ghost use Rattle.std.specs.Prelude.{◌≡◌, List, [], None, Ok, true, IfOk, IfErr, OnOk, map, vec_len};
 ghost use Rattle.std.specs.List.{All};
-ghost use Rattle.std.specs.Thread.{IsSync};
-ghost use Rattle.head.specs.Blocks.{opening_of};
-ghost use Rattle.head.specs.Heads.{world_of};
+ghost use Rattle.std.specs.Thread.{IsSend, IsSync};
+ghost use Rattle.head.specs.Blocks.{opening_of, part_in};
+ghost use Rattle.head.specs.Heads.{BlockPart, world_of};
 ghost use Rattle.head.specs.Worlds.{replayed};
-ghost use Rattle.journal.specs.FileMedium.{file_sound};
-ghost use Rattle.journal.specs.Media.{HasAll};
-ghost use Rattle.event_journal.specs.Holding.{Holds};
-ghost use Rattle.event_journal.specs.Starting.{DeniesStep, of_step};
+ghost use Rattle.store_folder.specs.Codes.{cause_of};
+ghost use Rattle.store_folder.specs.Finding.{IsFoundStore};
+ghost use Rattle.store_folder.specs.Holding.{HoldsStore};
+ghost use Rattle.store_folder.specs.Starting.{GoesOn};
+ghost use Rattle.store_folder.specs.States.{started};
 ghost use Rattle.server.specs.Shifts.{AreUnder, EachServed};
-ghost use Rattle.commands.specs.Guarding.{AreRulesOf};
-ghost use Rattle.commands.specs.Keeping.{IsKeptStore, IsKeptInFile, IsKeptInSome, IsResumeFault};
-ghost use Rattle.commands.specs.Keeping.{IsStoreFault, IsDataFault};
-ghost use Rattle.commands.specs.Selecting.{KeepsAt};
+ghost use Rattle.store_folder.specs.Refusals.{IsRefusal};
+ghost use Rattle.store_folder.specs.declared.error.StartCause.TheVariants.{Refused};
+ghost use Rattle.commands.specs.Keeping.{IsDataFault, IsFoundOnHost, IsRead, first_of};
 ghost use Rattle.commands.specs.ServingRuns.{TellsPort, IsKeepingFault, IsServingFault};
 
 use crate::command::Serving;
-use crate::data_folder::{DataFolder, cannot_write, open_folder};
-use crate::fault::Fault;
+use crate::fault::{Fault, Refusal};
 use crate::files::ReadFiles;
+use crate::locking::{block_path_in, cannot_read, cannot_write, lock_data, path_in};
 use crate::process::Process;
 use crate::serve::{counts_of, passes_of, seats_of, serve_workers, watch_at, with_cuts};
-use event_journal::{JournalKeeper, StartError, read_journal};
+use data_folder::{Folder, HostFolder, RollError};
 use guard::Rules;
-use head::{CommitError, Event, RefusedEvent, Snapshot, replay};
-use journal::{FileMedium, Medium};
 use server::{Shift, Workers, report_opening};
 use snapshots::{Naming, Store};
 use std::alloc::Global;
-use std::fs::File;
 use std::io::Write;
 use std::marker::Brand;
 use std::net::{Net, TcpListener, TcpStream};
@@ -39,163 +35,87 @@ use std::sync::Wait;
 use std::sync::atomic::{AtomicBool, Ordering};
 use std::thread::{Threads, join};
 use std::time::Clock;
+use store_folder::{
+    Beginning, FoundJournal, FoundStore, RollFault, StartCause, StartError, StartedStore,
+    StoreKeeper, begin_store, open_store, resume_store,
+};
 
-/// A store that was kept, as a start finds it.
+/// How many bytes one MB of a journal has.
+const MB: u64 = 1_048_576;
+
+/// That what stands in a folder cannot be read: the folder of a block, or the journal.
+fn unreadable(alloc: Global, folder: &str, error: StartError) -> Fault
+    ensures { IsDataFault folder.now result }
+{
+    let path = match error {
+        StartError::Block(unread) => block_path_in(alloc, folder, unread.number),
+        _ => path_in(alloc, folder, "journal"),
+    };
+    match path {
+        Ok(path) => cannot_read(alloc, path.as_str()),
+        Err(_) => Fault::Memory,
+    }
+}
+
+/// That the journal in a folder cannot be written.
+fn unwritable(alloc: Global, folder: &str) -> Fault
+    ensures { IsDataFault folder.now result }
+{
+    match path_in(alloc, folder, "journal") {
+        Ok(path) => cannot_write(alloc, path.as_str()),
+        Err(_) => Fault::Memory,
+    }
+}
+
+/// A folder, and the store that it has, if it has one.
 #[derive(Drop)]
-pub(crate) struct KeptStore<M: Medium + Drop> {
-    /// What the events make of a store that has nothing.
-    snapshot: Snapshot,
-    /// What keeps them, and those to come.
-    keeper: JournalKeeper<M>,
-    /// The events of the journal.
-    events: Vec<Event>,
-    /// How many bytes of a torn record were cut off behind them.
-    torn: usize,
+struct FoundData<H: Drop> {
+    disk: H,
+    found: Option<FoundStore>,
 }
 
-/// Why the store of a journal is not resumed.
-#[derive(Clone, Copy, Debug, PartialEq, Eq, Drop)]
-pub(crate) enum ResumeError {
-    /// The journal is refused, and was left as it was.
-    Start(StartError),
-    /// Its torn end cannot be cut off.
-    Medium,
-}
-
-/// A store that is kept in a folder, which is locked as long as this is.
-#[derive(Drop)]
-struct OpenData {
-    lock: File,
-    store: KeptStore<FileMedium>,
-}
-
-fn not_accepted(refused: RefusedEvent) -> StartError
-    ensures { result ≡ of_step refused }
+/// The store that a folder has, if it has one, and the folder.
+fn read_data<H: Folder + Drop>(alloc: Global, disk: H, folder: &str) -> Result<FoundData<H>, Fault>
+    requires { H.sound disk ≡ true }
+    ensures read { IfOk result (λ x. IsRead H.shows H.kept H.sound x.disk x.found) }
+    ensures err { IfErr result (IsDataFault folder.now) }
 {
-    match refused.error {
-        CommitError::Memory => StartError::Memory,
-        _ => StartError::Step(refused),
+    let mut disk = disk;
+    match open_store(alloc, &mut disk) {
+        Ok(found) => Ok(FoundData { disk, found }),
+        Err(error) => Err(match error.cause() {
+            StartCause::Memory => Fault::Memory,
+            StartCause::Folder => unreadable(alloc, folder, error),
+            StartCause::Refused => Fault::Refused(Refusal::Start(error)),
+        }),
     }
 }
 
-/// What events make of a store that has nothing.
-fn snapshot_after(alloc: Global, events: &[Event]) -> Result<Snapshot, StartError>
-    ensures world { IfOk result (λ snapshot.
-        replayed (world_of (opening_of [])) events.now ≡ Ok (world_of snapshot)) }
-    ensures refused { IfErr result (DeniesStep events.now) }
-{
-    let Ok(nothing) = Snapshot::opening(alloc, Vec::new(alloc)) else {
-        return Err(StartError::Memory);
-    };
-    match replay(alloc, nothing, events) {
-        Ok(snapshot) => Ok(snapshot),
-        Err(refused) => Err(not_accepted(refused)),
-    }
-}
-
-/// The store of a journal's file, which the medium has. A torn end is cut off, when all before it
-/// was accepted.
-fn resume_store<M: Medium + Drop>(
-    alloc: Global,
-    medium: M,
-    file: &[u8],
-) -> Result<KeptStore<M>, ResumeError>
-    requires { HasAll M.shows M.kept M.sound file.now medium }
-    ensures kept { IfOk result (IsKeptStore M.shows M.kept M.sound M.moment M.left_since file.now) }
-    ensures refused { IfErr result (IsResumeFault file.now) }
-{
-    let found = match read_journal(alloc, file) {
-        Ok(found) => found,
-        Err(error) => return Err(ResumeError::Start(error)),
-    };
-    let snapshot = match snapshot_after(alloc, &found.events) {
-        Ok(snapshot) => snapshot,
-        Err(error) => return Err(ResumeError::Start(error)),
-    };
-    let Ok(keeper) = JournalKeeper::resume(medium, found.len) else {
-        return Err(ResumeError::Medium);
-    };
-    Ok(KeptStore {
-        snapshot,
-        keeper,
-        events: found.events,
-        torn: file.len().saturating_sub(found.len),
-    })
-}
-
-/// Tells what a start recovered.
-fn tell_recovered<R: Eprint>(rt: &R, events: usize, torn: usize) {
-    let noun = if events == 1 { "event" } else { "events" };
-    let _ = if torn == 0 {
-        eprintln!(rt; "recovered {events} {noun}")
-    } else {
-        eprintln!(rt; "recovered {events} {noun}, {torn} bytes of a torn record cut off")
-    };
-}
-
-/// Tells what was found in a folder, or that a journal was begun there.
-fn tell_opened<R: Eprint, M: Medium + Drop>(
-    rt: &R,
-    path: &str,
-    is_new: bool,
-    store: &KeptStore<M>,
-) {
-    if is_new {
-        let _ = eprintln!(rt; "began {path}");
-    } else {
-        tell_recovered(rt, store.events.len(), store.torn);
-    }
-}
-
-/// The store of a journal that was read in its folder.
-fn store_in<R: Eprint>(rt: &R, alloc: Global, folder: DataFolder) -> Result<OpenData, Fault>
-    requires { file_sound folder.medium ≡ true }
-    ensures kept { IfOk result (λ opened. IsKeptInFile folder.bytes.items opened.store) }
-    ensures err { IfErr result (IsStoreFault folder.bytes.items (string_bytes folder.path)) }
-{
-    let DataFolder {
-        lock,
-        medium,
-        bytes,
-        path,
-        is_new,
-    } = folder;
-    match resume_store(alloc, medium, bytes.as_slice()) {
-        Ok(store) => {
-            tell_opened(rt, path.as_str(), is_new, &store);
-            Ok(OpenData { lock, store })
-        }
-        Err(ResumeError::Start(error)) => Err(Fault::from(error)),
-        Err(ResumeError::Medium) => Err(cannot_write(alloc, path.as_str())),
-    }
-}
-
-/// Opens the store that is kept in a folder of the host, and tells what was recovered.
-fn open_data<R: Eprint, F: ReadFiles>(
-    rt: &R,
+/// Reads the store that a folder of the host has, if it has one.
+fn read_host<F: ReadFiles>(
     alloc: Global,
     files: &F,
     folder: &str,
-) -> Result<OpenData, Fault>
-    ensures kept { IfOk result (λ opened. IsKeptInSome opened.store) }
+) -> Result<Option<FoundStore>, Fault>
+    ensures read { IfOk result IsFoundOnHost }
     ensures err { IfErr result (IsDataFault folder.now) }
 {
     let Some(host) = files.host() else {
         return Err(cannot_write(alloc, folder));
     };
-    let data = open_folder(alloc, host, folder)?;
-    store_in(rt, alloc, data)
+    let read = read_data(alloc, HostFolder::new(host, alloc, folder), folder)?;
+    Ok(read.found)
 }
 
-/// Opens a store as [`open_data`] does, and answers those beside that watch.
-fn open_watched<R: Threads + Clock + Eprint + Sync, F: ReadFiles>(
+/// Reads as [`read_host`] does, and answers those beside that watch.
+fn read_watched<R: Threads + Clock + Sync, F: ReadFiles>(
     rt: &R,
     alloc: Global,
     files: &F,
     folder: &str,
     listener: &TcpListener,
-) -> Result<OpenData, Fault>
-    ensures kept { IfOk result (λ opened. IsKeptInSome opened.store) }
+) -> Result<Option<FoundStore>, Fault>
+    ensures read { IfOk result IsFoundOnHost }
     ensures err { IfErr result (IsDataFault folder.now) }
 {
     let process = Process { alloc, files };
@@ -203,33 +123,275 @@ fn open_watched<R: Threads + Clock + Eprint + Sync, F: ReadFiles>(
     let over = AtomicBool::new(false);
     let (watch, ended) = (&watch, &over);
     let apart = || report_opening(rt, alloc, watch, ended);
-    let here = || -> Result<OpenData, Fault>
-        requires { IsSync R.row × IsSync F.row }
-        ensures kept { IfOk result (λ opened. IsKeptInSome opened.store) }
+    let here = || -> Result<Option<FoundStore>, Fault>
+        requires { IsSync F.row }
+        ensures read { IfOk result IsFoundOnHost }
         ensures err { IfErr result (IsDataFault folder.entry.now) }
     {
-        let opened = open_data(rt, alloc, files, folder);
+        let read = read_host(alloc, files, folder);
         ended.store(true, Ordering::SeqCst);
-        opened
+        read
     };
-    let (_, opened) = join(rt, apart, here);
-    opened
+    let (_, read) = join(rt, apart, here);
+    read
 }
 
-/// Opens a store, and answers those beside that watch, if any can.
-fn open_beside<R: Threads + Clock + Eprint + Sync, F: ReadFiles>(
+/// Reads as [`read_host`] does, and answers those beside that watch, if any can.
+fn read_beside<R: Threads + Clock + Sync, F: ReadFiles>(
     rt: &R,
     alloc: Global,
     files: &F,
     folder: &str,
     beside: Option<&TcpListener>,
-) -> Result<OpenData, Fault>
-    ensures kept { IfOk result (λ opened. IsKeptInSome opened.store) }
+) -> Result<Option<FoundStore>, Fault>
+    ensures read { IfOk result IsFoundOnHost }
     ensures err { IfErr result (IsDataFault folder.now) }
 {
     match beside {
-        Some(listener) => open_watched(rt, alloc, files, folder, listener),
-        None => open_data(rt, alloc, files, folder),
+        Some(listener) => read_watched(rt, alloc, files, folder, listener),
+        None => read_host(alloc, files, folder),
+    }
+}
+
+/// Tells that a journal was begun.
+fn tell_begun<R: Eprint>(rt: &R, folder: &str) {
+    let _ = eprintln!(rt; "began {folder}/journal");
+}
+
+/// Tells what a start recovered: the blocks that the head names, if there are any, and the events.
+fn tell_recovered<R: Eprint>(rt: &R, journal: &FoundJournal) {
+    let (blocks, events) = (journal.head.places().len(), journal.events.len());
+    if blocks > 0 {
+        let noun = if blocks == 1 { "block" } else { "blocks" };
+        let _ = eprint!(rt; "recovered {blocks} {noun}, ");
+    } else {
+        let _ = eprint!(rt; "recovered ");
+    }
+    let torn = journal.torn;
+    let noun = if events == 1 { "event" } else { "events" };
+    let _ = if torn == 0 {
+        eprintln!(rt; "{events} {noun}")
+    } else {
+        eprintln!(rt; "{events} {noun}, {torn} bytes of a torn record cut off")
+    };
+}
+
+/// Tells that a journal was begun anew.
+fn tell_rolled<R: Eprint>(rt: &R, folder: &str, blocks: usize, series: usize) {
+    let noun = if blocks == 1 { "block" } else { "blocks" };
+    let _ = eprintln!(rt; "rolled {folder}/journal: {blocks} {noun}, {series} series");
+}
+
+/// Tells that a journal was not begun anew, and goes on.
+fn tell_not_rolled<R: Eprint>(rt: &R, folder: &str, fault: RollFault) {
+    let _ = eprintln!(rt; "did not roll {folder}/journal: {fault}");
+}
+
+/// Saves a store, if that is worth it, and tells what came of it.
+fn roll_data<R: Eprint, N: Beginning, H: Folder + Drop>(
+    rt: &R,
+    alloc: Global,
+    folder: &str,
+    most: u64,
+    kept: StartedStore<N, H>,
+) -> Result<StartedStore<N, H>, Fault>
+    requires { (parts : List BlockPart) × GoesOn H.shows H.kept H.sound H.moment H.left_since
+        N.first kept.keeper.events.journal.medium kept.keeper.events.journal.len
+        kept.keeper.events.journal.closed kept.journal.events.items kept.journal.head.places
+        parts kept.snapshot }
+    ensures journal { IfOk result (λ x. x.journal ≡ kept.journal) }
+    ensures world { IfOk result (λ x. replayed N.first x.journal.events.items
+        ≡ Ok (world_of x.snapshot)) }
+    ensures held { IfOk result (λ x. HoldsStore H.shows H.kept H.sound H.moment H.left_since
+        N.first x.keeper.events.journal.medium x.keeper.events.journal.len
+        x.keeper.events.journal.closed x.journal.events.items) }
+    ensures err { IfErr result (IsDataFault folder.now) }
+{
+    let mut kept = kept;
+    if !kept.is_due(most) {
+        return Ok(kept);
+    }
+    match kept.roll(alloc) {
+        Ok(blocks) => {
+            tell_rolled(rt, folder, blocks, kept.snapshot.head().series_count());
+            Ok(kept)
+        }
+        Err(RollFault::Folder(RollError::Lost)) => Err(unwritable(alloc, folder)),
+        Err(fault) => {
+            tell_not_rolled(rt, folder, fault);
+            Ok(kept)
+        }
+    }
+}
+
+/// Why a store does not go on or begin: its folder is refused, or cannot be written.
+fn not_started(alloc: Global, folder: &str, error: StartError) -> Fault
+    requires { cause_of error ≡ Refused → IsRefusal error }
+    ensures { IsDataFault folder.now result }
+{
+    match error.cause() {
+        StartCause::Memory => Fault::Memory,
+        StartCause::Folder => unwritable(alloc, folder),
+        StartCause::Refused => Fault::Refused(Refusal::Start(error)),
+    }
+}
+
+/// Begins the store of a folder that has none, and tells it.
+fn begin_data<R: Eprint, N: Beginning, H: Folder + Drop>(
+    rt: &R,
+    alloc: Global,
+    disk: H,
+    folder: &str,
+) -> Result<StartedStore<N, H>, Fault>
+    requires read { IsRead H.shows H.kept H.sound disk None }
+    requires first { N.first ≡ world_of (opening_of []) }
+    ensures world { IfOk result (λ x. replayed N.first x.journal.events.items
+        ≡ Ok (world_of x.snapshot)) }
+    ensures held { IfOk result (λ x. HoldsStore H.shows H.kept H.sound H.moment H.left_since
+        N.first x.keeper.events.journal.medium x.keeper.events.journal.len
+        x.keeper.events.journal.closed x.journal.events.items) }
+    ensures err { IfErr result (IsDataFault folder.now) }
+{
+    match begin_store(alloc, disk) {
+        Ok(kept) => {
+            tell_begun(rt, folder);
+            Ok(kept)
+        }
+        Err((error, _)) => Err(not_started(alloc, folder, error)),
+    }
+}
+
+/// Goes on with the store that was found in a folder, tells it, and saves it if that is worth it.
+fn resume_data<R: Eprint, N: Beginning, H: Folder + Drop>(
+    rt: &R,
+    alloc: Global,
+    disk: H,
+    found: FoundStore,
+    folder: &str,
+    most: u64,
+) -> Result<StartedStore<N, H>, Fault>
+    requires sound { H.sound disk ≡ true }
+    requires found { IsFoundStore H.shows H.kept found.journal (map part_in found.blocks.items)
+        disk }
+    requires first { N.first
+        ≡ world_of (started found.journal.head (map part_in found.blocks.items)) }
+    ensures world { IfOk result (λ x. replayed N.first x.journal.events.items
+        ≡ Ok (world_of x.snapshot)) }
+    ensures held { IfOk result (λ x. HoldsStore H.shows H.kept H.sound H.moment H.left_since
+        N.first x.keeper.events.journal.medium x.keeper.events.journal.len
+        x.keeper.events.journal.closed x.journal.events.items) }
+    ensures err { IfErr result (IsDataFault folder.now) }
+{
+    match resume_store(alloc, disk, found) {
+        Ok(kept) => {
+            tell_recovered(rt, &kept.journal);
+            roll_data(rt, alloc, folder, most, kept)
+        }
+        Err((error, _)) => Err(not_started(alloc, folder, error)),
+    }
+}
+
+/// Goes on with the store that was found in a folder, or begins one there. What is answered is the
+/// snapshot that the journal's events make of its head and blocks, and what keeps these events.
+fn start_data<R: Eprint, N: Beginning, H: Folder + Drop>(
+    rt: &R,
+    alloc: Global,
+    disk: H,
+    found: Option<FoundStore>,
+    folder: &str,
+    most: u64,
+) -> Result<StartedStore<N, H>, Fault>
+    requires read { IsRead H.shows H.kept H.sound disk found }
+    requires first { N.first ≡ first_of found }
+    ensures world { IfOk result (λ x. replayed N.first x.journal.events.items
+        ≡ Ok (world_of x.snapshot)) }
+    ensures held { IfOk result (λ x. HoldsStore H.shows H.kept H.sound H.moment H.left_since
+        N.first x.keeper.events.journal.medium x.keeper.events.journal.len
+        x.keeper.events.journal.closed x.journal.events.items) }
+    ensures err { IfErr result (IsDataFault folder.now) }
+{
+    match found {
+        Some(found) => resume_data(rt, alloc, disk, found, folder, most),
+        None => begin_data(rt, alloc, disk, folder),
+    }
+}
+
+/// Starts a store as [`start_data`] does, and answers those beside that watch.
+fn start_watched<
+    R: Threads + Clock + Eprint + Sync,
+    N: Beginning + Send,
+    F: ReadFiles,
+    H: Folder + Drop + Send,
+>(
+    rt: &R,
+    alloc: Global,
+    files: &F,
+    disk: H,
+    found: Option<FoundStore>,
+    folder: &str,
+    most: u64,
+    listener: &TcpListener,
+) -> Result<StartedStore<N, H>, Fault>
+    requires read { IsRead H.shows H.kept H.sound disk found }
+    requires first { N.first ≡ first_of found }
+    ensures world { IfOk result (λ x. replayed N.first x.journal.events.items
+        ≡ Ok (world_of x.snapshot)) }
+    ensures held { IfOk result (λ x. HoldsStore H.shows H.kept H.sound H.moment H.left_since
+        N.first x.keeper.events.journal.medium x.keeper.events.journal.len
+        x.keeper.events.journal.closed x.journal.events.items) }
+    ensures err { IfErr result (IsDataFault folder.now) }
+{
+    let process = Process { alloc, files };
+    let watch = watch_at(listener, &process);
+    let over = AtomicBool::new(false);
+    let (watch, ended) = (&watch, &over);
+    let apart = || report_opening(rt, alloc, watch, ended);
+    let here = || -> Result<StartedStore<N, H>, Fault>
+        requires { IsSync R.row × IsSend H.row
+            × IsRead H.shows H.kept H.sound disk found × (N.first ≡ first_of found) }
+        ensures world { IfOk result (λ x. replayed N.first x.journal.events.items
+            ≡ Ok (world_of x.snapshot)) }
+        ensures held { IfOk result (λ x. HoldsStore H.shows H.kept H.sound H.moment
+            H.left_since N.first x.keeper.events.journal.medium x.keeper.events.journal.len
+            x.keeper.events.journal.closed x.journal.events.items) }
+        ensures err { IfErr result (IsDataFault folder.entry.now) }
+    {
+        let started = start_data(rt, alloc, disk, found, folder, most);
+        ended.store(true, Ordering::SeqCst);
+        started
+    };
+    let (_, started) = join(rt, apart, here);
+    started
+}
+
+/// Starts a store as [`start_data`] does, and answers those beside that watch, if any can.
+fn start_beside<
+    R: Threads + Clock + Eprint + Sync,
+    N: Beginning + Send,
+    F: ReadFiles,
+    H: Folder + Drop + Send,
+>(
+    rt: &R,
+    alloc: Global,
+    files: &F,
+    disk: H,
+    found: Option<FoundStore>,
+    folder: &str,
+    most: u64,
+    beside: Option<&TcpListener>,
+) -> Result<StartedStore<N, H>, Fault>
+    requires read { IsRead H.shows H.kept H.sound disk found }
+    requires first { N.first ≡ first_of found }
+    ensures world { IfOk result (λ x. replayed N.first x.journal.events.items
+        ≡ Ok (world_of x.snapshot)) }
+    ensures held { IfOk result (λ x. HoldsStore H.shows H.kept H.sound H.moment H.left_since
+        N.first x.keeper.events.journal.medium x.keeper.events.journal.len
+        x.keeper.events.journal.closed x.journal.events.items) }
+    ensures err { IfErr result (IsDataFault folder.now) }
+{
+    match beside {
+        Some(listener) => { start_watched(rt, alloc, files, disk, found, folder, most, listener) }
+        None => start_data(rt, alloc, disk, found, folder, most),
     }
 }
 
@@ -238,7 +400,8 @@ fn open_beside<R: Threads + Clock + Eprint + Sync, F: ReadFiles>(
 fn serve_kept<
     'a,
     J: Naming + Send + Sync,
-    M: Medium + Drop + Send,
+    N: Beginning + Send + Sync,
+    H: Folder + Drop + Send,
     R: Wait + Threads + Net<Listener = TcpListener, Stream = TcpStream> + Clock + Eprint + Sync,
     F: ReadFiles,
     W: Write,
@@ -247,7 +410,7 @@ fn serve_kept<
     alloc: Global,
     files: &F,
     store: Store,
-    kept: KeptStore<M>,
+    kept: StartedStore<N, H>,
     rules: &'a Rules,
     beside: Option<&TcpListener>,
     serving: Serving<'_>,
@@ -255,10 +418,10 @@ fn serve_kept<
 ) -> Result<Vec<Shift<'a>>, Fault>
     requires book { store.seen.book ≡ J.book }
     requires opening { kept.snapshot ≡ J.opening }
-    requires held { Holds M.shows M.kept M.sound M.moment M.left_since []
-        kept.keeper.journal.journal.medium kept.keeper.journal.journal.len
-        kept.keeper.journal.journal.closed J.before }
-    requires world { replayed (world_of (opening_of [])) J.before ≡ Ok (world_of J.opening) }
+    requires held { HoldsStore H.shows H.kept H.sound H.moment H.left_since N.first
+        kept.keeper.events.journal.medium kept.keeper.events.journal.len
+        kept.keeper.events.journal.closed J.before }
+    requires world { replayed N.first J.before ≡ Ok (world_of J.opening) }
     ensures ok { OnOk result (TellsPort (W.contents out.old) (W.contents out.new)) }
     ensures workers { IfOk result (λ shifts. vec_len shifts ≡ serving.entry.workers) }
     ensures served { IfOk result (λ shifts. EachServed serving.entry.requests shifts.items) }
@@ -266,25 +429,99 @@ fn serve_kept<
     ensures err { IfErr result (λ fault.
         IsServingFault serving.entry (W.contents out.old) (W.contents out.new) fault) }
 {
-    let KeptStore {
+    let StartedStore {
         snapshot,
         keeper,
-        events,
-        torn: _,
+        journal,
     } = kept;
-    drop(events);
+    drop(journal);
     let seats = seats_of(serving);
     let passes = passes_of(serving);
     let found = (snapshot, keeper);
-    let opened = Workers::<J, &R, JournalKeeper<M>>::resume(
+    let opened = Workers::<J, &R, StoreKeeper<N, H>>::resume(
         rt, alloc, store, found, passes, seats,
     )?;
     let workers = with_cuts(opened, serving);
     serve_workers(rt, alloc, files, workers, rules, beside, serving, out)
 }
 
-/// Serves the store that is kept in a folder, as [`serve_kept`] does: how many connections each
-/// worker served. The folder is locked until each has ended.
+/// The path of the folder of a store.
+#[derive(Clone, Copy)]
+struct DataPath<'a> {
+    path: &'a str,
+}
+
+/// Serves the store that was found in a folder, or that begins there, as [`serve_kept`] does: how
+/// many connections each worker served.
+fn serve_found<
+    N: Beginning + Send + Sync,
+    H: Folder + Drop + Send,
+    R: Wait + Threads + Net<Listener = TcpListener, Stream = TcpStream> + Clock + Eprint + Sync,
+    F: ReadFiles,
+    W: Write,
+>(
+    rt: &R,
+    alloc: Global,
+    files: &F,
+    disk: H,
+    found: Option<FoundStore>,
+    at: DataPath<'_>,
+    rules: &Rules,
+    beside: Option<&TcpListener>,
+    serving: Serving<'_>,
+    out: &mut W,
+) -> Result<Vec<u64>, Fault>
+    requires read { IsRead H.shows H.kept H.sound disk found }
+    requires first { N.first ≡ first_of found }
+    ensures ok { OnOk result (TellsPort (W.contents out.old) (W.contents out.new)) }
+    ensures workers { IfOk result (λ counts. vec_len counts ≡ serving.entry.workers) }
+    ensures served { IfOk result (λ counts. All (λ n. n ≡ serving.entry.requests) counts.items) }
+    ensures err { IfErr result (λ fault. IsKeepingFault at.entry.path.now serving.entry
+        (W.contents out.old) (W.contents out.new) fault) }
+{
+    let most = serving.journal_mb.saturating_mul(MB);
+    let kept = start_beside::<R, N, F, H>(rt, alloc, files, disk, found, at.path, most, beside)?;
+    let name = Store::new();
+    let shifts = serve_kept::<Brand, N, H, R, F, W>(
+        rt, alloc, files, name, kept, rules, beside, serving, out,
+    )?;
+    let counts = counts_of(alloc, shifts.as_slice())?;
+    Ok(counts)
+}
+
+/// Serves the store that a folder was found to have, or that begins there, as [`serve_found`] does.
+fn serve_folder<
+    H: Folder + Drop + Send,
+    R: Wait + Threads + Net<Listener = TcpListener, Stream = TcpStream> + Clock + Eprint + Sync,
+    F: ReadFiles,
+    W: Write,
+>(
+    rt: &R,
+    alloc: Global,
+    files: &F,
+    disk: H,
+    found: Option<FoundStore>,
+    folder: &str,
+    rules: &Rules,
+    beside: Option<&TcpListener>,
+    serving: Serving<'_>,
+    out: &mut W,
+) -> Result<Vec<u64>, Fault>
+    requires { IsRead H.shows H.kept H.sound disk found }
+    ensures ok { OnOk result (TellsPort (W.contents out.old) (W.contents out.new)) }
+    ensures workers { IfOk result (λ counts. vec_len counts ≡ serving.entry.workers) }
+    ensures served { IfOk result (λ counts. All (λ n. n ≡ serving.entry.requests) counts.items) }
+    ensures err { IfErr result (λ fault. IsKeepingFault folder.now serving.entry
+        (W.contents out.old) (W.contents out.new) fault) }
+{
+    let at = DataPath { path: folder };
+    serve_found::<Brand, H, R, F, W>(
+        rt, alloc, files, disk, found, at, rules, beside, serving, out,
+    )
+}
+
+/// Serves the store that is kept in a folder of the host: how many connections each worker served.
+/// The folder is made if there is none, and locked until each has ended.
 pub(crate) fn serve_data<
     R: Wait + Threads + Net<Listener = TcpListener, Stream = TcpStream> + Clock + Eprint + Sync,
     F: ReadFiles,
@@ -305,12 +542,15 @@ pub(crate) fn serve_data<
     ensures err { IfErr result (λ fault. IsKeepingFault folder.now serving.entry
         (W.contents out.old) (W.contents out.new) fault) }
 {
-    let OpenData { lock, store } = open_beside(rt, alloc, files, folder, beside)?;
-    let name = Store::new();
-    let shifts = serve_kept::<Brand, FileMedium, R, F, W>(
-        rt, alloc, files, name, store, rules, beside, serving, out,
+    let Some(host) = files.host() else {
+        return Err(cannot_write(alloc, folder));
+    };
+    let lock = lock_data(alloc, host, folder)?;
+    let found = read_beside(rt, alloc, files, folder, beside)?;
+    let disk = HostFolder::new(host, alloc, folder);
+    let counts = serve_folder(
+        rt, alloc, files, disk, found, folder, rules, beside, serving, out,
     )?;
     drop(lock);
-    let counts = counts_of(alloc, shifts.as_slice())?;
     Ok(counts)
 }

@@ -32,13 +32,13 @@
 
 pub mod check;
 mod command;
-mod data_folder;
 mod demo;
 mod fault;
 mod files;
 mod judgement;
 mod keeping;
 pub mod listing;
+mod locking;
 mod opening;
 mod process;
 mod progress;

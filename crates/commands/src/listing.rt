@@ -9,21 +9,28 @@ ghost use Rattle.commands.specs.Listing.{IsSeriesCount, IsSpan};
 ghost use Rattle.commands.specs.Listing.{batch_start, batch_end, batch_line};
 ghost use Rattle.commands.specs.Listing.{empty_batch_line, deletion_start};
 ghost use Rattle.commands.specs.Listing.{deletion_end, deletion_line, cut_line};
+ghost use Rattle.commands.specs.Faults.{read_fault};
 ghost use Rattle.commands.specs.Listing.{AreLines, summary_line, IsListed, IsListFault, IsFileAt};
+ghost use Rattle.commands.specs.Listing.{head_start, head_end, head_line, saved_samples};
+ghost use Rattle.commands.specs.Listing.{IsListing, IsListingFault};
 ghost use Rattle.commands.specs.Listing.{IsUnreadFile, IsUnreadJournal};
 ghost use Rattle.commands.specs.Reading.{AreFirstBytes};
 ghost use Rattle.commands.specs.Selecting.{KeepsAt};
 
-use crate::data_folder::path_in;
-use crate::fault::Fault;
+use crate::fault::{Fault, Refusal};
 use crate::files::{ReadError, ReadFiles};
+use crate::locking::path_in;
 use crate::sending::send;
-use event_journal::{FoundJournal, read_journal};
 use head::{Event, EventView};
+use head_record::HeadRecord;
 use labels::{LabelSet, Sample};
 use matchers::{Matcher, Op};
 use std::alloc::{AllocError, Global};
 use std::io::Write;
+use store_folder::{
+    FoundJournal, ReadError as JournalFault, StartCause, StartError, begins_plain, read_journal,
+    read_plain,
+};
 
 /// The most bytes of a journal.
 const MOST: usize = 1 << 62;
@@ -288,19 +295,88 @@ fn summary_line(alloc: Global, count: usize, len: usize, size: usize) -> Result<
     format!(in alloc; "{count} events, {len} bytes, {torn} bytes of a torn record\n")
 }
 
-/// The lines of what a journal holds, and the line that sums it up.
-fn listing_of(alloc: Global, found: &FoundJournal, size: usize) -> Result<Vec<u8>, AllocError>
-    ensures { IfOk result (λ text. (lines : List ℕ) × AreLines 0 found.now.events.items lines
-        × (text.items ≡ lines ++ summary_line (length found.now.events.items) found.now.len size)) }
+/// How many samples the series of a head have.
+fn sample_count(head: &HeadRecord) -> u64
+    ensures { result ≡ saved_samples head.now.head }
 {
-    let mut text = lines_of(alloc, &found.events)?;
+    let mut count = 0u64;
+    for series in head.series() {
+        count = count.saturating_add(series.samples().len() as u64);
+    }
+    count
+}
+
+/// The floor of a head and how many blocks it names, as the start of its line.
+fn head_start(alloc: Global, floor: i64, blocks: usize) -> Result<String, AllocError>
+    ensures { IfOk result (λ start. string_bytes start ≡ head_start floor blocks) }
+{
+    format!(in alloc; "head: floor {floor}, {blocks} blocks, ")
+}
+
+/// How many series a head has, and how many samples these have, as the end of its line.
+fn head_end(alloc: Global, series: usize, samples: u64) -> Result<String, AllocError>
+    ensures { IfOk result (λ end. string_bytes end ≡ head_end series samples) }
+{
+    format!(in alloc; "{series} series, {samples} samples\n")
+}
+
+/// Appends the line of a head.
+fn append_head(alloc: Global, out: &mut Vec<u8>, head: &HeadRecord) -> Result<(), AllocError>
+    ensures { OnOk result (out.new.items ≡ out.old.items ++ head_line head.now) }
+{
+    let start = head_start(alloc, head.floor(), head.places().len())?;
+    let end = head_end(alloc, head.series().len(), sample_count(head))?;
+    out.extend_from_slice(start.as_bytes())?;
+    out.extend_from_slice(end.as_bytes())
+}
+
+/// The lines of the events of a journal, and the line that sums it up.
+fn append_events(
+    alloc: Global,
+    text: &mut Vec<u8>,
+    found: &FoundJournal,
+    size: usize,
+) -> Result<(), AllocError>
+    ensures { OnOk result ((lines : List ℕ) × AreLines 0 found.now.events.items lines
+        × (text.new.items ≡ text.old.items
+        ++ (lines ++ summary_line (length found.now.events.items) found.now.len size))) }
+{
+    let lines = lines_of(alloc, &found.events)?;
     let last = summary_line(alloc, found.events.len(), found.len, size)?;
-    text.extend_from_slice(last.as_bytes())?;
+    text.extend_from_slice(lines.as_slice())?;
+    text.extend_from_slice(last.as_bytes())
+}
+
+/// That a journal is refused, or memory failed.
+fn not_read(error: JournalFault) -> Fault
+    ensures { result ≡ read_fault error }
+{
+    let error = StartError::Journal(error);
+    match error.cause() {
+        StartCause::Refused => Fault::Refused(Refusal::Start(error)),
+        StartCause::Memory | StartCause::Folder => Fault::Memory,
+    }
+}
+
+/// The lines of what the journal of a file holds. A journal of events alone has no line of a head.
+fn listing_of(alloc: Global, file: &[u8]) -> Result<Vec<u8>, Fault>
+    ensures ok { IfOk result (λ text. IsListing file.now text.items) }
+    ensures err { IfErr result (IsListingFault file.now) }
+{
+    let mut text = Vec::new(alloc);
+    if begins_plain(file) {
+        let found = read_plain(alloc, file).map_err(not_read)?;
+        append_events(alloc, &mut text, &found, file.len())?;
+        return Ok(text);
+    }
+    let found = read_journal(alloc, file).map_err(not_read)?;
+    append_head(alloc, &mut text, &found.head)?;
+    append_events(alloc, &mut text, &found, file.len())?;
     Ok(text)
 }
 
-/// Lists what the journal at a path holds: a line for each event, and one that sums it up. The path
-/// is that of the journal, or of the folder that it stands in.
+/// Lists what the journal at a path holds: a line for its head, a line for each event, and one that
+/// sums it up. The path is that of the journal, or of the folder that it stands in.
 pub fn list<F: ReadFiles, W: Write>(
     alloc: Global,
     files: &F,
@@ -313,8 +389,7 @@ pub fn list<F: ReadFiles, W: Write>(
     ensures kept { IfErr result (λ fault. KeepsAt fault (W.contents out.old) (W.contents out.new)) }
 {
     let bytes = read_at(alloc, files, path)?;
-    let found = read_journal(alloc, bytes.as_slice())?;
-    let text = listing_of(alloc, &found, bytes.len())?;
+    let text = listing_of(alloc, bytes.as_slice())?;
     send(out, text.as_slice())?;
     Ok(())
 }

@@ -7,23 +7,12 @@
 //! first that is none ([`Refused`]); when all of them are accepted again, [`EventJournal::resume`]
 //! cuts the torn end off and goes on. So a file that is refused is left as it was.
 //!
-//! A [`JournalKeeper`] keeps the events of a store so, all of them, and [`read_store`] makes the store
-//! again from the file that it leaves: what the events make of a store that has nothing. A file that
-//! is refused is told by the first check that failed ([`StartError`]). [`read_journal`] gives the
-//! events themselves.
-//!
 //! It stands on `journal` for records and crashes, on `event_text` for texts, on `keeper` for what it
-//! is to keep events, and on `head` for what they make.
+//! is to keep events, and on `head` for what they are.
 #![tactic(auto)]
 
-mod error;
 mod events;
 mod keep;
-mod keeping;
-mod reading;
 
-pub use error::StartError;
 pub use events::{Refused, one_list, read_events};
 pub use keep::EventJournal;
-pub use keeping::JournalKeeper;
-pub use reading::{FoundJournal, FoundStore, read_journal, read_store};

@@ -34,3 +34,4 @@ pub mod Leaving
 pub mod WorkedRows
 pub mod OwnSteps
 pub mod Replays
+pub mod Resuming

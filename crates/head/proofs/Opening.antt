@@ -17,7 +17,7 @@ use Rattle.labels.proofs.ContentLaws.{or_else, find-laid_over, find-++, find-poi
 use Rattle.labels.proofs.Times.{true_not_false, missing, both_T, T_of}
 use Rattle.block.specs.Blocks.{Shown, AreInside}
 use Rattle.block.specs.Ranges.{covers}
-use Rattle.head.specs.Heads.{EndBy, IsSoundSnapshot}
+use Rattle.head.specs.Heads.{EndBy, AreBelow, IsSoundSnapshot}
 use Rattle.head.specs.Blocks.{part_in, EachInside, opening_floor}
 
 second_true : (a b : Bool) → (a && b) ≡ true → b ≡ true
@@ -75,27 +75,32 @@ none_in_part range floor t l (row ∷ rows) end high inside =
     ∙ ap (λ o. or_else o (find point_cmp (l, t) (points_of (rows_in rows)))) (find-points_in l t row.1.0 row.1.1 ∙ chosen_none (same_labels l row.1.0) (find int_cmp t row.1.1) none)
     ∙ none_in_part range floor t l rows end high inside.1
 
+pub not_below : (m floor : ℤ) → int_le m floor ≡ true → int_lt floor m ≡ false
+not_below m floor e = grind (arith, ints)
+
 -- nor one of the blocks, laid over what has none
-none_in_blocks : (floor t from : ℤ) (l : Labels) (bs : List Shown) (c : Content) → int_lt t floor ≡ false → int_lt floor (end_after from bs) ≡ false → EachInside bs
+none_in_blocks : (floor t : ℤ) (l : Labels) (bs : List Shown) (c : Content) → int_lt t floor ≡ false → EndBy floor (map part_in bs) → EachInside bs
     → find point_cmp (l, t) c ≡ None → find point_cmp (l, t) (over c (map (λ b. b.part) (map part_in bs))) ≡ None
-none_in_blocks floor t from l [] c high above inside none = none
-none_in_blocks floor t from l (b ∷ bs) c high above inside none =
-    let next = int_max from b.range.1 in
-    let end : int_lt floor b.range.1 ≡ false = at_least b.range.1 (end_after next bs) floor (at_least b.range.1 next (end_after next bs) (greater_end from b.range.1) (from_time next bs)) above in
-    none_in_blocks floor t next l bs (laid_over (points_of (rows_in b.part)) c) high above (All-tail (λ (x : Shown). AreInside x.range x.part) b bs inside)
+none_in_blocks floor t l [] c high ends inside none = none
+none_in_blocks floor t l (b ∷ bs) c high ends inside none =
+    none_in_blocks floor t l bs (laid_over (points_of (rows_in b.part)) c) high ends.1 (All-tail (λ (x : Shown). AreInside x.range x.part) b bs inside)
     (find-laid_over (l, t) (points_of (rows_in b.part)) c
-    ∙ ap (λ o. or_else o (find point_cmp (l, t) c)) (none_in_part b.range floor t l b.part end high (All-head (λ (x : Shown). AreInside x.range x.part) b bs inside))
+    ∙ ap (λ o. or_else o (find point_cmp (l, t) c)) (none_in_part b.range floor t l b.part (not_below b.range.1 floor ends.0) high (All-head (λ (x : Shown). AreInside x.range x.part) b bs inside))
     ∙ none)
+
+-- blocks whose ranges end by the floor have no sample from it on
+pub below_by_ends : (floor : ℤ) (bs : List Shown) → EndBy floor (map part_in bs) → EachInside bs → AreBelow floor (map part_in bs)
+below_by_ends floor bs ends inside = record { none = λ l t high. none_in_blocks floor t l bs [] high ends inside refl }
 
 -- the greater of two times is a time
 pub time_of_max : (r t m : ℤ) → r ≡ int_max t m → is_time t ≡ true → is_time m ≡ true → is_time r ≡ true
 time_of_max r t m is e f = ap is_time is ∙ elim (int_lt m t) as (λ b. is_time (cond b t m) ≡ true) [ true ↦ e | false ↦ f ]
 
-not_above : (m floor : ℤ) → int_lt floor m ≡ false → int_le m floor ≡ true
+pub not_above : (m floor : ℤ) → int_lt floor m ≡ false → int_le m floor ≡ true
 not_above m floor e = grind (arith, ints)
 
 -- no range ends above the floor
-ends_by : (floor from : ℤ) (bs : List Shown) → int_lt floor (end_after from bs) ≡ false → EndBy floor (map part_in bs)
+pub ends_by : (floor from : ℤ) (bs : List Shown) → int_lt floor (end_after from bs) ≡ false → EndBy floor (map part_in bs)
 ends_by floor from [] above = tt
 ends_by floor from (b ∷ bs) above =
     let next = int_max from b.range.1 in (
@@ -104,14 +109,13 @@ ends_by floor from (b ∷ bs) above =
     )
 
 pub opening_is_sound : (blocks : List Shown) (copied : ℕ) → length blocks ≤ 63 → EachInside blocks → is_time (opening_floor (map part_in blocks)) ≡ true → IsSoundSnapshot (record { blocks = map part_in blocks; head = []; floor = opening_floor (map part_in blocks); copied = copied })
-opening_is_sound blocks copied few inside time = record {
-  few = subst (λ n. n ≤ 63) (sym (length-map blocks part_in)) few;
-  time = time;
-  ends = ends_by (opening_floor (map part_in blocks)) MIN_TIME blocks
-      (subst (λ end. int_lt (opening_floor (map part_in blocks)) end ≡ false) (end_is MIN_TIME blocks) (self (opening_floor (map part_in blocks))));
-  head = tt;
-  blocks = record {
-    none = λ l t high. none_in_blocks (opening_floor (map part_in blocks)) t MIN_TIME l blocks [] high
-        (subst (λ end. int_lt (opening_floor (map part_in blocks)) end ≡ false) (end_is MIN_TIME blocks) (self (opening_floor (map part_in blocks)))) inside refl;
-  };
-}
+opening_is_sound blocks copied few inside time =
+    let floor = opening_floor (map part_in blocks) in
+    let ends : EndBy floor (map part_in blocks) = ends_by floor MIN_TIME blocks (subst (λ end. int_lt floor end ≡ false) (end_is MIN_TIME blocks) (self floor)) in
+    record {
+      few = subst (λ n. n ≤ 63) (sym (length-map blocks part_in)) few;
+      time = time;
+      ends = ends;
+      head = tt;
+      blocks = below_by_ends floor blocks ends inside;
+    }

@@ -147,7 +147,7 @@ unlike l (h ∷ hs) zero d e inside = (first_absent (same_labels l h.labels) h (
 unlike l (h ∷ hs) (suc i) d e inside = unlike l hs i d (first_absent (same_labels l h.labels) h (series_at l hs) e).1 (omega (arith, inside))
 
 -- no series before one of a sound head has its label set
-absent_before : (floor : ℤ) (n : ℕ) (hs : List HeadSeries) (i : ℕ) (d : HeadSeries) → IsSoundHead floor hs → i < length hs → place_from (slice_index_or hs i d).labels n (take i hs) ≡ None
+pub absent_before : (floor : ℤ) (n : ℕ) (hs : List HeadSeries) (i : ℕ) (d : HeadSeries) → IsSoundHead floor hs → i < length hs → place_from (slice_index_or hs i d).labels n (take i hs) ≡ None
 absent_before floor n [] i d sound inside = absurd (omega (arith, inside))
 absent_before floor n (h ∷ hs) zero d sound inside = refl
 absent_before floor n (h ∷ hs) (suc i) d sound inside =
@@ -155,7 +155,7 @@ absent_before floor n (h ∷ hs) (suc i) d sound inside =
     (same_turn (slice_index_or hs i d).labels h.labels ∙ unlike h.labels hs i d sound.1 (omega (arith, inside)))
     (absent_before floor (n + 1) hs i d sound.2 (omega (arith, inside)))
 
-place_first : (b : Bool) (n : ℕ) (o : Option ℕ) → cond b (Some n) o ≡ None → (b ≡ false) × (o ≡ None)
+pub place_first : (b : Bool) (n : ℕ) (o : Option ℕ) → cond b (Some n) o ≡ None → (b ≡ false) × (o ≡ None)
 place_first true n o e = absurd (true_not_false (ap is_some e))
 place_first false n o e = (refl, e)
 

@@ -6,6 +6,8 @@ use Rattle.head.specs.declared.error.CommitError.{CommitError}
 use Rattle.head.specs.declared.error.CommitError.TheVariants.{OutOfBounds, OutOfOrder, Duplicate}
 use Rattle.head.specs.declared.error.CommitError.TheVariants.{Limit, CutTooLow, TooManyParts, Seat}
 use Rattle.head.specs.declared.error.CommitError.TheVariants.{Journal, Memory}
+use Rattle.head.specs.declared.error.ResumeError.{ResumeError}
+use Rattle.head.specs.declared.error.ResumeError.TheVariants.{Unsound, Memory as NoMemory}
 
 -- the number of a refusal, as text
 abbrev pub append_code : AppendError → List ℕ
@@ -45,6 +47,11 @@ commit_text TooManyParts = codes "E6: there would be more than 63 blocks"
 commit_text Seat = codes "E7: the seat is none of this store's"
 commit_text Journal = codes "E8: the journal did not take the event"
 commit_text Memory = codes "no memory"
+
+-- the number of a refusal, as text
+abbrev pub resume_code : ResumeError → List ℕ
+resume_code Unsound = codes "J17"
+resume_code NoMemory = codes "memory"
 
 -- the number of the refusal of an event whose step is refused so, as text
 abbrev pub replay_code : CommitError → List ℕ

@@ -24,6 +24,7 @@ pub mod Kept
 pub mod Cuts
 pub mod Removing
 pub mod Snapshots
+pub mod Resuming
 pub mod Replaying
 pub mod Codes
 pub mod Outcomes

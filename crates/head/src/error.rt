@@ -1,8 +1,9 @@
 //! Why a sample or an event is refused.
 
 ghost use Rattle.std.specs.Prelude.{◌≡◌};
-ghost use Rattle.head.specs.Codes.{append_code, commit_code, replay_code};
+ghost use Rattle.head.specs.Codes.{append_code, commit_code, replay_code, resume_code};
 ghost use Rattle.head.specs.declared.error.CommitError.TheVariants.{Memory};
+ghost use Rattle.head.specs.declared.error.ResumeError.TheVariants.{Memory as NoMemory};
 
 use std::alloc::AllocError;
 use std::error::Error;
@@ -71,6 +72,27 @@ impl CommitError {
             CommitError::Seat => "E7",
             CommitError::Journal => "E8",
             CommitError::Memory => "memory",
+        }
+    }
+}
+
+/// Why no snapshot is made of what was saved.
+#[derive(Clone, Copy, Debug, PartialEq, Eq, Drop)]
+pub enum ResumeError {
+    /// J17: no snapshot has these blocks, this floor and these series.
+    Unsound,
+    /// No memory.
+    Memory,
+}
+
+impl ResumeError {
+    /// The number of the refusal, or `memory`.
+    pub fn code(self) -> &'static str
+        ensures { result.now ≡ resume_code self }
+    {
+        match self {
+            ResumeError::Unsound => "J17",
+            ResumeError::Memory => "memory",
         }
     }
 }
@@ -151,5 +173,13 @@ impl From<AllocError> for CommitError {
 
     fn from(_error: AllocError) -> CommitError {
         CommitError::Memory
+    }
+}
+
+impl From<AllocError> for ResumeError {
+    ghost from_gives = { λ _ e. e ≡ NoMemory };
+
+    fn from(_error: AllocError) -> ResumeError {
+        ResumeError::Memory
     }
 }

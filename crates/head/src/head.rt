@@ -12,6 +12,7 @@ ghost use Rattle.labels.proofs.PartProps.{IsPart-prop};
 use crate::MAX_SERIES;
 use crate::index::Index;
 use crate::order::Order;
+use crate::saved::SavedSeries;
 use crate::series::{Series, SeriesList};
 use labels::{LabelSet, Row, Sample, SeriesRef};
 use pages::PagedList;
@@ -94,6 +95,13 @@ impl HeadView {
         &self.order
     }
 
+    /// How many series there are.
+    pub fn series_count(&self) -> usize
+        ensures { result ≡ length (series_of self.now) }
+    {
+        self.series.len()
+    }
+
     /// How many old samples the event that made this version copied.
     pub fn copied(&self) -> u64
         ensures { result ≡ copied_of self.now }
@@ -164,5 +172,18 @@ impl HeadView {
             rows.push(self.row_at(alloc, place)?)?;
         }
         Ok(rows)
+    }
+
+    /// What is saved of each series, in order of creation; also of a series without a sample. It
+    /// copies the samples; the texts of the label sets are shared.
+    pub fn saved(&self, alloc: Global) -> Result<Vec<SavedSeries>, AllocError>
+        ensures all { IfOk result (λ all. all.items ≡ series_of self.now) }
+        ensures few { IfOk result (λ all. length all.items ≤ MAX_SERIES) }
+    {
+        let mut all = Vec::with_capacity(alloc, self.series.len())?;
+        for place in 0..self.series.len() {
+            all.push(self.series.at(place).saved(alloc)?)?;
+        }
+        Ok(all)
     }
 }

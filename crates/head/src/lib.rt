@@ -18,8 +18,10 @@
 //! floor; where a sample leaves the head, `E6` where there are 63 blocks, and then `E4` where the
 //! index or the chunks of the new block would take more than 1 GiB.
 //!
-//! [`replay`] applies events one after another, and refuses (`J18`) the first that is none of such a
-//! list.
+//! What is saved of a head ([`HeadView::saved`]) is its series; [`Snapshot::resumed`] makes a
+//! snapshot of them again, with the floor and the blocks, or refuses (`J17`) what no snapshot has.
+//! [`replay`] applies events one after another, and refuses (`J18`) the first that is none of such
+//! a list.
 //!
 //! ```
 //! let opening = Snapshot::opening(alloc, Vec::new(alloc)).ok()?;
@@ -55,7 +57,9 @@ mod order;
 mod reference_list;
 mod references;
 mod replaying;
+mod resume;
 mod row_batch;
+mod saved;
 mod selection;
 mod series;
 mod snapshot;
@@ -63,7 +67,7 @@ mod source;
 mod span;
 
 pub use cut::MAX_BLOCKS;
-pub use error::{AppendError, CommitError, RefusedEvent};
+pub use error::{AppendError, CommitError, RefusedEvent, ResumeError};
 pub use event::{Event, EventView, MAX_BATCH};
 pub use head::HeadView;
 pub use list::HeadList;
@@ -71,6 +75,7 @@ pub use live::LiveList;
 pub use postings::PartName;
 pub use replaying::replay;
 pub use row_batch::RowBatch;
+pub use saved::SavedSeries;
 pub use snapshot::{Snapshot, apply, apply_rows};
 pub use span::Span;
 

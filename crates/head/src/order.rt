@@ -100,7 +100,7 @@ impl Model for Order {
 }
 
 impl Order {
-    ghost use Rattle.std.specs.Prelude.{T, Some, IfSome, IfNone, None};
+    ghost use Rattle.std.specs.Prelude.{T, Some, IfSome, IfNone, None, is_some};
     ghost use Rattle.std.specs.FinMap.Entries.{is_sorted};
 
     /// The order of no label set.
@@ -151,6 +151,18 @@ impl Order {
             }
             Err(_) => None,
         }
+    }
+
+    /// Whether a label set has a place.
+    pub(crate) fn has(&self, labels: &LabelSet) -> bool
+        ensures { result ≡ is_some (find labels_cmp labels.now self.now) }
+    {
+        let mut near = Spot {
+            group: 0,
+            page: 0,
+            at: 0,
+        };
+        self.place_of(labels, &mut near).is_some()
     }
 
     /// Gives a label set a place. After an `Err` all is as it was.

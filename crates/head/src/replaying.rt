@@ -2,7 +2,7 @@
 
 ghost use Rattle.std.specs.Prelude.{◌≡◌, Ok, IfOk, IfErr};
 ghost use Rattle.head.specs.Heads.{world_of};
-ghost use Rattle.head.specs.Replaying.{RefusesAt};
+ghost use Rattle.head.specs.Replaying.{DeleteNothing, RefusesAt, StandFirst};
 ghost use Rattle.head.specs.Worlds.{replayed};
 
 use crate::error::RefusedEvent;
@@ -16,6 +16,9 @@ pub fn replay(alloc: Global, at: Snapshot, events: &[Event]) -> Result<Snapshot,
     ensures ok { IfOk result (λ s. replayed (world_of at) events.now ≡ Ok (world_of s)) }
     ensures refused { IfErr result (λ refused.
         RefusesAt (world_of at) events.now refused.at refused.error) }
+    // If none of the events is a deletion, the blocks stay as they were, and those that cuts add
+    // stand after them.
+    ensures blocks { IfOk result (λ s. DeleteNothing events.now → StandFirst at.blocks s.blocks) }
 {
     let mut snapshot = at;
     for place in 0..events.len() {

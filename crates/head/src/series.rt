@@ -5,6 +5,7 @@ ghost use Rattle.std.specs.Prelude.{nat_le, OnErr};
 ghost use Rattle.std.specs.Arc.{arc_value};
 ghost use Rattle.std.specs.Prelude.{T};
 ghost use Rattle.std.specs.Ordering.{int_cmp};
+ghost use Rattle.std.specs.List.{list_all};
 ghost use Rattle.std.specs.FinMap.Entries.{is_sorted};
 ghost use Rattle.labels.specs.Contents.{in_range};
 ghost use Rattle.labels.specs.Parts.{has_sample, within};
@@ -15,6 +16,7 @@ ghost use Rattle.head.specs.Taking.{grown};
 ghost use Rattle.head.specs.Removing.{outside, series_less};
 
 use crate::MAX_SAMPLES;
+use crate::saved::SavedSeries;
 use labels::{LabelSet, Sample};
 use pages::PagedList;
 use std::alloc::{AllocError, Global};
@@ -198,6 +200,13 @@ fn is_within(sample: Sample, from: i64, to: i64) -> bool
     sample.t() >= from && sample.t() <= to
 }
 
+/// Whether all samples lie in the closed range.
+pub(crate) fn are_within(samples: &[Sample], from: i64, to: i64) -> bool
+    ensures { result ≡ list_all (λ s. in_range from to s.0) samples.now }
+{
+    samples.iter().all(|sample| is_within(*sample, from, to))
+}
+
 /// Adds those of the samples whose times lie in the closed range.
 fn push_within(
     found: &mut Vec<Sample>,
@@ -232,6 +241,31 @@ impl Series {
             tail,
             newest: sample,
         })
+    }
+
+    /// The series that was saved so.
+    pub(crate) fn of_saved(alloc: Global, saved: &SavedSeries) -> Result<Series, AllocError>
+        ensures { IfOk result (λ s. s ≡ saved.now) }
+    {
+        let mut series = Series {
+            labels: saved.labels().try_clone()?,
+            sealed: Sealed::new(),
+            tail: Vec::new(alloc),
+            newest: saved.newest(),
+        };
+        for sample in saved.samples() {
+            series.append(alloc, *sample)?;
+        }
+        Ok(series)
+    }
+
+    /// What is saved of the series: a copy of its samples.
+    pub(crate) fn saved(&self, alloc: Global) -> Result<SavedSeries, AllocError>
+        ensures { IfOk result (λ s. s ≡ self.now) }
+    {
+        let labels = self.labels.try_clone()?;
+        let samples = self.samples(alloc)?;
+        Ok(SavedSeries::new(labels, samples, self.newest))
     }
 
     /// An equal series, which shares all but the open chunk, and how many samples that one has. It

@@ -49,7 +49,7 @@ ghost use Rattle.head.specs.Shown.{series_of, copied_of};
 ghost use Rattle.std.specs.Prelude.{[], map};
 
 /// The greatest end of the blocks' ranges, or the smallest time where there is no block.
-fn floor_of(blocks: &[Block]) -> i64
+pub(crate) fn floor_of(blocks: &[Block]) -> i64
     ensures floor { result ≡ opening_floor (map part_in blocks.now) }
     ensures time { is_time result ≡ true }
     ensures inside { EachInside blocks.now }

@@ -1,6 +1,5 @@
 pub mod Codes
 pub mod Contents
-pub mod FileMedium
 pub mod Group
 pub mod Media
 pub mod MemoryMedium

@@ -15,16 +15,13 @@
 //! assert_eq!(rt; found.contents.len(), 1);
 //! ```
 //!
-//! [`FileMedium`] is a file of the system, of which no clause tells what a crash leaves: that its
-//! calls are the ones that their names say has to be read. [`MemoryMedium`] is for tests, and
-//! tells. It stands on `wire`. What is written is in docs/FORMATS.md; that a record has a length
-//! and a CRC-32C is the form of the logs of Prometheus and LevelDB, and the checksum of the length
-//! is this project's own.
+//! [`MemoryMedium`] is a medium for tests. It stands on `wire`. What is written is in
+//! docs/FORMATS.md; that a record has a length and a CRC-32C is the form of the logs of Prometheus
+//! and LevelDB, and the checksum of the length is this project's own.
 #![tactic(auto)]
 
 mod durable_write;
 mod error;
-mod file_medium;
 mod journal;
 mod medium;
 mod memory_medium;
@@ -33,7 +30,6 @@ mod recovery;
 mod texts;
 
 pub use error::JournalError;
-pub use file_medium::{FileMedium, open_file};
 pub use journal::{Journal, cut_end};
 pub use medium::{Medium, MediumError};
 pub use memory_medium::MemoryMedium;

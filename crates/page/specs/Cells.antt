@@ -1,10 +1,10 @@
 -- How numbers of the reply stand in a page: in decimal.
 use Rattle.std.specs.Prelude.{ℕ, ℤ, List, ◌++◌, codes, decimal}
 use Rattle.std.specs.Fmt.{signed_decimal}
+use Rattle.page_escape.specs.Escaping.{word_text}
 use Rattle.page_text.specs.declared.attribute.Key.TheVariants as keys
 use Rattle.page_text.specs.declared.tag.Tag.{Tag}
 use Rattle.page_text.specs.declared.tag.Tag.TheVariants as tags
-use Rattle.page_text.specs.Escaping.{word_text}
 use Rattle.page_text.specs.Markup.{tag_name, key_name}
 use Rattle.page_text.specs.Printing.{value_front, close_text, counted}
 

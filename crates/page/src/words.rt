@@ -1,7 +1,8 @@
 //! Short ways to grow a tree.
 
 use crate::pen::Pen;
-use page_text::{Attribute, Key, Subject, Tag, is_invisible};
+use page_escape::is_invisible;
+use page_text::{Attribute, Key, Subject, Tag};
 use std::alloc::{AllocError, Global};
 
 /// An element with no attribute that holds a constant.

@@ -1,4 +1,3 @@
-pub mod Escaping
 pub mod Growing
 pub mod Marks
 pub mod Markup

@@ -3,11 +3,11 @@ use Rattle.std.specs.Prelude.{ℕ, List, [], ◌++◌, codes, decimal, if◌then
 use Rattle.std.specs.Char.{encode_utf8}
 use Rattle.std.specs.Fmt.{signed_decimal}
 use Rattle.std.specs.List.{flat_map}
+use Rattle.page_escape.specs.Escaping.{is_invisible, high_digits, low_digits}
 use Rattle.page_text.specs.declared.mark.Mark.{Mark}
 use Rattle.page_text.specs.declared.mark.Mark.TheVariants as marks
 use Rattle.page_text.specs.declared.piece.Piece.{Piece}
 use Rattle.page_text.specs.declared.piece.Piece.TheVariants as pieces
-use Rattle.page_text.specs.Escaping.{is_invisible, high_digits, low_digits}
 use Rattle.page_text.specs.Printing.{counted}
 
 unfoldable pub code_front : List ℕ

@@ -3,6 +3,7 @@ use Rattle.std.specs.Prelude.{ℕ, ◌-◌, ◌/◌, ◌%◌, ◌==◌, ◌&&◌
 use Rattle.std.specs.Prelude.{codes, decimal, if◌then◌else◌}
 use Rattle.std.specs.Fmt.{signed_decimal}
 use Rattle.std.specs.List.{flat_map}
+use Rattle.page_escape.specs.Escaping.{word_text, leaf_text}
 use Rattle.page_text.specs.declared.attribute.Attribute.{Attribute}
 use Rattle.page_text.specs.declared.attribute.Attribute.TheVariants as attributes
 use Rattle.page_text.specs.declared.attribute.Move.{Move}
@@ -13,7 +14,6 @@ use Rattle.page_text.specs.declared.mark.Mark.TheVariants as marks
 use Rattle.page_text.specs.declared.piece.Piece.{Piece}
 use Rattle.page_text.specs.declared.piece.Piece.TheVariants as pieces
 use Rattle.page_text.specs.declared.tag.Tag.{Tag}
-use Rattle.page_text.specs.Escaping.{word_text, leaf_text}
 use Rattle.page_text.specs.Markup.{tag_name, key_name}
 
 -- what stands behind a digit before so many others

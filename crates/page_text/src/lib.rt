@@ -19,11 +19,10 @@
 //! assert_eq!(rt; print(alloc, pieces.as_slice())?.as_str(), "<code>a&lt;b</code>");
 //! ```
 //!
-//! It stands on nothing but std.
+//! It stands on `page_escape`.
 #![tactic(auto)]
 
 mod attribute;
-mod escape;
 mod mark;
 mod numbers;
 mod piece;
@@ -33,7 +32,6 @@ mod tag;
 mod tree;
 
 pub use attribute::{Attribute, Key, Move};
-pub use escape::is_invisible;
 pub use mark::{Mark, Subject, marks_of, same_marks};
 pub use piece::Piece;
 pub use plain::print_plain;

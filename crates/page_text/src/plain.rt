@@ -5,10 +5,10 @@ ghost use Rattle.std.specs.List.{flat_map};
 ghost use Rattle.page_text.specs.Plain.{code_front, code_end, code_text, seen_char, plain_piece};
 ghost use Rattle.page_text.specs.Plain.{plain_mark, plain_text};
 
-use crate::escape::{append_high_digits, append_low_digits, is_invisible};
 use crate::mark::Mark;
 use crate::numbers::{append_counted, append_integer, append_number};
 use crate::piece::Piece;
+use page_escape::{append_high_digits, append_low_digits, is_invisible};
 use std::alloc::AllocError;
 
 #[tactic(auto, unfolding(crate::specs::Plain::code_front))]

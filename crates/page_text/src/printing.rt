@@ -10,11 +10,11 @@ ghost use Rattle.page_text.specs.Printing.{fill_text, tile_front, tile_place, ti
 ghost use Rattle.page_text.specs.Printing.{mark_text};
 
 use crate::attribute::{Attribute, Key, Move, key_name};
-use crate::escape::{append_leaf, append_word};
 use crate::mark::Mark;
 use crate::numbers::{append_counted, append_integer, append_number, append_share};
 use crate::piece::Piece;
 use crate::tag::{Tag, tag_name};
+use page_escape::{append_leaf, append_word};
 use std::alloc::AllocError;
 
 /// Appends a letter and a place.

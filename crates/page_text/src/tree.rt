@@ -3,7 +3,7 @@
 ghost use Rattle.std.specs.Prelude.{◌≡◌, ◌+◌, ◌≤◌, ◌++◌, ◌∷◌, [], Some, codes, decimal, length};
 ghost use Rattle.std.specs.Prelude.{reverse, IfOk, OnOk};
 ghost use Rattle.std.specs.Fmt.{signed_decimal};
-ghost use Rattle.page_text.specs.Escaping.{word_text, leaf_text};
+ghost use Rattle.page_escape.specs.Escaping.{word_text, leaf_text};
 ghost use Rattle.page_text.specs.Printing.{counted, head_text, mark_text, piece_text};
 ghost use Rattle.page_text.specs.Nesting.{left_open, KeepsOpen, IsContent};
 

@@ -5,7 +5,7 @@ use Rattle.std.proofs.lemmas.List.{append-nil}
 use Rattle.std.proofs.lemmas.Grind.{take_at_read}
 use Rattle.index_reader.specs.declared.chunk.Chunk.{Chunk}
 use Rattle.xor_reader.specs.Grammar.{Sample}
-use Rattle.prometheus_block.specs.declared.keeping.Times.{Times}
+use Rattle.kept_samples.specs.declared.keeping.Times.{Times}
 use Rattle.prometheus_block.specs.Series.{Segments, AreSamplesOf, AreSamplesIn}
 
 -- what a chunk has, on its own

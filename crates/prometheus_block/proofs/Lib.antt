@@ -1,5 +1,4 @@
 pub mod Chained
-pub mod Fates
 pub mod Narrower
 pub mod Opened
 pub mod Rising

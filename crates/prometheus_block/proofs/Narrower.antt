@@ -25,18 +25,19 @@ use Rattle.imported_values.specs.declared.policy.Stale.TheVariants as stale
 use Rattle.imported_values.specs.declared.policy.Verdict.{Verdict}
 use Rattle.imported_values.specs.declared.policy.Verdict.TheVariants.{Kept, Rounded, Left, Refused}
 use Rattle.imported_values.specs.Values.{IsExact, IsVerdict, IsVerdictOfRest, verdict_of_stale}
-use Rattle.prometheus_block.specs.declared.keeping.Asked.{Asked}
-use Rattle.prometheus_block.specs.declared.keeping.Fate.{Fate}
-use Rattle.prometheus_block.specs.declared.keeping.Fate.TheVariants.{Outside, Deleted, Judged}
-use Rattle.prometheus_block.specs.declared.keeping.Tally.{Tally}
-use Rattle.prometheus_block.specs.declared.keeping.Times.{Times}
+use Rattle.kept_samples.specs.declared.keeping.Asked.{Asked}
+use Rattle.kept_samples.specs.declared.keeping.Fate.{Fate}
+use Rattle.kept_samples.specs.declared.keeping.Fate.TheVariants.{Outside, Deleted, Judged}
+use Rattle.kept_samples.specs.declared.keeping.Tally.{Tally}
+use Rattle.kept_samples.specs.declared.keeping.Times.{Times}
 use Rattle.prometheus_block.specs.declared.rows.Wanted.{Wanted}
-use Rattle.prometheus_block.specs.Keeping.{AreFates, IsFate, is_asked, is_deleted, kept_of}
-use Rattle.prometheus_block.specs.Keeping.{kept_one}
+use Rattle.kept_samples.specs.Keeping.{AreFates, IsFate, is_asked, is_deleted, kept_of}
+use Rattle.kept_samples.specs.Keeping.{kept_one}
 use Rattle.prometheus_block.specs.Reading.{Held, chunk_read}
 use Rattle.prometheus_block.specs.Narrowing.{AreReadAlike, IsPartOf}
 use Rattle.prometheus_block.specs.Rows.{AreRowsOf, IsAskedOf, IsRowAfter, row_if, rows_between}
-use Rattle.prometheus_block.specs.Series.{Segments, AreHeldBy, AreSamplesIn, AreSamplesOf, meets}
+use Rattle.prometheus_block.specs.Series.{Segments, AreHeldBy, AreSamplesIn, AreSamplesOf}
+use Rattle.kept_samples.specs.Keeping.{meets}
 use Rattle.prometheus_block.specs.declared.error.SourceError.{SourceError}
 use Rattle.prometheus_block.proofs.Rising.{LieIn, chunk_lies}
 

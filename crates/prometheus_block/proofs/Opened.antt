@@ -9,10 +9,11 @@ use Rattle.chunk_reader.specs.declared.error.ChunkError.TheVariants.{Magic, Vers
 use Rattle.chunk_reader.specs.Reading.{opened}
 use Rattle.index_reader.specs.declared.chunk.Chunk.{Chunk}
 use Rattle.xor_reader.specs.Grammar.{Sample}
-use Rattle.prometheus_block.specs.declared.keeping.Times.{Times}
+use Rattle.kept_samples.specs.declared.keeping.Times.{Times}
 use Rattle.prometheus_block.specs.declared.segments.Held.{Held}
 use Rattle.prometheus_block.specs.Reading.{chunk_read}
-use Rattle.prometheus_block.specs.Series.{Segments, IsHeld, AreHeldBy, AreSamplesOf, meets}
+use Rattle.prometheus_block.specs.Series.{Segments, IsHeld, AreHeldBy, AreSamplesOf}
+use Rattle.kept_samples.specs.Keeping.{meets}
 
 pub opened_same : (file x : List ℕ) → opened file ≡ Ok x → file ≡ x
 unfolding opened

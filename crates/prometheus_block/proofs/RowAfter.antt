@@ -13,11 +13,11 @@ use Rattle.labels.specs.Rows.{Row}
 use Rattle.index_reader.specs.declared.chunk.Chunk.{Chunk}
 use Rattle.index_reader.specs.Indexes.{Series}
 use Rattle.xor_reader.specs.Grammar.{Sample}
-use Rattle.prometheus_block.specs.declared.keeping.Asked.{Asked}
-use Rattle.prometheus_block.specs.declared.keeping.Tally.{Tally}
+use Rattle.kept_samples.specs.declared.keeping.Asked.{Asked}
+use Rattle.kept_samples.specs.declared.keeping.Tally.{Tally}
 use Rattle.prometheus_block.specs.declared.rows.KeptSeries.{KeptSeries}
 use Rattle.prometheus_block.specs.declared.rows.Wanted.{Wanted}
-use Rattle.prometheus_block.specs.Keeping.{Keeps}
+use Rattle.kept_samples.specs.Keeping.{Keeps}
 use Rattle.prometheus_block.specs.Series.{Segments, AreSamplesIn}
 use Rattle.prometheus_block.specs.Rows.{IsAskedOf, IsRowAfter, AreRowsOf, ArePlaced, row_if}
 use Rattle.prometheus_block.specs.Rows.{no_series, row_kept, rows_kept}

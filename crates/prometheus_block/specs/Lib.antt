@@ -1,5 +1,4 @@
 pub mod Codes
-pub mod Keeping
 pub mod Narrowing
 pub mod Outcome
 pub mod Reading

@@ -2,7 +2,7 @@
 use Rattle.std.specs.Prelude.{◌≡◌, ℕ, List, ◌≤ℤ◌}
 use Rattle.labels.specs.Rows.{Row}
 use Rattle.index_reader.specs.Indexes.{Series}
-use Rattle.prometheus_block.specs.declared.keeping.Tally.{Tally}
+use Rattle.kept_samples.specs.declared.keeping.Tally.{Tally}
 use Rattle.prometheus_block.specs.declared.rows.Wanted.{Wanted}
 use Rattle.prometheus_block.specs.Rows.{AreRowsOf, rows_between}
 use Rattle.prometheus_block.specs.Series.{Segments}

@@ -3,7 +3,8 @@ use Rattle.std.specs.Prelude.{◌≡◌, ◌⊎◌, ℕ, ℤ, ◌/◌, ◌%◌, 
 use Rattle.std.specs.Prelude.{◌++◌, Option, Some, Ok, IfSome, int_le}
 use Rattle.index_reader.specs.declared.chunk.Chunk.{Chunk}
 use Rattle.xor_reader.specs.Grammar.{Sample}
-use Rattle.prometheus_block.specs.declared.keeping.Times.{Times}
+use Rattle.kept_samples.specs.Keeping.{meets}
+use Rattle.kept_samples.specs.declared.keeping.Times.{Times}
 use Rattle.prometheus_block.specs.declared.segments.Held.{Held}
 use Rattle.prometheus_block.specs.Reading.{chunk_read}
 
@@ -18,10 +19,6 @@ IsHeld reads held = IfSome held.segment (λ bytes. reads held.number bytes)
 -- the segment with this number is held
 abbrev pub IsHeldAs : Held → ℕ → Type 0
 IsHeldAs held number = held.number ≡ number
-
--- whether the times of a chunk meet a closed range
-abbrev pub meets : Times → Chunk → Bool
-meets times c = int_le c.mint times.to && int_le times.from c.maxt
 
 -- the chunk holds these samples: it stands in its segment, whose number is the upper 32 bits of its
 -- reference, at the place that the lower 32 bits are; where it holds histograms, they are none

@@ -6,11 +6,11 @@ ghost use Rattle.prometheus_block.specs.Series.{IsHeld};
 ghost use Rattle.prometheus_block.specs.Rows.{AreRowsOf, IsRowAfter, ArePlaced, rows_kept};
 
 use crate::error::SourceError;
-use crate::keeping::{Asked, KeepError, Tally, Times, keep_samples};
 use crate::segments::{Held, ReadSegments};
 use crate::series::read_series;
 use imported_values::Policy;
 use index_reader::Index;
+use kept_samples::{Asked, KeepError, Tally, Times, keep_samples};
 use labels::{Row, Sample};
 use std::alloc::{AllocError, AllocFailed, Global};
 use tombstones::Tombstones;

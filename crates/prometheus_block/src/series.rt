@@ -5,9 +5,9 @@ ghost use Rattle.prometheus_block.specs.Series.{AreSamplesOf, AreSamplesIn, IsHe
 
 use crate::chunk::{Counted, counts_of, read_chunk};
 use crate::error::SourceError;
-use crate::keeping::Times;
 use crate::segments::{Held, ReadSegments};
 use index_reader::Chunk;
+use kept_samples::Times;
 use std::alloc::Global;
 use xor_reader::FloatSample;
 

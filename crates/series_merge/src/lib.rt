@@ -15,9 +15,13 @@
 //! assert_eq!(rt; (answers.len(), rows.len()), (3, 1));
 //! ```
 //!
+//! [`merged_rows`] keeps none a second time where one answer alone has rows.
+//!
 //! It stands on `labels` and `cover`.
 #![tactic(auto)]
 
 mod merging;
+mod one_part;
 
 pub use merging::merge;
+pub use one_part::{MergedRows, merged_rows};

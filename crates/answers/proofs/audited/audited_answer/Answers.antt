@@ -1,5 +1,5 @@
 use Rattle.std.proofs.Common.{subst}
-use Rattle.answers.specs.MergedRows.{AreMergedFrom}
+use Rattle.series_merge.specs.OnePart.{AreMergedFrom}
 use Rattle.answers.proofs.OnePart.{rows_are_selected}
 use Rattle.answers.proofs.audited.audited_answer.Goals as goal
 

@@ -1,7 +1,8 @@
-use Rattle.commands.proofs.Servings.{all_counted}
+use Rattle.commands.proofs.Hosts.{found_in_each}
 use Rattle.commands.proofs.keeping.serve_data.Goals as goal
 
-pub returns-clause-served : goal.returns-clause-served
-returns-clause-served g c =
-    all_counted c.as_slice.result.now c.in_ok-counts.counts.items c.args.serving.requests
-    c.in_ok-counts.ensures (rw c.as_slice.ensures.value c.in_ok-shifts.ensures.served)
+pub serve_folder-requires-after_bounds : goal.serve_folder-requires-after_bounds
+serve_folder-requires-after_bounds g c κs within = record {
+  has = found_in_each c.new-disk.result tt c.in_ok-found.found c.in_ok-found.ensures.read;
+  is_sound = c.new-disk.ensures;
+}

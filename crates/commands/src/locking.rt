@@ -1,0 +1,147 @@
+//! The folder of a store that is kept: its lock, and where its files stand.
+
+ghost use Rattle.std.specs.Prelude.{◌≡◌, ◌++◌, codes, decimal, string_bytes, IfOk, IfErr};
+ghost use Rattle.commands.specs.Keeping.{path_in, IsFolderFault};
+ghost use Rattle.commands.specs.Keeping.{IsWriteFault, IsReadFault};
+
+use crate::fault::{Fault, Holder};
+use crate::process::number_in;
+use std::alloc::{AllocError, Global};
+use std::fs::{self, File, OpenOptions, TryLockError};
+use std::io::{self, ErrorKind, Read, Write};
+use std::process;
+
+/// Why a folder is not locked.
+#[derive(Clone, Copy, Debug, PartialEq, Eq, Drop)]
+enum LockError {
+    /// Another process has it.
+    Held(Holder),
+    /// The lock file can't be opened.
+    Failed,
+}
+
+pub(crate) fn path_in(alloc: Global, folder: &str, name: &str) -> Result<String, AllocError>
+    ensures { IfOk result (λ path. string_bytes path ≡ path_in folder.now name.now) }
+{
+    format!(in alloc; "{folder}/{name}")
+}
+
+/// The path of the folder of the block with this number.
+pub(crate) fn block_path_in(alloc: Global, folder: &str, number: u64) -> Result<String, AllocError>
+    ensures { IfOk result (λ path.
+        string_bytes path ≡ path_in folder.now (codes "blocks/" ++ decimal number)) }
+{
+    format!(in alloc; "{folder}/blocks/{number}")
+}
+
+/// That what stands at a path cannot be written.
+pub(crate) fn cannot_write(alloc: Global, path: &str) -> Fault
+    ensures { IsWriteFault path.now result }
+{
+    match path.to_string(alloc) {
+        Ok(path) => Fault::CannotWriteAt(path),
+        Err(_) => Fault::Memory,
+    }
+}
+
+/// That what stands at a path cannot be read.
+pub(crate) fn cannot_read(alloc: Global, path: &str) -> Fault
+    ensures { IsReadFault path.now result }
+{
+    match path.to_string(alloc) {
+        Ok(path) => Fault::CannotRead(path),
+        Err(_) => Fault::Memory,
+    }
+}
+
+/// The folder that another stands in.
+fn parent_of(folder: &str) -> &str {
+    match folder.trim_end_matches('/').rsplit_once('/') {
+        Some(("", _)) => "/",
+        Some((parent, _)) => parent,
+        None => ".",
+    }
+}
+
+/// Syncs a folder: what was made and renamed in it stays.
+fn sync_folder(host: &HostRuntime, folder: &str) -> io::Result<()> {
+    File::open(host, folder)?.sync_all()
+}
+
+/// Makes a folder if nothing stands there, and syncs the one that it stands in, whoever made it: a
+/// start that made it may have ended before that. If it was there, nothing fails by that sync,
+/// since whoever may pass the folder above may not always open it.
+fn make_folder(host: &HostRuntime, folder: &str) -> io::Result<()> {
+    let stood = match fs::create_dir(host, folder) {
+        Ok(()) => false,
+        Err(error) if error.kind() == ErrorKind::AlreadyExists => true,
+        Err(error) => return Err(error),
+    };
+    match sync_folder(host, parent_of(folder)) {
+        Err(error) if !stood => Err(error),
+        _ => Ok(()),
+    }
+}
+
+/// The process that a lock file names, if it names one.
+fn holder_in(file: &File) -> Holder {
+    let mut text = [0u8; 20];
+    let mut reader = file;
+    if reader.read(&mut text).is_err() {
+        return Holder::Another;
+    }
+    match number_in(&text) {
+        0 => Holder::Another,
+        number => Holder::Process(number),
+    }
+}
+
+/// Names this process in a lock file, for those that find it locked.
+fn name_holder(host: &HostRuntime, file: &mut File) -> io::Result<()> {
+    let number = process::id(host.process());
+    file.set_len(0)?;
+    writeln!(file, "{number}")
+}
+
+fn open_lock(host: &HostRuntime, path: &str) -> io::Result<File> {
+    let mut how = OpenOptions::new();
+    how.read(true).write(true).create(true);
+    how.open(host, path)
+}
+
+/// Locks a file, which is made where none stands, until what is given back is dropped.
+fn lock_file(host: &HostRuntime, path: &str) -> Result<File, LockError> {
+    let Ok(mut file) = open_lock(host, path) else {
+        return Err(LockError::Failed);
+    };
+    match file.try_lock() {
+        Ok(()) => {
+            let _ = name_holder(host, &mut file);
+            Ok(file)
+        }
+        Err(TryLockError::WouldBlock) => Err(LockError::Held(holder_in(&file))),
+        Err(TryLockError::Error(_)) => Err(LockError::Failed),
+    }
+}
+
+/// Locks a folder by the lock file in it.
+fn lock_folder(alloc: Global, host: &HostRuntime, folder: &str) -> Result<File, Fault>
+    ensures { IfErr result (IsFolderFault folder.now) }
+{
+    let path = path_in(alloc, folder, "lock")?;
+    match lock_file(host, path.as_str()) {
+        Ok(file) => Ok(file),
+        Err(LockError::Held(holder)) => Err(Fault::Locked(folder.to_string(alloc)?, holder)),
+        Err(LockError::Failed) => Err(cannot_write(alloc, path.as_str())),
+    }
+}
+
+/// Makes a folder where there is none, and locks it until what is given back is dropped.
+pub(crate) fn lock_data(alloc: Global, host: &HostRuntime, folder: &str) -> Result<File, Fault>
+    ensures { IfErr result (IsFolderFault folder.now) }
+{
+    if make_folder(host, folder).is_err() {
+        return Err(cannot_write(alloc, folder));
+    }
+    lock_folder(alloc, host, folder)
+}

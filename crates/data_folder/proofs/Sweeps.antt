@@ -1,0 +1,237 @@
+-- What a sweep leaves.
+use Rattle.std.proofs.Common.{◌≡◌, ◌≢◌, ℕ, Bool, true, false, List, [], ◌∷◌, ◌++◌}
+use Rattle.std.proofs.Common.{Option, Some, length, refl, sym, subst, ap, ◌∙◌}
+use Rattle.std.specs.Prelude.{◌||◌}
+use Rattle.std.specs.Str.{bytes_eq}
+use Rattle.std.proofs.lemmas.List.Folds.{list_any-append}
+use Rattle.std.proofs.lemmas.Slice.Eq.{bytes_eq-Decides}
+use Rattle.journal.specs.Records.{file_of}
+use Rattle.data_folder.specs.Folders.{Elapses, KeepsAll, KeepsOthers, Left, LeavesAll}
+use Rattle.data_folder.specs.Folders.{LeavesOnly, LeavesOthers, MayLeaveOf}
+use Rattle.data_folder.specs.JournalFile.{journal_name}
+use Rattle.data_folder.specs.Rolls.{Keeps}
+use Rattle.data_folder.specs.States.{AreThere, HasFiles, HasStore, Named}
+use Rattle.data_folder.specs.Sweeping.{AreAmong, KeepsStore, is_among, is_kept}
+use Rattle.data_folder.proofs.Moments.{goes_on, joined, started}
+use Rattle.data_folder.proofs.Rolls.{journal_whole, whole_left}
+
+or_left : (a b : Bool) → (a || b) ≡ false → a ≡ false
+or_left true b h = h
+or_left false b h = refl
+
+or_right : (a b : Bool) → (a || b) ≡ false → b ≡ false
+or_right true b h = absurd cc
+or_right false b h = h
+
+not_both : {A : Type 0} (b : Bool) → b ≡ true → b ≡ false → A
+not_both true t f = absurd cc
+not_both false t f = absurd cc
+
+-- a name that is not kept is not the journal's, nor that of a file that is kept
+
+pub not_journal : (names : List (List ℕ)) (name : List ℕ) → is_kept names name ≡ false
+    → journal_name ≢ name
+not_journal names name apart is =
+    let same : bytes_eq name journal_name ≡ true =
+    (bytes_eq-Decides name journal_name).1 (sym is) in
+    not_both (bytes_eq name journal_name) same
+    (or_left (bytes_eq name journal_name) (is_among names name) apart)
+
+not_file : (names : List (List ℕ)) (name : List ℕ) (file : Named)
+    → is_kept names name ≡ false → is_among names file.0 ≡ true → file.0 ≢ name
+not_file names name file apart among is =
+    not_both (is_among names name)
+    (subst (λ (x : List ℕ). is_among names x ≡ true) is among)
+    (or_right (bytes_eq name journal_name) (is_among names name) apart)
+
+-- a name among these is among more of them
+
+or_one : (a b : Bool) → a ≡ true → (a || b) ≡ true
+or_one a b h = ap (λ (x : Bool). x || b) h
+
+one_more : (names more : List (List ℕ)) (name : List ℕ) → is_among names name ≡ true
+    → is_among (names ++ more) name ≡ true
+one_more names more name h =
+    list_any-append (λ (other : List ℕ). bytes_eq other name) names more
+    ∙ or_one (is_among names name) (is_among more name) h
+
+among_more : (names more : List (List ℕ)) (files : List Named) → AreAmong names files
+    → AreAmong (names ++ more) files
+among_more names more [] among = tt
+among_more names more (file ∷ files) among =
+    (one_more names more file.0 among.0, among_more names more files among.1)
+
+module _ {F : Type 0} (shows : F → List ℕ → Option (List ℕ) → Type 0)
+    (kept : F → List ℕ → ℕ → Type 0) (sound : F → Bool) where
+  still_there : (name : List ℕ) (names : List (List ℕ)) (old new : F) (files : List Named)
+      → is_kept names name ≡ false → KeepsOthers shows kept name name old new
+      → AreAmong names files → AreThere shows kept files old → AreThere shows kept files new
+  still_there name names old new [] apart k among there = tt
+  still_there name names old new (file ∷ files) apart k among there =
+      let away = not_file names name file apart among.0 in (
+        record {
+          shown = k.same file.0 (Some file.1) away away there.0.shown;
+          durable = k.durable file.0 (length file.1) away away there.0.durable;
+        },
+        still_there name names old new files apart k among.1 there.1,
+      )
+
+  still_kept : (name : List ℕ) (old new : F) (contents : List (List ℕ)) (len : ℕ)
+      → journal_name ≢ name → KeepsOthers shows kept name name old new → sound new ≡ true
+      → Keeps shows kept sound contents old len → Keeps shows kept sound contents new len
+  still_kept name old new contents len away k s h = record {
+    each = h.each;
+    file = record {
+      shown = k.same journal_name (Some (file_of contents)) away away h.file.shown;
+      durable = k.durable journal_name (length (file_of contents)) away away h.file.durable;
+    };
+    is_sound = s;
+    counted = h.counted;
+  }
+
+  files_left : (name : List ℕ) (names : List (List ℕ)) (old : F) (P : Left → Type 0) (left : Left)
+      (files : List Named) → is_kept names name ≡ false
+      → LeavesOthers shows kept name name old P left → AreAmong names files
+      → AreThere shows kept files old → HasFiles files left
+  files_left name names old P left [] apart l among there = tt
+  files_left name names old P left (file ∷ files) apart l among there =
+      let away = not_file names name file apart among.0 in (
+        whole_left file.1 (left file.0)
+            (l.others file.0 (Some file.1) (length file.1) away away there.0.shown
+            there.0.durable),
+        files_left name names old P left files apart l among.1 there.1,
+      )
+
+module _ {F : Type 0} (shows : F → List ℕ → Option (List ℕ) → Type 0)
+    (kept : F → List ℕ → ℕ → Type 0) (sound : F → Bool) (moment : F → ℕ)
+    (left_since : F → ℕ → Left → Type 0)
+    (only_now : (f : F) (name : List ℕ) (x : Option (List ℕ)) (n : ℕ) (left : Left) → shows f name x
+    → kept f name n → left_since f (moment f) left → MayLeaveOf n x (left name)) where
+  files_now : (f : F) (left : Left) (files : List Named) → left_since f (moment f) left
+      → AreThere shows kept files f → HasFiles files left
+  files_now f left [] had there = tt
+  files_now f left (file ∷ files) had there = (
+    whole_left file.1 (left file.0)
+        (only_now f file.0 (Some file.1) (length file.1) left there.0.shown there.0.durable had),
+    files_now f left files had there.1,
+  )
+
+  at_rest : (f : F) (contents : List (List ℕ)) (files : List Named) (len : ℕ)
+      → Keeps shows kept sound contents f len → AreThere shows kept files f
+      → LeavesOnly moment left_since f f (HasStore files contents)
+  at_rest f contents files len h there =
+      started moment left_since f (HasStore files contents) (λ left had. record {
+        files = files_now f left files had there;
+        journal = journal_whole contents left h.each
+            (whole_left (file_of contents) (left journal_name)
+            (only_now f journal_name (Some (file_of contents)) (length (file_of contents)) left
+            h.file.shown h.file.durable had));
+      })
+
+  -- where nothing was removed
+  pub nothing_removed : (names : List (List ℕ)) (f : F)
+      → KeepsStore shows kept sound moment left_since names f f
+  nothing_removed names f = record {
+    journal = λ contents len h. h;
+    files = λ files among there. there;
+    any_moment = λ contents files len h among there. at_rest f contents files len h there;
+  }
+
+  -- one file was written or removed, or was not
+  pub one_changed : (name : List ℕ) (names : List (List ℕ)) (old new : F) (P : Left → Type 0)
+      → is_kept names name ≡ false → KeepsOthers shows kept name name old new → sound new ≡ true
+      → Elapses (moment old) (moment new) (left_since old) (left_since new)
+      (LeavesOthers shows kept name name old P)
+      → KeepsStore shows kept sound moment left_since names old new
+  one_changed name names old new P apart k s time =
+      let away = not_journal names name apart in
+      record {
+        journal = λ contents len h. still_kept shows kept sound name old new contents len away k s h;
+        files = λ files among there.
+            still_there shows kept sound name names old new files apart k among there;
+        any_moment = λ contents files len h among there.
+            goes_on moment left_since old old new (HasStore files contents)
+            (LeavesOthers shows kept name name old P) (at_rest old contents files len h there) time
+            (λ left l. record {
+              files = files_left shows kept sound name names old P left files apart l among there;
+              journal = journal_whole contents left h.each
+                  (whole_left (file_of contents) (left journal_name)
+                  (l.others journal_name (Some (file_of contents)) (length (file_of contents)) away
+                  away h.file.shown h.file.durable));
+            });
+      }
+
+  all_stay : (files : List Named) (old new : F) → KeepsAll shows kept old new
+      → AreThere shows kept files old → AreThere shows kept files new
+  all_stay [] old new k there = tt
+  all_stay (file ∷ files) old new k there = (
+    record {
+      shown = k.same file.0 (Some file.1) there.0.shown;
+      durable = k.durable file.0 (length file.1) there.0.durable;
+    },
+    all_stay files old new k there.1,
+  )
+
+  all_left : (files : List Named) (old : F) (left : Left) → LeavesAll shows kept old left
+      → AreThere shows kept files old → HasFiles files left
+  all_left [] old left l there = tt
+  all_left (file ∷ files) old left l there = (
+    whole_left file.1 (left file.0)
+        (l file.0 (Some file.1) (length file.1) there.0.shown there.0.durable),
+    all_left files old left l there.1,
+  )
+
+  -- no file was written or removed
+  pub none_changed : (names : List (List ℕ)) (old new : F) → KeepsAll shows kept old new
+      → sound new ≡ true
+      → Elapses (moment old) (moment new) (left_since old) (left_since new)
+      (LeavesAll shows kept old)
+      → KeepsStore shows kept sound moment left_since names old new
+  none_changed names old new k s time = record {
+    journal = λ contents len h. record {
+      each = h.each;
+      file = record {
+        shown = k.same journal_name (Some (file_of contents)) h.file.shown;
+        durable = k.durable journal_name (length (file_of contents)) h.file.durable;
+      };
+      is_sound = s;
+      counted = h.counted;
+    };
+    files = λ files among there. all_stay files old new k there;
+    any_moment = λ contents files len h among there.
+        goes_on moment left_since old old new (HasStore files contents)
+        (LeavesAll shows kept old) (at_rest old contents files len h there) time
+        (λ left l. record {
+          files = all_left files old left l there;
+          journal = journal_whole contents left h.each
+              (whole_left (file_of contents) (left journal_name)
+              (l journal_name (Some (file_of contents)) (length (file_of contents)) h.file.shown
+              h.file.durable));
+        });
+  }
+
+  -- what keeps the files of more names keeps those of fewer
+  pub of_fewer : (names more : List (List ℕ)) (old new : F)
+      → KeepsStore shows kept sound moment left_since (names ++ more) old new
+      → KeepsStore shows kept sound moment left_since names old new
+  of_fewer names more old new k = record {
+    journal = k.journal;
+    files = λ files among there. k.files files (among_more names more files among) there;
+    any_moment = λ contents files len h among there.
+        k.any_moment contents files len h (among_more names more files among) there;
+  }
+
+  -- one call after another
+  pub then_kept : (names : List (List ℕ)) (old mid new : F)
+      → KeepsStore shows kept sound moment left_since names old mid
+      → KeepsStore shows kept sound moment left_since names mid new
+      → KeepsStore shows kept sound moment left_since names old new
+  then_kept names old mid new first second = record {
+    journal = λ contents len h. second.journal contents len (first.journal contents len h);
+    files = λ files among there. second.files files among (first.files files among there);
+    any_moment = λ contents files len h among there.
+        joined moment left_since old mid new (HasStore files contents)
+        (first.any_moment contents files len h among there)
+        (second.any_moment contents files len (first.journal contents len h) among
+        (first.files files among there));
+  }

@@ -1,0 +1,4 @@
+pub mod Contents
+pub mod Loops
+pub mod Texts
+pub mod Worlds

@@ -1,0 +1,8 @@
+use Rattle.head_record.proofs.Worlds.{same_start, sound_start}
+use Rattle.head_record.proofs.laws.start_of_save.Goals as goal
+
+pub returns-clause-world : goal.returns-clause-world
+returns-clause-world c s places at e = same_start s places at e
+
+pub returns-clause-sound : goal.returns-clause-sound
+returns-clause-sound c s places at e h = sound_start s places at e h

@@ -1,0 +1,5 @@
+pub mod Outcome
+pub mod Reading
+pub mod Saved
+pub mod Spelling
+pub mod Views

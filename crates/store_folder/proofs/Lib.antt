@@ -1,0 +1,14 @@
+pub mod Contents
+pub mod Faults
+pub mod Files
+pub mod Fronts
+pub mod Kept
+pub mod OpenedBlocks
+pub mod Plains
+pub mod Refusals
+pub mod Rolls
+pub mod Saves
+pub mod Starts
+pub mod Swept
+pub mod Told
+pub mod Writes

@@ -1,0 +1,310 @@
+-- A store that goes on, and one that begins.
+use Rattle.std.proofs.Common.{◌≡◌, ℕ, zero, suc, ◌≤◌, Bool, true, false, List, [], ◌++◌, Option}
+use Rattle.std.proofs.Common.{None, Some, length, take, Result, Ok, Err, refl, sym, ap, subst, subst₂, ◌∙◌}
+use Rattle.std.proofs.Common.{inl, inr, ⊎_elim, ℤ, Vec, arith}
+use Rattle.std.specs.declared.alloc.Global.{Global}
+use Rattle.std.specs.Prelude.{IfOk, IfErr}
+use Rattle.std.proofs.lemmas.List.{append-nil}
+use Rattle.data_folder.specs.declared.journal_file.JournalFile.{JournalFile}
+use Rattle.data_folder.specs.Folders.{Left, LeavesOnly, MayLeaveOf}
+use Rattle.data_folder.specs.JournalFile.{journal_name, JournalLeft}
+use Rattle.data_folder.specs.JournalLaws.{StaysBeside, left_now}
+use Rattle.data_folder.specs.Rolls as rolls
+use Rattle.data_folder.specs.States.{IsNoneOrNew}
+use Rattle.data_folder.proofs.Moments as folder
+use Rattle.event_journal.specs.Holding.{HasEvents, Holds, Stands, StandsAndSome, contents_with}
+use Rattle.event_journal.proofs.Kept.{holds_open}
+use Rattle.head.specs.Blocks.{opening_of}
+use Rattle.head.specs.Heads.{BlockPart, HeadSeries, SnapshotParts, world_of}
+use Rattle.head.specs.Refusals.{Refusal}
+use Rattle.head.specs.Resuming.{Denies, MayStand, resumed}
+use Rattle.head.specs.Worlds.{Event, World, replayed}
+use Rattle.head.specs.declared.error.ResumeError.{ResumeError}
+use Rattle.head_record.specs.Saved.{Place, Saved}
+use Rattle.head_record.specs.Spelling.{head_texts, IsSaved}
+use Rattle.head_record.proofs.Worlds.{in_front}
+use Rattle.journal.specs.declared.error.JournalError.{JournalError}
+use Rattle.journal.specs.Contents.{contents_in}
+use Rattle.journal.specs.Group.{IsJournalText}
+use Rattle.journal.specs.Media as media
+use Rattle.journal.proofs.Moments as journal
+use Rattle.keeper.specs.Finding.{IsOfAll, IsOfAllAndSome}
+use Rattle.store_folder.specs.declared.error.StartError.{StartError}
+use Rattle.store_folder.specs.declared.journals.FoundJournal.{FoundJournal}
+use Rattle.store_folder.specs.Finding.{IsFoundStore}
+use Rattle.store_folder.specs.Holding.{FoundSince, HoldsAfterHead, HoldsAt}
+use Rattle.store_folder.specs.Kinds.{has_deletion}
+use Rattle.store_folder.specs.Starting.{BeginsWith, DeniesStart, GoesOn, IsNoneOrNothing}
+use Rattle.store_folder.specs.Starting.{IsRefusedEvent}
+use Rattle.store_folder.specs.Starting.{StartFinds}
+use Rattle.store_folder.specs.Starting.{nothing_saved}
+use Rattle.store_folder.specs.States.{HasWorld, started}
+use Rattle.store_folder.specs.StoreLaws.{blocks_left, blocks_stay, found_store, whole_left}
+use Rattle.store_folder.proofs.Kept.{store_finds}
+
+-- the snapshot of a head and blocks, and the events after it
+
+is_started : (saved : Saved) (parts : List BlockPart) (floor : ℤ) (head : List HeadSeries)
+    (s : SnapshotParts) → s ≡ resumed parts floor head → floor ≡ saved.floor → head ≡ saved.head
+    → s ≡ started saved parts
+is_started saved parts floor head s is floors heads =
+    is
+    ∙ (ap (λ (f : ℤ). resumed parts f head) floors
+    ∙ ap (λ (h : List HeadSeries). resumed parts saved.floor h) heads)
+
+pub goes_on : (saved : Saved) (parts : List BlockPart) (floor : ℤ) (head : List HeadSeries)
+    (events given : List Event) (s : SnapshotParts) (r : Result SnapshotParts StartError)
+    → s ≡ resumed parts floor head → floor ≡ saved.floor → head ≡ saved.head → given ≡ events
+    → IfOk r (λ x. replayed (world_of s) given ≡ Ok (world_of x))
+    → IfOk r (λ x. HasWorld saved parts events (world_of x))
+goes_on saved parts floor head events given s (Ok x) is floors heads same h =
+    subst (λ (es : List Event). replayed (world_of (started saved parts)) es ≡ Ok (world_of x)) same
+    (subst (λ (y : SnapshotParts). replayed (world_of y) given ≡ Ok (world_of x))
+    (is_started saved parts floor head s is floors heads) h)
+goes_on saved parts floor head events given s (Err e) is floors heads same h = tt
+
+-- its first blocks are these, unless there is a deletion
+pub goes_on_in_front : (saved : Saved) (parts : List BlockPart) (floor : ℤ)
+    (head : List HeadSeries) (events given : List Event) (s : SnapshotParts)
+    (r : Result SnapshotParts StartError)
+    → s ≡ resumed parts floor head → floor ≡ saved.floor → head ≡ saved.head → given ≡ events
+    → IfOk r (λ x. has_deletion given ≡ false → BeginsWith s.blocks x.blocks)
+    → IfOk r (λ x. has_deletion events ≡ false → BeginsWith parts x.blocks)
+goes_on_in_front saved parts floor head events given s (Ok x) is floors heads same h =
+    λ none. subst (λ (bs : List BlockPart). BeginsWith bs x.blocks)
+    (ap (λ (y : SnapshotParts). y.blocks) is) (h (ap has_deletion same ∙ none))
+goes_on_in_front saved parts floor head events given s (Err e) is floors heads same h = tt
+
+denies_event : (saved : Saved) (parts : List BlockPart) (events : List Event) (e : StartError)
+    → IsRefusedEvent (world_of (started saved parts)) events e → DeniesStart saved parts events e
+denies_event saved parts events e h =
+    subst (λ (x : StartError). DeniesStart saved parts events x) (sym h.is) h.there
+
+pub does_not_go_on : (saved : Saved) (parts : List BlockPart) (floor : ℤ)
+    (head : List HeadSeries) (events given : List Event) (s : SnapshotParts)
+    (r : Result SnapshotParts StartError)
+    → s ≡ resumed parts floor head → floor ≡ saved.floor → head ≡ saved.head → given ≡ events
+    → IfErr r (λ e. IsRefusedEvent (world_of s) given e)
+    → IfErr r (λ e. DeniesStart saved parts events e)
+does_not_go_on saved parts floor head events given s (Ok x) is floors heads same h = tt
+does_not_go_on saved parts floor head events given s (Err e) is floors heads same h =
+    denies_event saved parts events e
+    (subst (λ (es : List Event). IsRefusedEvent (world_of (started saved parts)) es e) same
+    (subst (λ (y : SnapshotParts). IsRefusedEvent (world_of y) given e)
+    (is_started saved parts floor head s is floors heads) h))
+
+pub denied : (saved : Saved) (parts : List BlockPart) (floor : ℤ) (head : List HeadSeries)
+    (e : ResumeError) → Denies e (MayStand (resumed parts floor head)) → floor ≡ saved.floor
+    → head ≡ saved.head → Denies e (MayStand (started saved parts))
+denied saved parts floor head e h floors heads =
+    subst (λ (s : SnapshotParts). Denies e (MayStand s))
+    (is_started saved parts floor head (resumed parts floor head) refl floors heads) h
+
+-- what a folder has, between two runs
+
+abbrev fine : World → Result World Refusal
+fine w = Ok w
+
+abbrev no_events : List Event
+no_events = []
+
+take_none : (n : ℕ) → take n no_events ≡ []
+take_none zero = refl
+take_none (suc n) = refl
+
+nothing_more : (first w : World) (events : List Event) → IsOfAllAndSome first events [] w
+    → IsOfAll first events w
+nothing_more first w events h =
+    subst (λ (x : List Event). replayed first x ≡ Ok w)
+    (ap (λ (x : List Event). events ++ x) (take_none h.0) ∙ append-nil events) h.1
+
+stands_so : (front : List (List ℕ)) (events : List Event) (bytes : List ℕ)
+    → Stands front bytes events → StandsAndSome front events [] bytes
+stands_so front events bytes s =
+    (0, subst (λ (x : List Event). Stands front bytes x) (sym (append-nil events)) s)
+
+module _ {F : Type 0} (shows : F → List ℕ → Option (List ℕ) → Type 0)
+    (kept : F → List ℕ → ℕ → Type 0) (sound : F → Bool) (moment : F → ℕ)
+    (left_since : F → ℕ → Left → Type 0)
+    (only_now : (f : F) (name : List ℕ) (x : Option (List ℕ)) (n : ℕ) (left : Left) → shows f name x
+    → kept f name n → left_since f (moment f) left → MayLeaveOf n x (left name)) where
+  abbrev HoldsHere : List (List ℕ) → JournalFile F → ℕ → Bool → List Event → Type 0
+  HoldsHere front m len closed events =
+      Holds (λ (j : JournalFile F) (bytes : List ℕ). shows j.folder journal_name (Some bytes))
+      (λ (j : JournalFile F) (n : ℕ). kept j.folder journal_name n)
+      (λ (j : JournalFile F). sound j.folder) (λ (j : JournalFile F). moment j.folder)
+      (λ (j : JournalFile F) (t : ℕ) (bytes : List ℕ). JournalLeft left_since j.folder t bytes)
+      front m len closed events
+
+  -- a start finds the world of what the folder has
+  found_now : (first : World) (f : F) (j : FoundJournal) (parts : List BlockPart) (w : World)
+      → IsFoundStore shows kept j parts f → first ≡ world_of (started j.head parts)
+      → FoundSince left_since f (moment f) w → IsOfAll first j.events.items w
+  found_now first f j parts w h begins had =
+      found_store first w j.head parts [] j.events.items h.file had.0 h.journal.is.head
+      (ap fine begins)
+      (blocks_left shows kept j.head.places parts f had.0 h.blocks
+      (λ n x k away shown durable. only_now f n x k had.0 shown durable had.1))
+      (whole_left h.file (had.0 journal_name)
+      (only_now f journal_name (Some h.file) (length h.file) had.0 h.has.shown h.has.durable had.1))
+      h.journal.is.stands had.2
+
+  pub stays_found : (first : World) (f : F) (j : FoundJournal) (parts : List BlockPart)
+      → IsFoundStore shows kept j parts f → first ≡ world_of (started j.head parts)
+      → StartFinds moment left_since f f first j.events.items
+  stays_found first f j parts h begins = record {
+    later = omega arith;
+    each = λ w had. found_now first f j parts w h begins had;
+    before = λ t w le had. inl had;
+  }
+
+  -- the journal has the events that were found
+  pub events_found : (m : JournalFile F) (j : FoundJournal) (parts : List BlockPart)
+      → IsFoundStore shows kept j parts m.folder → sound m.folder ≡ true
+      → HasEvents (λ (x : JournalFile F) (bytes : List ℕ). shows x.folder journal_name (Some bytes))
+      (λ (x : JournalFile F) (n : ℕ). kept x.folder journal_name n)
+      (λ (x : JournalFile F). sound x.folder) (head_texts j.head) m j.len j.events.items
+  events_found m j parts h is_sound = record {
+    file = h.file;
+    stands = h.journal.is.stands;
+    has = record { all = h.has.shown; durable = h.has.durable; is_sound = is_sound };
+    counted = h.journal.counted;
+  }
+
+  abbrev pub holds_found : (first : World) (f : F) (m : JournalFile F) (len : ℕ) (closed : Bool)
+      (j : FoundJournal) (parts : List BlockPart) → IsFoundStore shows kept j parts f
+      → first ≡ world_of (started j.head parts)
+      → StaysBeside shows kept moment left_since f m.folder
+      → HoldsHere (head_texts j.head) m len closed j.events.items
+      → HoldsAfterHead shows kept sound moment left_since first m len closed j.events.items
+  holds_found first f m len closed j parts h begins beside holds = record {
+    saved = j.head;
+    parts = parts;
+    early = [];
+    late = j.events.items;
+    all = refl;
+    head = h.journal.is.head;
+    begins = ap fine begins;
+    journal = holds;
+    blocks = blocks_stay shows kept j.head.places parts f m.folder h.blocks beside.same
+        beside.durable;
+  }
+
+  -- a start finds these events, after a crash while the torn end is cut off
+  pub resume_finds : (first : World) (old new : JournalFile F) (j : FoundJournal)
+      (parts : List BlockPart) → IsFoundStore shows kept j parts old.folder
+      → first ≡ world_of (started j.head parts)
+      → StaysBeside shows kept moment left_since old.folder new.folder
+      → media.LeavesOnly (λ (x : JournalFile F). moment x.folder)
+      (λ (x : JournalFile F) (t : ℕ) (bytes : List ℕ). JournalLeft left_since x.folder t bytes)
+      old new (λ (left : List ℕ). Stands (head_texts j.head) left j.events.items)
+      → StartFinds moment left_since old.folder new.folder first j.events.items
+  resume_finds first old new j parts h begins beside moments =
+      let events = j.events.items in
+      let found = store_finds shows kept sound moment left_since only_now first old new j.head parts
+      [] events events [] refl h.journal.is.head (ap fine begins) h.blocks beside
+      (journal.weaker (λ (x : JournalFile F). moment x.folder)
+      (λ (x : JournalFile F) (t : ℕ) (bytes : List ℕ). JournalLeft left_since x.folder t bytes)
+      old new (λ (left : List ℕ). Stands (head_texts j.head) left events)
+      (λ (left : List ℕ). StandsAndSome (head_texts j.head) events [] left)
+      (λ left s. stands_so (head_texts j.head) events left s) moments) in
+      record {
+        later = found.0;
+        each = λ w had. nothing_more first w events (found.1 w had);
+        before = λ t w le had. ⊎_elim (λ past. inl past)
+            (λ now. inr (nothing_more first w events now)) (found.2 t w le had);
+      }
+
+-- a store that begins
+
+-- the text of the contents of a head is that of a journal of this head
+pub head_text : (contents given : List (Vec ℕ Global)) (head : Saved)
+    (r : Result (Vec ℕ Global) JournalError) → given ≡ contents
+    → contents_in contents ≡ head_texts head
+    → IfOk r (λ text. IsJournalText (contents_in given) text.items)
+    → IfOk r (λ text. IsJournalText (contents_with (head_texts head) []) text.items)
+head_text contents given head (Ok text) same texts h =
+    subst (λ (cs : List (List ℕ)). IsJournalText cs text.items)
+    (ap (λ (vs : List (Vec ℕ Global)). contents_in vs) same
+    ∙ (texts ∙ sym (append-nil (head_texts head)))) h
+head_text contents given head (Err e) same texts h = tt
+
+is_nothing : (left : Left) → IsSaved nothing_saved
+    → IsNoneOrNew (contents_with (head_texts nothing_saved) []) left → IsNoneOrNothing left
+is_nothing left saved h =
+    ⊎_elim (λ none. inl none)
+    (λ new. inr (record { head = saved; each = tt; journal = new; blocks = tt })) h
+
+module _ {F : Type 0} (moment : F → ℕ) (left_since : F → ℕ → Left → Type 0) where
+  pub leaves_nothing : (old new : F) → IsSaved nothing_saved
+      → LeavesOnly moment left_since old new
+      (IsNoneOrNew (contents_with (head_texts nothing_saved) []))
+      → LeavesOnly moment left_since old new IsNoneOrNothing
+  leaves_nothing old new saved h = record {
+    later = h.later;
+    each = λ left had. is_nothing left saved (h.each left had);
+    before = λ t left le had. ⊎_elim (λ past. inl past)
+        (λ now. inr (is_nothing left saved now)) (h.before t left le had);
+  }
+
+  -- where nothing was written
+  pub none_yet : (shows : F → List ℕ → Option (List ℕ) → Type 0) (kept : F → List ℕ → ℕ → Type 0)
+      → ((f : F) (name : List ℕ) (x : Option (List ℕ)) (n : ℕ) (left : Left) → shows f name x
+      → kept f name n → left_since f (moment f) left → MayLeaveOf n x (left name))
+      → (f : F) → shows f journal_name None → kept f journal_name 0
+      → LeavesOnly moment left_since f f IsNoneOrNothing
+  none_yet shows kept only_now f shown durable =
+      folder.started moment left_since f IsNoneOrNothing
+      (λ left had. inl (only_now f journal_name None 0 left shown durable had))
+
+module _ {F : Type 0} (shows : F → List ℕ → Option (List ℕ) → Type 0)
+    (kept : F → List ℕ → ℕ → Type 0) (sound : F → Bool) (moment : F → ℕ)
+    (left_since : F → ℕ → Left → Type 0)
+    (only_now : (f : F) (name : List ℕ) (x : Option (List ℕ)) (n : ℕ) (left : Left) → shows f name x
+    → kept f name n → left_since f (moment f) left → MayLeaveOf n x (left name))
+    (earlier : (f : F) (t u : ℕ) (left : Left) → t ≤ u → u ≤ moment f → left_since f u left
+    → left_since f t left) where
+  abbrev pub holds_nothing : (first : World) (m : JournalFile F) (len : ℕ) (closed : Bool)
+      → first ≡ world_of (opening_of []) → IsSaved nothing_saved
+      → rolls.Keeps shows kept sound (contents_with (head_texts nothing_saved) []) m.folder len
+      → HoldsAfterHead shows kept sound moment left_since first m len closed []
+  holds_nothing first m len closed begins saved k = record {
+    saved = nothing_saved;
+    parts = [];
+    early = [];
+    late = [];
+    all = refl;
+    head = saved;
+    begins = ap fine begins;
+    journal = holds_open
+        (λ (j : JournalFile F) (bytes : List ℕ). shows j.folder journal_name (Some bytes))
+        (λ (j : JournalFile F) (n : ℕ). kept j.folder journal_name n)
+        (λ (j : JournalFile F). sound j.folder) (λ (j : JournalFile F). moment j.folder)
+        (λ (j : JournalFile F) (t : ℕ) (bytes : List ℕ). JournalLeft left_since j.folder t bytes)
+        (λ j bytes n left shown durable had. left_now n bytes left (had.0 journal_name) had.2
+        (only_now j.folder journal_name (Some bytes) n had.0 shown durable had.1))
+        (λ j t u left le fits had. (had.0, earlier j.folder t u had.0 le fits had.1, had.2))
+        (head_texts nothing_saved) m len closed [] (in_front nothing_saved) tt (record {
+          each = k.each;
+          has = record { all = k.file.shown; durable = k.file.durable; is_sound = k.is_sound };
+          counted = k.counted;
+        });
+    blocks = tt;
+  }
+
+  -- a store that begins goes on
+  pub begun_goes_on : (first : World) (m : JournalFile F) (len : ℕ) (closed : Bool)
+      (events : List Event) (head : Saved) (s : SnapshotParts) → first ≡ world_of (opening_of [])
+      → s ≡ opening_of [] → events ≡ [] → head ≡ nothing_saved → closed ≡ false
+      → HoldsAt shows kept sound moment left_since first m len closed [] [] []
+      → GoesOn shows kept sound moment left_since first m len closed events head.places [] s
+  begun_goes_on first m len closed events head s begins is none nothing opened at =
+      let whole : GoesOn shows kept sound moment left_since first m len closed [] [] [] s = record {
+        world = ap fine (begins ∙ ap world_of (sym is));
+        holds = at;
+        is_open = opened;
+        front = λ none. ([], ap (λ (x : SnapshotParts). x.blocks) is);
+      } in
+      subst₂ (λ (es : List Event) (ps : List Place).
+      GoesOn shows kept sound moment left_since first m len closed es ps [] s) (sym none)
+      (ap (λ (h : Saved). h.places) (sym nothing)) whole

@@ -1,0 +1,52 @@
+use Rattle.std.proofs.Common.{refl}
+use Rattle.head_record.specs.Spelling.{head_texts}
+use Rattle.store_folder.proofs.Starts.{events_found, holds_found, resume_finds}
+use Rattle.store_folder.proofs.keeping.StoreKeeper.resume.Goals as goal
+
+pub resume-requires : goal.resume-requires
+resume-requires g c =
+    let f = g.F.Folder in
+    let j = c.args.journal.now in (
+      head_texts j.head,
+      j.events.items,
+      events_found f.shows f.kept f.sound f.moment f.left_since g.met.F.Folder.only_now
+          (record { folder = c.args.folder }) j c.requires.found.0 c.requires.found.1
+          c.requires.sound,
+    )
+
+pub returns-in-Ok-clause-holds : goal.returns-in-Ok-clause-holds
+returns-in-Ok-clause-holds g c parts h begins =
+    let f = g.F.Folder in
+    let j = c.args.journal.now in
+    let new = c.in-Ok.events.journal in (
+      holds_found f.shows f.kept f.sound f.moment f.left_since g.met.F.Folder.only_now
+          g.N.Beginning.first c.args.folder new.medium new.len new.closed j parts h begins
+          c.in-Ok.ensures.beside
+          (c.in-Ok.ensures.holds (head_texts j.head) j.events.items
+          (events_found f.shows f.kept f.sound f.moment f.left_since g.met.F.Folder.only_now
+          (record { folder = c.args.folder }) j parts h c.requires.sound)),
+      refl,
+      refl,
+    )
+
+pub returns-in-Ok-clause-any_moment : goal.returns-in-Ok-clause-any_moment
+returns-in-Ok-clause-any_moment g c parts h begins =
+    let f = g.F.Folder in
+    let j = c.args.journal.now in
+    resume_finds f.shows f.kept f.sound f.moment f.left_since g.met.F.Folder.only_now
+    g.N.Beginning.first (record { folder = c.args.folder }) c.in-Ok.events.journal.medium j parts h
+    begins c.in-Ok.ensures.beside
+    (c.in-Ok.ensures.any_moment (head_texts j.head) j.events.items
+    (events_found f.shows f.kept f.sound f.moment f.left_since g.met.F.Folder.only_now
+    (record { folder = c.args.folder }) j parts h c.requires.sound))
+
+pub returns-in-Err-clause-any_moment : goal.returns-in-Err-clause-any_moment
+returns-in-Err-clause-any_moment g c parts h begins =
+    let f = g.F.Folder in
+    let j = c.args.journal.now in
+    resume_finds f.shows f.kept f.sound f.moment f.left_since g.met.F.Folder.only_now
+    g.N.Beginning.first (record { folder = c.args.folder }) c.in-Err.medium j parts h begins
+    c.in-Err.ensures.beside
+    (c.in-Err.ensures.any_moment (head_texts j.head) j.events.items
+    (events_found f.shows f.kept f.sound f.moment f.left_since g.met.F.Folder.only_now
+    (record { folder = c.args.folder }) j parts h c.requires.sound))

@@ -1,0 +1,254 @@
+use Rattle.std.proofs.Common.{◌-◌, ◌++◌, ap, inl, length, subst, sym, take, ◌∙◌, List, []}
+use Rattle.event_journal.specs.Holding.{contents_with}
+use Rattle.head_record.specs.Saved.{Place, Saved, save}
+use Rattle.head_record.specs.Spelling.{head_texts}
+use Rattle.journal.specs.Records.{file_of}
+use Rattle.store_folder.specs.Holding.{HoldsAt}
+use Rattle.store_folder.specs.Writing.{places_from}
+use Rattle.store_folder.proofs.Saves.{enough, like_made, may_roll, still_held, writing_finds}
+use Rattle.store_folder.proofs.Rolls.{finds_on}
+use Rattle.store_folder.proofs.keeping.StoreKeeper.save.Goals as goal
+
+pub write_saved-requires-clause-blocks : goal.write_saved-requires-clause-blocks
+write_saved-requires-clause-blocks g c =
+    let f = g.F.Folder in
+    let met = g.met.F.Folder in
+    let old = c.args.self.now.events.journal in
+    let s = c.args.snapshot.now in
+    let held = c.args.held.now in
+    let same = c.args.same in
+    let first = g.N.Beginning.first in
+    let given = c.requires c.if-self.false in
+    enough f.shows f.kept f.sound f.moment f.left_since met.only_now met.earlier first old.medium old.len old.closed given.0 s held given.1 same given.2
+
+pub returns-in-Err-clause-err : goal.returns-in-Err-clause-err
+returns-in-Err-clause-err g c events parts may goes_on =
+    let f = g.F.Folder in
+    let met = g.met.F.Folder in
+    let old = c.args.self.now.events.journal in
+    let s = c.args.snapshot.now in
+    let held = c.args.held.now in
+    let same = c.args.same in
+    let first = g.N.Beginning.first in
+    still_held f.shows f.kept f.sound f.moment f.left_since met.only_now met.earlier first old.medium
+    (record { folder = c.write_saved.new.folder }) old.len old.closed events s held parts same may c.if-self.false
+    c.write_saved.ensures.stays
+
+pub returns-in-Err-clause-held : goal.returns-in-Err-clause-held
+returns-in-Err-clause-held g c events parts may =
+    let f = g.F.Folder in
+    let met = g.met.F.Folder in
+    let old = c.args.self.now.events.journal in
+    let s = c.args.snapshot.now in
+    let held = c.args.held.now in
+    let same = c.args.same in
+    let first = g.N.Beginning.first in
+    let at =
+    still_held f.shows f.kept f.sound f.moment f.left_since met.only_now met.earlier first old.medium
+    (record { folder = c.write_saved.new.folder }) old.len old.closed events s held parts same may c.if-self.false
+    c.write_saved.ensures.stays in
+    inl at.0
+
+pub returns-in-Err-clause-any_moment : goal.returns-in-Err-clause-any_moment
+returns-in-Err-clause-any_moment g c events parts may opened =
+    let f = g.F.Folder in
+    let met = g.met.F.Folder in
+    let old = c.args.self.now.events.journal in
+    let s = c.args.snapshot.now in
+    let held = c.args.held.now in
+    let same = c.args.same in
+    let first = g.N.Beginning.first in
+    writing_finds f.shows f.kept f.sound f.moment f.left_since met.only_now met.earlier first old.medium
+    (record { folder = c.write_saved.new.folder }) old.len old.closed events s held parts same may c.if-self.false
+    c.write_saved.ensures.stays
+
+pub returns-in_default-clause-err : goal.returns-in_default-clause-err
+returns-in_default-clause-err g c events parts may goes_on =
+    let f = g.F.Folder in
+    let met = g.met.F.Folder in
+    let old = c.args.self.now.events.journal in
+    let s = c.args.snapshot.now in
+    let held = c.args.held.now in
+    let same = c.args.same in
+    let first = g.N.Beginning.first in
+    still_held f.shows f.kept f.sound f.moment f.left_since met.only_now met.earlier first old.medium
+    (record { folder = c.write_saved.new.folder }) old.len old.closed events s held parts same may c.if-self.false
+    c.write_saved.ensures.stays
+
+pub returns-in_default-clause-held : goal.returns-in_default-clause-held
+returns-in_default-clause-held g c events parts may =
+    let f = g.F.Folder in
+    let met = g.met.F.Folder in
+    let old = c.args.self.now.events.journal in
+    let s = c.args.snapshot.now in
+    let held = c.args.held.now in
+    let same = c.args.same in
+    let first = g.N.Beginning.first in
+    let at =
+    still_held f.shows f.kept f.sound f.moment f.left_since met.only_now met.earlier first old.medium
+    (record { folder = c.write_saved.new.folder }) old.len old.closed events s held parts same may c.if-self.false
+    c.write_saved.ensures.stays in
+    inl at.0
+
+pub returns-in_default-clause-any_moment : goal.returns-in_default-clause-any_moment
+returns-in_default-clause-any_moment g c events parts may opened =
+    let f = g.F.Folder in
+    let met = g.met.F.Folder in
+    let old = c.args.self.now.events.journal in
+    let s = c.args.snapshot.now in
+    let held = c.args.held.now in
+    let same = c.args.same in
+    let first = g.N.Beginning.first in
+    writing_finds f.shows f.kept f.sound f.moment f.left_since met.only_now met.earlier first old.medium
+    (record { folder = c.write_saved.new.folder }) old.len old.closed events s held parts same may c.if-self.false
+    c.write_saved.ensures.stays
+
+pub roll-requires : goal.roll-requires
+roll-requires g c =
+    let f = g.F.Folder in
+    let met = g.met.F.Folder in
+    let old = c.args.self.now.events.journal in
+    let s = c.args.snapshot.now in
+    let held = c.args.held.now in
+    let same = c.args.same in
+    let first = g.N.Beginning.first in
+    let given = c.requires c.if-self.false in
+    let there = c.in-Ok.ensures.there in
+    let made = take same given.1 ++ there.0 in
+    let rolls =
+    may_roll f.shows f.kept f.sound f.moment f.left_since met.only_now met.earlier first old.medium
+    (record { folder = c.write_saved.new.folder }) old.len old.closed given.0 s held given.1 same
+    (places_from c.args.next (length s.blocks - same)) there.0 c.in-Ok.head given.2 c.if-self.false
+    c.write_saved.ensures.stays there.1 there.2 c.in-Ok.ensures.saved in
+    (given.0, made, rolls)
+
+pub returns-in-Ok-roll-clause-held : goal.returns-in-Ok-roll-clause-held
+returns-in-Ok-roll-clause-held g c events parts may =
+    let f = g.F.Folder in
+    let met = g.met.F.Folder in
+    let old = c.args.self.now.events.journal in
+    let s = c.args.snapshot.now in
+    let held = c.args.held.now in
+    let same = c.args.same in
+    let first = g.N.Beginning.first in
+    let there = c.in-Ok.ensures.there in
+    let made = take same parts ++ there.0 in
+    let rolls =
+    may_roll f.shows f.kept f.sound f.moment f.left_since met.only_now met.earlier first old.medium
+    (record { folder = c.write_saved.new.folder }) old.len old.closed events s held parts same
+    (places_from c.args.next (length s.blocks - same)) there.0 c.in-Ok.head may c.if-self.false
+    c.write_saved.ensures.stays there.1 there.2 c.in-Ok.ensures.saved in
+    c.in-Ok-roll.ensures.held events made rolls
+
+pub returns-in-Ok-roll-clause-places : goal.returns-in-Ok-roll-clause-places
+returns-in-Ok-roll-clause-places g c events parts may =
+    let f = g.F.Folder in
+    let met = g.met.F.Folder in
+    let old = c.args.self.now.events.journal in
+    let s = c.args.snapshot.now in
+    let held = c.args.held.now in
+    let same = c.args.same in
+    let first = g.N.Beginning.first in
+    let there = c.in-Ok.ensures.there in
+    let made = take same parts ++ there.0 in
+    let rolls =
+    may_roll f.shows f.kept f.sound f.moment f.left_since met.only_now met.earlier first old.medium
+    (record { folder = c.write_saved.new.folder }) old.len old.closed events s held parts same
+    (places_from c.args.next (length s.blocks - same)) there.0 c.in-Ok.head may c.if-self.false
+    c.write_saved.ensures.stays there.1 there.2 c.in-Ok.ensures.saved in
+    let now = c.roll.new.self.events.journal in (
+      made,
+      like_made f.shows f.kept f.sound f.moment f.left_since met.only_now met.earlier first old.medium old.len old.closed events s held parts same there.0 may there.1,
+      subst (λ (ps : List Place). HoldsAt f.shows f.kept f.sound f.moment f.left_since first
+          now.medium now.len now.closed events ps made)
+          (sym (c.in-Ok-from_slice.ensures.items ∙ c.places.ensures))
+          (c.in-Ok-roll.ensures.places events made rolls),
+    )
+
+pub returns-in-Ok-roll-clause-any_moment : goal.returns-in-Ok-roll-clause-any_moment
+returns-in-Ok-roll-clause-any_moment g c events parts may opened =
+    let f = g.F.Folder in
+    let met = g.met.F.Folder in
+    let old = c.args.self.now.events.journal in
+    let s = c.args.snapshot.now in
+    let held = c.args.held.now in
+    let same = c.args.same in
+    let first = g.N.Beginning.first in
+    let there = c.in-Ok.ensures.there in
+    let made = take same parts ++ there.0 in
+    let rolls =
+    may_roll f.shows f.kept f.sound f.moment f.left_since met.only_now met.earlier first old.medium
+    (record { folder = c.write_saved.new.folder }) old.len old.closed events s held parts same
+    (places_from c.args.next (length s.blocks - same)) there.0 c.in-Ok.head may c.if-self.false
+    c.write_saved.ensures.stays there.1 there.2 c.in-Ok.ensures.saved in
+    finds_on f.moment f.left_since first events old.medium.folder c.write_saved.new.folder
+    c.roll.new.self.events.journal.medium.folder
+    (writing_finds f.shows f.kept f.sound f.moment f.left_since met.only_now met.earlier first old.medium
+    (record { folder = c.write_saved.new.folder }) old.len old.closed events s held parts same may c.if-self.false
+    c.write_saved.ensures.stays)
+    (c.in-Ok-roll.ensures.any_moment events made rolls c.if-self.false)
+
+pub returns-clause-held : goal.returns-clause-held
+returns-clause-held g c events parts may =
+    let f = g.F.Folder in
+    let met = g.met.F.Folder in
+    let old = c.args.self.now.events.journal in
+    let s = c.args.snapshot.now in
+    let held = c.args.held.now in
+    let same = c.args.same in
+    let first = g.N.Beginning.first in
+    let there = c.in-Ok.ensures.there in
+    let made = take same parts ++ there.0 in
+    let rolls =
+    may_roll f.shows f.kept f.sound f.moment f.left_since met.only_now met.earlier first old.medium
+    (record { folder = c.write_saved.new.folder }) old.len old.closed events s held parts same
+    (places_from c.args.next (length s.blocks - same)) there.0 c.in-Ok.head may c.if-self.false
+    c.write_saved.ensures.stays there.1 there.2 c.in-Ok.ensures.saved in
+    c.in-Err-roll.ensures.held events made rolls
+
+pub returns-clause-err : goal.returns-clause-err
+returns-clause-err g c events parts may goes_on =
+    let f = g.F.Folder in
+    let met = g.met.F.Folder in
+    let old = c.args.self.now.events.journal in
+    let s = c.args.snapshot.now in
+    let held = c.args.held.now in
+    let same = c.args.same in
+    let first = g.N.Beginning.first in
+    c.in-Err-roll.ensures.err events held parts
+    (still_held f.shows f.kept f.sound f.moment f.left_since met.only_now met.earlier first old.medium
+    (record { folder = c.write_saved.new.folder }) old.len old.closed events s held parts same may c.if-self.false
+    c.write_saved.ensures.stays) goes_on
+
+pub returns-clause-any_moment : goal.returns-clause-any_moment
+returns-clause-any_moment g c events parts may opened =
+    let f = g.F.Folder in
+    let met = g.met.F.Folder in
+    let old = c.args.self.now.events.journal in
+    let s = c.args.snapshot.now in
+    let held = c.args.held.now in
+    let same = c.args.same in
+    let first = g.N.Beginning.first in
+    let there = c.in-Ok.ensures.there in
+    let made = take same parts ++ there.0 in
+    let rolls =
+    may_roll f.shows f.kept f.sound f.moment f.left_since met.only_now met.earlier first old.medium
+    (record { folder = c.write_saved.new.folder }) old.len old.closed events s held parts same
+    (places_from c.args.next (length s.blocks - same)) there.0 c.in-Ok.head may c.if-self.false
+    c.write_saved.ensures.stays there.1 there.2 c.in-Ok.ensures.saved in
+    finds_on f.moment f.left_since first events old.medium.folder c.write_saved.new.folder
+    c.roll.new.self.events.journal.medium.folder
+    (writing_finds f.shows f.kept f.sound f.moment f.left_since met.only_now met.earlier first old.medium
+    (record { folder = c.write_saved.new.folder }) old.len old.closed events s held parts same may c.if-self.false
+    c.write_saved.ensures.stays)
+    (c.in-Err-roll.ensures.any_moment events made rolls c.if-self.false)
+
+pub returns-in-Ok-roll-clause-len : goal.returns-in-Ok-roll-clause-len
+returns-in-Ok-roll-clause-len g c =
+    let s = c.args.snapshot.now in
+    let named = c.in-Ok-from_slice.ensures.items ∙ c.places.ensures in
+    let same =
+    c.in-Ok.ensures.saved
+    ∙ ap (save s) (sym (named ∙ ap (λ (h : Saved). h.places) c.in-Ok.ensures.saved)) in
+    c.in-Ok-roll.ensures.len
+    ∙ ap (λ (h : Saved). length (file_of (contents_with (head_texts h) []))) same

@@ -1,0 +1,25 @@
+use Rattle.std.proofs.Common.{inl}
+use Rattle.store_folder.proofs.Rolls.{finds_on}
+use Rattle.store_folder.proofs.keeping.StoreKeeper.sweep_after.Goals as goal
+
+pub sweep_blocks-requires-clause-held : goal.sweep_blocks-requires-clause-held
+sweep_blocks-requires-clause-held g c = c.requires c.if-self.false
+
+pub returns-then-self-clause-held : goal.returns-then-self-clause-held
+returns-then-self-clause-held g c events parts at held = held
+
+pub returns-then-self-clause-any_moment : goal.returns-then-self-clause-any_moment
+returns-then-self-clause-any_moment g c events parts before at found = found
+
+pub returns-clause-held : goal.returns-clause-held
+returns-clause-held g c events parts at held =
+    let swept = c.sweep_blocks.ensures.held events parts (at c.if-self.false) in
+    inl swept.0
+
+pub returns-clause-any_moment : goal.returns-clause-any_moment
+returns-clause-any_moment g c events parts before at found =
+    let f = g.F.Folder in
+    let old = c.args.self.now.events.journal.medium.folder in
+    let new = c.sweep_blocks.new.self.events.journal.medium.folder in
+    finds_on f.moment f.left_since g.N.Beginning.first events before old new found
+    (c.sweep_blocks.ensures.any_moment events parts (at c.if-self.false))

@@ -1,0 +1,28 @@
+use Rattle.std.proofs.Common.{refl}
+use Rattle.store_folder.specs.Sweeps.{names_at}
+use Rattle.store_folder.proofs.Swept.{holds_swept, swept_finds}
+use Rattle.store_folder.proofs.keeping.StoreKeeper.sweep_blocks.Goals as goal
+
+pub sweep_apart-requires : goal.sweep_apart-requires
+sweep_apart-requires g c =
+    (c.requires.held.2.0.journal.keeps c.requires.open).has.is_sound
+
+pub returns-clause-held : goal.returns-clause-held
+returns-clause-held g c events parts at =
+    let f = g.F.Folder in
+    let met = g.met.F.Folder in
+    let old = c.args.self.now.events.journal in
+    holds_swept f.shows f.kept f.sound f.moment f.left_since met.only_now met.earlier
+    g.N.Beginning.first old.medium (record { folder = c.sweep_apart.new.folder }) old.len
+    old.closed events c.args.places.now parts (names_at c.args.places.now) at c.requires.open refl
+    c.sweep_apart.ensures.kept
+
+pub returns-clause-any_moment : goal.returns-clause-any_moment
+returns-clause-any_moment g c events parts at =
+    let f = g.F.Folder in
+    let met = g.met.F.Folder in
+    let old = c.args.self.now.events.journal in
+    swept_finds f.shows f.kept f.sound f.moment f.left_since met.only_now met.earlier
+    g.N.Beginning.first old.medium (record { folder = c.sweep_apart.new.folder }) old.len
+    old.closed events c.args.places.now parts (names_at c.args.places.now) at c.requires.open refl
+    c.sweep_apart.ensures.kept

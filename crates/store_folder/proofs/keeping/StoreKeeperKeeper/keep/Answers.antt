@@ -1,0 +1,108 @@
+use Rattle.std.proofs.Common.{◌≡◌, true, false, inl, sym, ◌∙◌}
+use Rattle.store_folder.specs.KeeperLaws.{open_head}
+use Rattle.store_folder.proofs.Kept.{last_kept, store_finds, store_more, store_stays}
+use Rattle.event_journal.proofs.Keepers.{told_closed, told_failed, told_full}
+use Rattle.head_record.specs.Spelling.{head_texts}
+use Rattle.store_folder.proofs.keeping.StoreKeeperKeeper.keep.Goals as goal
+
+pub append-requires-clause-held : goal.append-requires-clause-held
+append-requires-clause-held g c =
+    let f = g.F.Folder in
+    let old = c.args.self.now.events.journal in
+    let h =
+    open_head f.shows f.kept f.sound f.moment f.left_since g.met.F.Folder.only_now
+    g.N.Beginning.first old.medium old.len old.closed c.requires.held.0 c.requires.held.1
+    c.if-self.false in
+    (head_texts h.saved, h.late, h.journal)
+
+pub returns-in-Ok-clause-ok : goal.returns-in-Ok-clause-ok
+returns-in-Ok-clause-ok g c events more held s =
+    let f = g.F.Folder in
+    let old = c.args.self.now.events.journal in
+    let new = c.append.new.self.journal in
+    let h =
+    open_head f.shows f.kept f.sound f.moment f.left_since g.met.F.Folder.only_now
+    g.N.Beginning.first old.medium old.len old.closed events held c.if-self.false in
+    inl (store_more f.shows f.kept f.sound f.moment f.left_since g.met.F.Folder.only_now
+    g.N.Beginning.first old.medium new.medium old.len new.len old.closed new.closed events more h
+    c.in-Ok.ensures.beside (c.in-Ok.ensures.ok (head_texts h.saved) h.late more h.journal s))
+
+pub returns-in-Err-clause-err : goal.returns-in-Err-clause-err
+returns-in-Err-clause-err g c events held =
+    let f = g.F.Folder in
+    let old = c.args.self.now.events.journal in
+    let new = c.append.new.self.journal in
+    let h =
+    open_head f.shows f.kept f.sound f.moment f.left_since g.met.F.Folder.only_now
+    g.N.Beginning.first old.medium old.len old.closed events held c.if-self.false in
+    inl (store_stays f.shows f.kept f.sound f.moment f.left_since g.met.F.Folder.only_now
+    g.N.Beginning.first old.medium new.medium old.len new.len old.closed new.closed events h
+    c.in-Err.ensures.beside (c.in-Err.ensures.err (head_texts h.saved) h.late h.journal))
+
+pub returns-in-Ok-clause-last : goal.returns-in-Ok-clause-last
+returns-in-Ok-clause-last g c events more held s =
+    let f = g.F.Folder in
+    let old = c.args.self.now.events.journal in
+    let new = c.append.new.self.journal in
+    let h =
+    open_head f.shows f.kept f.sound f.moment f.left_since g.met.F.Folder.only_now
+    g.N.Beginning.first old.medium old.len old.closed events held c.if-self.false in
+    last_kept f.shows f.kept f.sound f.moment f.left_since g.met.F.Folder.only_now
+    g.N.Beginning.first old.medium new.medium old.len new.len old.closed new.closed events more h
+    c.in-Ok.ensures.beside (c.in-Ok.ensures.ok (head_texts h.saved) h.late more h.journal s)
+
+pub returns-in-Ok-clause-any_moment : goal.returns-in-Ok-clause-any_moment
+returns-in-Ok-clause-any_moment g c events more held s opened =
+    let f = g.F.Folder in
+    let old = c.args.self.now.events.journal in
+    let new = c.append.new.self.journal in
+    let h =
+    open_head f.shows f.kept f.sound f.moment f.left_since g.met.F.Folder.only_now
+    g.N.Beginning.first old.medium old.len old.closed events held c.if-self.false in
+    let found = store_finds f.shows f.kept f.sound f.moment f.left_since g.met.F.Folder.only_now
+    g.N.Beginning.first old.medium new.medium h.saved h.parts h.early h.late events more h.all
+    h.head h.begins h.blocks c.in-Ok.ensures.beside
+    (c.in-Ok.ensures.any_moment (head_texts h.saved) h.late more h.journal s opened) in
+    record { later = found.0; each = found.1; before = found.2 }
+
+pub returns-in-Err-clause-any_moment : goal.returns-in-Err-clause-any_moment
+returns-in-Err-clause-any_moment g c events more held s opened =
+    let f = g.F.Folder in
+    let old = c.args.self.now.events.journal in
+    let new = c.append.new.self.journal in
+    let h =
+    open_head f.shows f.kept f.sound f.moment f.left_since g.met.F.Folder.only_now
+    g.N.Beginning.first old.medium old.len old.closed events held c.if-self.false in
+    let found = store_finds f.shows f.kept f.sound f.moment f.left_since g.met.F.Folder.only_now
+    g.N.Beginning.first old.medium new.medium h.saved h.parts h.early h.late events more h.all
+    h.head h.begins h.blocks c.in-Err.ensures.beside
+    (c.in-Err.ensures.any_moment (head_texts h.saved) h.late more h.journal s opened) in
+    record { later = found.0; each = found.1; before = found.2 }
+
+pub returns-in-Err-clause-closed : goal.returns-in-Err-clause-closed
+returns-in-Err-clause-closed g c t =
+    absurd (let a : true ≡ false = sym t ∙ c.if-self.false in cc)
+
+pub returns-in-Ok-clause-closed : goal.returns-in-Ok-clause-closed
+returns-in-Ok-clause-closed g c t =
+    absurd (let a : true ≡ false = sym t ∙ c.if-self.false in cc)
+
+pub returns-in-Err-clause-told : goal.returns-in-Err-clause-told
+returns-in-Err-clause-told g c said =
+    told_closed c.in-Err.error c.keep_error.result c.keep_error.ensures said c.in-Err.ensures.told
+
+pub returns-then-self-clause-err : goal.returns-then-self-clause-err
+returns-then-self-clause-err g c events held = held
+
+pub returns-then-self-clause-any_moment : goal.returns-then-self-clause-any_moment
+returns-then-self-clause-any_moment g c events more held s opened =
+    absurd (let a : true ≡ false = sym c.if-self.true ∙ opened in cc)
+
+pub returns-in-Err-clause-full : goal.returns-in-Err-clause-full
+returns-in-Err-clause-full g c said =
+    told_full c.in-Err.error c.keep_error.result c.keep_error.ensures said c.in-Err.ensures.size
+
+pub returns-in-Err-clause-failed : goal.returns-in-Err-clause-failed
+returns-in-Err-clause-failed g c said =
+    told_failed c.in-Err.error c.keep_error.result c.keep_error.ensures c.in-Err.ensures.other said
+    c.in-Err.ensures.medium

@@ -1,0 +1,93 @@
+-- When a folder keeps the events of a store.
+use Rattle.std.specs.Prelude.{◌≡◌, ◌⊎◌, ℕ, Bool, true, List, [], ◌∷◌, ◌++◌, Option, Some, Ok}
+use Rattle.data_folder.specs.declared.journal_file.JournalFile.{JournalFile}
+use Rattle.data_folder.specs.Folders.{Left}
+use Rattle.data_folder.specs.JournalFile.{journal_name, JournalLeft}
+use Rattle.data_folder.specs.States.{AreThere}
+use Rattle.event_journal.specs.Holding.{Holds}
+use Rattle.head.specs.Heads.{BlockPart, world_of}
+use Rattle.head.specs.Worlds.{Event, World, replayed}
+use Rattle.head_record.specs.Saved.{Place, Saved}
+use Rattle.head_record.specs.Spelling.{head_texts, IsSaved}
+use Rattle.keeper.specs.Finding.{IsOfAllAndMore}
+use Rattle.store_folder.specs.Blocks.{BlockFiles, SpellBlock, named_files}
+use Rattle.store_folder.specs.States.{StartsWith, started}
+
+-- the folder has the files of the block at each place, for good
+abbrev pub AreAt : {F : Type 0} → (F → List ℕ → Option (List ℕ) → Type 0)
+    → (F → List ℕ → ℕ → Type 0) → List Place → List BlockPart → F → Type 0
+AreAt shows kept [] [] f = Unit {0}
+AreAt shows kept [] (b ∷ blocks) f = ⊥
+AreAt shows kept (p ∷ places) [] f = ⊥
+AreAt shows kept (p ∷ places) (b ∷ blocks) f =
+    ((files : BlockFiles) × SpellBlock files b × AreThere shows kept (named_files p files) f)
+    × AreAt shows kept places blocks f
+
+-- Events since the first world: the head of the journal says the world of the early ones, and the
+-- late ones stand after it. The folder has the blocks that the head names.
+pub record HoldsAfterHead {F : Type 0} (shows : F → List ℕ → Option (List ℕ) → Type 0)
+    (kept : F → List ℕ → ℕ → Type 0) (sound : F → Bool) (moment : F → ℕ)
+    (left_since : F → ℕ → Left → Type 0) (first : World) (m : JournalFile F) (len : ℕ)
+    (closed : Bool) (events : List Event) : Type 0 where
+  pub saved : Saved
+  pub parts : List BlockPart
+  pub early : List Event
+  pub late : List Event
+  pub all : events ≡ early ++ late
+  pub head : IsSaved saved
+  pub begins : replayed first early ≡ Ok (world_of (started saved parts))
+  pub journal : Holds
+      (λ (j : JournalFile F) (bytes : List ℕ). shows j.folder journal_name (Some bytes))
+      (λ (j : JournalFile F) (n : ℕ). kept j.folder journal_name n)
+      (λ (j : JournalFile F). sound j.folder) (λ (j : JournalFile F). moment j.folder)
+      (λ (j : JournalFile F) (t : ℕ) (bytes : List ℕ). JournalLeft left_since j.folder t bytes)
+      (head_texts saved) m len closed late
+  pub blocks : AreAt shows kept saved.places parts m.folder
+
+-- the same, and then events that were kept last
+pub record KeptLast {F : Type 0} (shows : F → List ℕ → Option (List ℕ) → Type 0)
+    (kept : F → List ℕ → ℕ → Type 0) (sound : F → Bool) (moment : F → ℕ)
+    (left_since : F → ℕ → Left → Type 0) (first : World) (m : JournalFile F) (len : ℕ)
+    (closed : Bool) (events more : List Event) : Type 0 where
+  pub saved : Saved
+  pub parts : List BlockPart
+  pub early : List Event
+  pub late : List Event
+  pub all : events ≡ early ++ late
+  pub head : IsSaved saved
+  pub begins : replayed first early ≡ Ok (world_of (started saved parts))
+  pub journal : Holds
+      (λ (j : JournalFile F) (bytes : List ℕ). shows j.folder journal_name (Some bytes))
+      (λ (j : JournalFile F) (n : ℕ). kept j.folder journal_name n)
+      (λ (j : JournalFile F). sound j.folder) (λ (j : JournalFile F). moment j.folder)
+      (λ (j : JournalFile F) (t : ℕ) (bytes : List ℕ). JournalLeft left_since j.folder t bytes)
+      (head_texts saved) m len closed (late ++ more)
+  pub blocks : AreAt shows kept saved.places parts m.folder
+
+-- the world that a start might find after a crash at some moment from that one on
+abbrev pub FoundSince : {F : Type 0} → (F → ℕ → Left → Type 0) → F → ℕ → World → Type 0
+FoundSince left_since f t w = (left : Left) × left_since f t left × StartsWith left w
+
+-- the same, and these are the blocks that the head names, and where they lie
+abbrev pub HoldsAt : {F : Type 0} → (F → List ℕ → Option (List ℕ) → Type 0)
+    → (F → List ℕ → ℕ → Type 0) → (F → Bool) → (F → ℕ) → (F → ℕ → Left → Type 0) → World
+    → JournalFile F → ℕ → Bool → List Event → List Place → List BlockPart → Type 0
+HoldsAt shows kept sound moment left_since first m len closed events places parts =
+    (h : HoldsAfterHead shows kept sound moment left_since first m len closed events)
+    × (h.saved.places ≡ places) × (h.parts ≡ parts)
+
+-- The journal was lost on the way to a new head: nothing more is taken, and a start finds the world
+-- of these events.
+pub record IsLost {F : Type 0} (moment : F → ℕ) (left_since : F → ℕ → Left → Type 0)
+    (first : World) (m : JournalFile F) (closed : Bool) (events : List Event) : Type 0 where
+  pub is_closed : closed ≡ true
+  pub finds : (w : World) → FoundSince left_since m.folder (moment m.folder) w
+      → IsOfAllAndMore first events w
+
+-- the folder keeps these events, or a start finds their world and nothing more is taken
+abbrev pub HoldsStore : {F : Type 0} → (F → List ℕ → Option (List ℕ) → Type 0)
+    → (F → List ℕ → ℕ → Type 0) → (F → Bool) → (F → ℕ) → (F → ℕ → Left → Type 0) → World
+    → JournalFile F → ℕ → Bool → List Event → Type 0
+HoldsStore shows kept sound moment left_since first m len closed events =
+    HoldsAfterHead shows kept sound moment left_since first m len closed events
+    ⊎ IsLost moment left_since first m closed events

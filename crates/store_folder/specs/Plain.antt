@@ -1,0 +1,102 @@
+-- Journals of events alone.
+use Rattle.std.specs.Prelude.{◌≡◌, ◌⊎◌, ℕ, Bool, true, false, ◌&&◌, nat_le, List, [], Option, None}
+use Rattle.std.specs.Prelude.{Some, slice_get}
+use Rattle.data_folder.specs.Folders.{Left, LeavesOnly}
+use Rattle.data_folder.specs.JournalFile.{journal_name}
+use Rattle.event_journal.specs.Holding.{Stands}
+use Rattle.event_journal.specs.Outcome.{RefusesAt}
+use Rattle.event_text.specs.declared.error.TextError.TheVariants.{Kind}
+use Rattle.head.specs.Blocks.{opening_of}
+use Rattle.head.specs.Heads.{world_of}
+use Rattle.head.specs.Replaying as replaying
+use Rattle.head.specs.Worlds.{Event}
+use Rattle.head_record.specs.Spelling.{head_texts}
+use Rattle.journal.specs.Records.{Recovers}
+use Rattle.journal.specs.declared.error.JournalError.TheVariants.{Memory as NoRecord}
+use Rattle.store_folder.specs.declared.error.ReadError.{ReadError}
+use Rattle.store_folder.specs.declared.error.ReadError.TheVariants as read
+use Rattle.store_folder.specs.declared.error.StartError.{StartError}
+use Rattle.store_folder.specs.declared.error.StartError.TheVariants as errors
+use Rattle.store_folder.specs.Faults.{DeniesStore}
+use Rattle.store_folder.specs.Journals.{DeniesRecords}
+use Rattle.store_folder.specs.Starting.{nothing_saved}
+
+-- whether a content of this kind is an event
+abbrev pub is_event_kind : Option ℕ → Bool
+is_event_kind None = false
+is_event_kind (Some kind) = nat_le 1 kind && nat_le kind 3
+
+-- whether a file may be a journal of events alone: the first content, behind the header of the file
+-- and that of its record, begins as an event
+abbrev pub begins_plain : List ℕ → Bool
+begins_plain file = is_event_kind (slice_get file 13)
+
+-- contents are refused as events so: there is none, or one of them is no event
+abbrev pub DeniesEvents : List (List ℕ) → ReadError → Type 0
+DeniesEvents contents (read.Journal e) = ⊥
+DeniesEvents contents (read.Head refused) =
+    (contents ≡ []) × (refused.at ≡ 0) × (refused.error ≡ Kind)
+DeniesEvents contents (read.Event refused) = RefusesAt contents refused.at refused.error
+
+-- a file is refused as a journal of events alone so: the first check that failed
+abbrev pub DeniesPlain : List ℕ → ReadError → Type 0
+DeniesPlain file (read.Journal e) = DeniesRecords file e
+DeniesPlain file (read.Head refused) =
+    (contents : List (List ℕ)) × Recovers file contents
+    × DeniesEvents contents (read.Head refused)
+DeniesPlain file (read.Event refused) =
+    (contents : List (List ℕ)) × Recovers file contents
+    × DeniesEvents contents (read.Event refused)
+
+-- a store that has nothing does not accept these events so, or memory ran out
+abbrev pub DeniesAdmitting : List Event → StartError → Type 0
+DeniesAdmitting events errors.Medium = ⊥
+DeniesAdmitting events (errors.Journal e) = e ≡ read.Journal NoRecord
+DeniesAdmitting events (errors.Block unread) = ⊥
+DeniesAdmitting events (errors.Head e) = ⊥
+DeniesAdmitting events (errors.Event refused) =
+    replaying.RefusesAt (world_of (opening_of [])) events refused.at refused.error
+
+-- there is no text of such a file with a head so
+abbrev pub DeniesText : List ℕ → StartError → Type 0
+DeniesText file errors.Medium = ⊥
+DeniesText file (errors.Journal e) = DeniesPlain file e
+DeniesText file (errors.Block unread) = ⊥
+DeniesText file (errors.Head e) = ⊥
+DeniesText file (errors.Event refused) =
+    (events : List Event) × Stands [] file events
+    × replaying.RefusesAt (world_of (opening_of [])) events refused.at refused.error
+
+-- such a file is not given a head so: it is refused, or one of its events is not accepted by a
+-- store that has nothing, or the folder failed
+abbrev pub DeniesAdopting : {F : Type 0} → (F → Bool) → F → List ℕ → StartError → Type 0
+DeniesAdopting failed f file errors.Medium = failed f ≡ true
+DeniesAdopting failed f file (errors.Journal e) = DeniesPlain file e
+DeniesAdopting failed f file (errors.Block unread) = ⊥
+DeniesAdopting failed f file (errors.Head e) = ⊥
+DeniesAdopting failed f file (errors.Event refused) =
+    (events : List Event) × Stands [] file events
+    × replaying.RefusesAt (world_of (opening_of [])) events refused.at refused.error
+
+-- a crash at any moment since old leaves a journal of these events, with the head of a store that
+-- has nothing or with none
+abbrev pub LeavesEither : {F : Type 0} → (F → ℕ) → (F → ℕ → Left → Type 0) → F → F → List Event
+    → Type 0
+LeavesEither moment left_since old new events =
+    LeavesOnly moment left_since old new
+    (λ left. (bytes : List ℕ) × (left journal_name ≡ Some bytes)
+    × (Stands [] bytes events ⊎ Stands (head_texts nothing_saved) bytes events))
+
+-- a folder with this journal is not opened as a store so
+abbrev pub DeniesOpening : {F : Type 0} → (F → List ℕ → Option (List ℕ) → Type 0)
+    → (F → List ℕ → ℕ → Type 0) → (F → Bool) → F → List ℕ → StartError → Type 0
+DeniesOpening shows kept failed f file e =
+    DeniesStore shows kept failed f e
+    ⊎ ((begins_plain file ≡ true) × DeniesAdopting failed f file e)
+
+-- a folder is not opened as a store so
+abbrev pub DeniesFolder : {F : Type 0} → (F → List ℕ → Option (List ℕ) → Type 0)
+    → (F → List ℕ → ℕ → Type 0) → (F → Bool) → F → StartError → Type 0
+DeniesFolder shows kept failed f e =
+    DeniesStore shows kept failed f e
+    ⊎ ((file : List ℕ) × (begins_plain file ≡ true) × DeniesAdopting failed f file e)

@@ -1,0 +1,78 @@
+-- What a start answers, and what a crash leaves meanwhile.
+use Rattle.std.specs.Prelude.{◌≡◌, ◌==◌, ◌⊎◌, ◌&&◌, ◌||◌, ℕ, Bool, false, not, nat_lt, List, [], ◌++◌}
+use Rattle.std.specs.Prelude.{Option, None, Ok, length}
+use Rattle.data_folder.specs.declared.journal_file.JournalFile.{JournalFile}
+use Rattle.data_folder.specs.Folders.{Left}
+use Rattle.data_folder.specs.JournalFile.{journal_name}
+use Rattle.head.specs.declared.error.RefusedEvent.{RefusedEvent}
+use Rattle.head.specs.Heads.{BlockPart, SnapshotParts, world_of}
+use Rattle.head.specs.Replaying.{RefusesAt}
+use Rattle.head.specs.Resuming.{Denies, MayStand}
+use Rattle.head.specs.Worlds.{Event, World, replayed}
+use Rattle.head_record.specs.Saved.{Place, Saved}
+use Rattle.keeper.specs.Finding.{FindsOnly, IsOfAll}
+use Rattle.labels.specs.declared.sample.TheConstants.{MIN_TIME}
+use Rattle.store_folder.specs.declared.error.StartCause.TheVariants.{Refused}
+use Rattle.store_folder.specs.declared.error.StartError.{StartError}
+use Rattle.store_folder.specs.declared.error.StartError.TheVariants as errors
+use Rattle.store_folder.specs.Codes.{cause_of}
+use Rattle.store_folder.specs.Holding.{FoundSince, HoldsAt}
+use Rattle.store_folder.specs.Kinds.{has_cut, has_deletion}
+use Rattle.store_folder.specs.States.{IsState, started}
+
+-- why a snapshot is not made of a head, its blocks and the events after it
+abbrev pub DeniesStart : Saved → List BlockPart → List Event → StartError → Type 0
+DeniesStart saved parts events errors.Medium = ⊥
+DeniesStart saved parts events (errors.Journal e) = ⊥
+DeniesStart saved parts events (errors.Block e) = ⊥
+DeniesStart saved parts events (errors.Head e) = Denies e (MayStand (started saved parts))
+DeniesStart saved parts events (errors.Event refused) =
+    RefusesAt (world_of (started saved parts)) events refused.at refused.error
+
+-- an event of these is refused so
+pub record IsRefusedEvent (w : World) (events : List Event) (e : StartError) : Type 0 where
+  pub refused : RefusedEvent
+  pub is : e ≡ errors.Event refused
+  pub there : RefusesAt w events refused.at refused.error
+
+-- the error tells no fault of what the folder has: memory or the folder failed
+abbrev pub IsNoRefusal : StartError → Type 0
+IsNoRefusal e = cause_of e ≡ Refused → ⊥
+
+-- blocks, and perhaps more behind them
+abbrev pub BeginsWith : List BlockPart → List BlockPart → Type 0
+BeginsWith front blocks = (more : List BlockPart) × (blocks ≡ front ++ more)
+
+-- A store goes on: these events since the first world make the snapshot, and they are held, after a
+-- head that names these blocks at these places. Where none of them is a deletion, these are the
+-- first blocks of the snapshot.
+pub record GoesOn {F : Type 0} (shows : F → List ℕ → Option (List ℕ) → Type 0)
+    (kept : F → List ℕ → ℕ → Type 0) (sound : F → Bool) (moment : F → ℕ)
+    (left_since : F → ℕ → Left → Type 0) (first : World) (m : JournalFile F) (len : ℕ)
+    (closed : Bool) (events : List Event) (places : List Place) (parts : List BlockPart)
+    (s : SnapshotParts) : Type 0 where
+  pub world : replayed first events ≡ Ok (world_of s)
+  pub holds : HoldsAt shows kept sound moment left_since first m len closed events places parts
+  pub is_open : closed ≡ false
+  pub front : has_deletion events ≡ false → BeginsWith parts s.blocks
+
+-- whether it is worth saving what these events make, which stand in a journal of so many bytes:
+-- there are some, and one of them is a cut or the journal has more bytes than this
+abbrev pub is_due : List Event → ℕ → ℕ → Bool
+is_due events len most =
+    not (length events == 0) && (nat_lt most len || has_cut events)
+
+-- after a crash at any moment since old, a start finds the world of exactly these events
+abbrev pub StartFinds : {F : Type 0} → (F → ℕ) → (F → ℕ → Left → Type 0) → F → F → World
+    → List Event → Type 0
+StartFinds {F} moment left_since old new first events =
+    FindsOnly moment (λ (f : F) (t : ℕ) (w : World). FoundSince left_since f t w) old new
+    (λ (w : World). IsOfAll first events w)
+
+-- what is saved of a store that has nothing
+abbrev pub nothing_saved : Saved
+nothing_saved = record { floor = MIN_TIME; places = []; head = [] }
+
+-- what a crash leaves while a store is begun: no journal, or that of a store that has nothing
+abbrev pub IsNoneOrNothing : Left → Type 0
+IsNoneOrNothing left = (left journal_name ≡ None) ⊎ IsState nothing_saved [] [] left

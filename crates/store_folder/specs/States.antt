@@ -1,0 +1,55 @@
+-- When what lies in a folder is a store.
+use Rattle.std.specs.Prelude.{◌≡◌, ℕ, List, [], ◌∷◌, Ok, Some}
+use Rattle.std.specs.List.{AllByRecursion}
+use Rattle.wire.specs.Spelling.{IsBytes}
+use Rattle.data_folder.specs.Folders.{Left}
+use Rattle.data_folder.specs.States.{HasFiles, HasJournal}
+use Rattle.event_journal.specs.Holding.{contents_with}
+use Rattle.head.specs.Heads.{BlockPart, SnapshotParts, world_of}
+use Rattle.head.specs.Worlds.{Event, World, replayed}
+use Rattle.head_record.specs.Saved.{Place, Saved}
+use Rattle.head_record.specs.Spelling.{head_texts, IsSaved}
+use Rattle.keeper.specs.Together.{IsKept}
+use Rattle.store_folder.specs.Blocks.{BlockFiles, SpellBlock, named_files}
+
+-- at each place lie the files of the block
+abbrev pub LieAt : List Place → List BlockPart → Left → Type 0
+LieAt [] [] left = Unit {0}
+LieAt [] (b ∷ blocks) left = ⊥
+LieAt (p ∷ places) [] left = ⊥
+LieAt (p ∷ places) (b ∷ blocks) left =
+    ((files : BlockFiles) × SpellBlock files b × HasFiles (named_files p files) left)
+    × LieAt places blocks left
+
+-- the snapshot that a head and blocks are
+abbrev pub started : Saved → List BlockPart → SnapshotParts
+started saved blocks = record {
+  blocks = blocks;
+  head = saved.head;
+  floor = saved.floor;
+  copied = 0;
+}
+
+-- what is left of a folder is a store: a journal of a head and events, and the files of each block
+-- that the head names
+pub record IsState (saved : Saved) (parts : List BlockPart) (events : List Event) (left : Left)
+    : Type 0 where
+  pub head : IsSaved saved
+  pub each : AllByRecursion IsKept events
+  pub journal : HasJournal (contents_with (head_texts saved) events) left
+  pub blocks : LieAt saved.places parts left
+
+-- and this is its world
+abbrev pub HasWorld : Saved → List BlockPart → List Event → World → Type 0
+HasWorld saved blocks events w = replayed (world_of (started saved blocks)) events ≡ Ok w
+
+-- files of bytes
+abbrev pub AreBytes : Left → Type 0
+AreBytes left = (name bytes : List ℕ) → left name ≡ Some bytes → IsBytes bytes
+
+-- what a start that finds this makes of it: a store, and its world
+abbrev pub StartsWith : Left → World → Type 0
+StartsWith left w =
+    AreBytes left
+    × ((saved : Saved) × (parts : List BlockPart) × (events : List Event)
+    × IsState saved parts events left × HasWorld saved parts events w)

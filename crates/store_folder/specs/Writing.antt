@@ -1,0 +1,63 @@
+-- Blocks that are written anew, and where.
+use Rattle.std.specs.Prelude.{◌≡◌, ℕ, ◌+◌, zero, suc, Bool, List, [], ◌∷◌, ◌++◌, Option, map}
+use Rattle.std.specs.Prelude.{string_bytes}
+use Rattle.block_rewriter.specs.declared.rewriting.Rewritten.{Rewritten}
+use Rattle.block_rewriter.specs.Rows.{full_rows}
+use Rattle.data_folder.specs.Folders.{Left}
+use Rattle.data_folder.specs.States.{AreThere, Named}
+use Rattle.data_folder.specs.Sweeping.{KeepsStore}
+use Rattle.head.specs.Heads.{BlockPart}
+use Rattle.head_record.specs.Saved.{Place}
+use Rattle.labels.specs.Parts.{rows_in}
+use Rattle.labels.specs.Rows.{points_of}
+use Rattle.store_folder.specs.Blocks.{BlockFiles}
+
+abbrev pub files_in_memory : Rewritten → BlockFiles
+files_in_memory files = record {
+  meta = string_bytes files.meta;
+  index = files.index.items;
+  chunks = files.chunks.items;
+  tombstones = files.tombstones.items;
+}
+
+-- A block written anew: it covers the same times, and its rows are those of the other block that
+-- have a sample.
+pub record IsRewritten (old new : BlockPart) : Type 0 where
+  pub min : new.min ≡ old.min
+  pub max : new.max ≡ old.max
+  pub rows : rows_in new.part ≡ full_rows (rows_in old.part)
+
+-- each of these blocks written anew, in their order
+abbrev pub AreRewritten : List BlockPart → List BlockPart → Type 0
+AreRewritten [] [] = Unit {0}
+AreRewritten [] (b ∷ news) = ⊥
+AreRewritten (a ∷ olds) [] = ⊥
+AreRewritten (a ∷ olds) (b ∷ news) = IsRewritten a b × AreRewritten olds news
+
+-- The block covers the same times as the other one and has the same samples.
+pub record IsLike (old new : BlockPart) : Type 0 where
+  pub min : new.min ≡ old.min
+  pub max : new.max ≡ old.max
+  pub points : points_of (rows_in old.part) ≡ points_of (rows_in new.part)
+
+-- each block is like the other's at the same place
+abbrev pub AreLike : List BlockPart → List BlockPart → Type 0
+AreLike [] [] = Unit {0}
+AreLike [] (b ∷ news) = ⊥
+AreLike (a ∷ olds) [] = ⊥
+AreLike (a ∷ olds) (b ∷ news) = IsLike a b × AreLike olds news
+
+-- so many places, in folders of the numbers from this one on
+abbrev pub places_from : ℕ → ℕ → List Place
+places_from n zero = []
+places_from n (suc m) = (n, 0) ∷ places_from (n + 1) m
+
+-- From old to new these files were written beside a store: they are there for good, their names are
+-- the last of those to be kept, and what was to be kept stays, also after a crash at any moment.
+pub record Wrote {F : Type 0} (shows : F → List ℕ → Option (List ℕ) → Type 0)
+    (kept : F → List ℕ → ℕ → Type 0) (sound : F → Bool) (moment : F → ℕ)
+    (left_since : F → ℕ → Left → Type 0) (files : List Named) (before after : List (List ℕ))
+    (old new : F) : Type 0 where
+  pub there : AreThere shows kept files new
+  pub names : after ≡ before ++ map (λ (file : Named). file.0) files
+  pub stays : KeepsStore shows kept sound moment left_since before old new

@@ -1,0 +1,23 @@
+//! What is left of a store, and what it stands for.
+
+ghost use Rattle.std.specs.Prelude.{◌≡◌, List, Ok};
+ghost use Rattle.data_folder.specs.Folders.{Left};
+ghost use Rattle.head.specs.Heads.{BlockPart, SnapshotParts, world_of};
+ghost use Rattle.head.specs.Worlds.{Event as Change, World, replayed};
+ghost use Rattle.head_record.specs.Saved.{Saved};
+ghost use Rattle.store_folder.specs.Rewriting.{HaveSame};
+ghost use Rattle.store_folder.specs.States.{started, StartsWith};
+
+/// What is left of a folder is the store of one world.
+pub fn one_world()
+    ensures { (left : Left) (v w : World) → StartsWith left v → StartsWith left w → v ≡ w }
+{}
+
+/// Blocks that were written anew by their rows make the same world, so a journal may begin with
+/// them.
+pub fn rewritten_blocks()
+    ensures { (first : World) (events : List Change) (s : SnapshotParts) (saved : Saved)
+        (parts : List BlockPart) → HaveSame s.blocks parts → s.head ≡ saved.head
+        → s.floor ≡ saved.floor → replayed first events ≡ Ok (world_of s)
+        → replayed first events ≡ Ok (world_of (started saved parts)) }
+{}

@@ -1,0 +1,46 @@
+//! The folder of a durable store: what a start reads of it, and what a roll writes.
+//!
+//! A store is one journal and the files of the blocks that its head names: `IsState`, in
+//! `specs/States.antt`. [`open_store`] gives what a folder has of one, and [`resume_store`] goes on
+//! with it; [`begin_store`] begins one. A [`StoreKeeper`] keeps the events of a running store there.
+//! [`StartedStore::roll`] writes the blocks that the folder has not, begins the journal anew with a
+//! head that names them ([`StoreKeeper::save`]), and removes what is no longer the store's
+//! ([`StoreKeeper::sweep_blocks`]).
+//!
+//! [`read_journal`] gives the head and the events of a journal's file, or the first fault, `J1` to
+//! `J14`; [`read_blocks`] gives the blocks at places, and [`open_block`] the block that files
+//! spell. What a crash leaves of a store makes one world ([`one_world`]).
+//!
+//! It stands on `data_folder` for the folder, on `head_record` and `event_journal` for what a
+//! journal has, and on `head` for snapshots and the step of an event.
+#![tactic(auto)]
+
+mod blocks;
+mod codes;
+mod error;
+mod heads;
+mod journals;
+mod keeping;
+mod kinds;
+mod laws;
+mod litter;
+mod plain;
+mod reading;
+mod rolling;
+mod saving;
+mod started;
+mod starting;
+mod sweeping;
+mod writing;
+
+pub use blocks::{BlockBytes, open_block, read_blocks};
+pub use error::{
+    BlockFault, ReadError, RollFault, StartCause, StartError, UnreadBlock, WriteFault,
+};
+pub use journals::{FoundJournal, read_journal};
+pub use keeping::{Beginning, StoreKeeper};
+pub use kinds::{has_cut, has_deletion};
+pub use laws::{one_world, rewritten_blocks};
+pub use plain::{begins_plain, read_plain};
+pub use reading::{FoundStore, open_store, read_store};
+pub use starting::{StartedStore, begin_store, resume_store};

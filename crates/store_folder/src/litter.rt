@@ -1,0 +1,162 @@
+//! Blocks that are no longer the store's.
+
+ghost use Rattle.std.specs.Prelude.{◌≡◌, List, false};
+ghost use Rattle.head.specs.Heads.{BlockPart};
+ghost use Rattle.head.specs.Worlds.{Event as Change};
+ghost use Rattle.store_folder.specs.Holding.{HoldsAt, HoldsStore};
+ghost use Rattle.store_folder.specs.Starting.{StartFinds};
+
+use crate::error::BlockFault;
+use crate::keeping::{Beginning, StoreKeeper};
+use crate::sweeping::file_names;
+use data_folder::{Folder, NEXT, list_names, sweep};
+use head_record::BlockPlace;
+use std::alloc::{AllocError, Global};
+
+/// Whether a name is that of a number.
+fn is_number(name: &str) -> bool {
+    !name.is_empty() && name.as_bytes().iter().all(|byte| byte.is_ascii_digit())
+}
+
+/// Whether a name is that of the folder of one of these places.
+fn is_place(alloc: Global, places: &[BlockPlace], name: &str) -> Result<bool, AllocError> {
+    for place in places {
+        let number = place.folder();
+        let own = format!(in alloc; "{number}")?;
+        if own.as_str() == name {
+            return Ok(true);
+        }
+    }
+    Ok(false)
+}
+
+/// Adds the names of what a block has in the folder of this name, and the folder behind them.
+fn push_litter(alloc: Global, names: &mut Vec<String>, name: &str) -> Result<(), AllocError> {
+    names.push(format!(in alloc; "blocks/{name}/chunks/000001")?)?;
+    names.push(format!(in alloc; "blocks/{name}/chunks")?)?;
+    names.push(format!(in alloc; "blocks/{name}/index")?)?;
+    names.push(format!(in alloc; "blocks/{name}/meta.json")?)?;
+    names.push(format!(in alloc; "blocks/{name}/tombstones")?)?;
+    names.push(format!(in alloc; "blocks/{name}")?)?;
+    Ok(())
+}
+
+/// The names of what a roll that failed and blocks at other places than these have left behind, of
+/// the names of the folders of blocks.
+fn litter_names(
+    alloc: Global,
+    folders: &[String],
+    places: &[BlockPlace],
+) -> Result<Vec<String>, AllocError> {
+    let mut names = Vec::new(alloc);
+    names.push(NEXT.to_string(alloc)?)?;
+    for folder in folders {
+        let name = folder.as_str();
+        if is_number(name) && !is_place(alloc, places, name)? {
+            push_litter(alloc, &mut names, name)?;
+        }
+    }
+    Ok(names)
+}
+
+impl<N: Beginning, F: Folder + Drop> StoreKeeper<N, F> {
+    /// Removes what blocks at other places than these have left behind: the files of a block in
+    /// each folder of `blocks` with the name of a number that none of the places has, and then this
+    /// folder, unless something else stands in it; and a next journal beside the journal. The
+    /// places are all that the journal's head names. How many files and folders could not be
+    /// removed.
+    pub fn sweep_blocks(
+        &mut self,
+        alloc: Global,
+        places: &[BlockPlace],
+    ) -> Result<usize, BlockFault>
+        requires open { self.old.events.journal.closed ≡ false }
+        requires held { (events : List Change) × (parts : List BlockPart)
+            × HoldsAt F.shows F.kept F.sound F.moment F.left_since N.first
+            self.old.events.journal.medium self.old.events.journal.len
+            self.old.events.journal.closed events places.now parts }
+        ensures held { (events : List Change) (parts : List BlockPart)
+            → HoldsAt F.shows F.kept F.sound F.moment F.left_since N.first
+            self.old.events.journal.medium self.old.events.journal.len
+            self.old.events.journal.closed events places.now parts
+            → HoldsAt F.shows F.kept F.sound F.moment F.left_since N.first
+            self.new.events.journal.medium self.new.events.journal.len
+            self.new.events.journal.closed events places.now parts }
+        ensures open { self.new.events.journal.closed ≡ false }
+        ensures len { self.new.events.journal.len ≡ self.old.events.journal.len }
+        // After a crash at any moment of the call, a start finds the world of the same events.
+        ensures any_moment { (events : List Change) (parts : List BlockPart)
+            → HoldsAt F.shows F.kept F.sound F.moment F.left_since N.first
+            self.old.events.journal.medium self.old.events.journal.len
+            self.old.events.journal.closed events places.now parts
+            → StartFinds F.moment F.left_since self.old.events.journal.medium.folder
+            self.new.events.journal.medium.folder N.first events }
+    {
+        sweep_apart(alloc, &mut self.events.journal.medium.folder, places)
+    }
+
+    /// Removes what a roll that failed has left behind, as [`StoreKeeper::sweep_blocks`] does, if
+    /// the journal goes on.
+    pub(crate) fn sweep_after(&mut self, alloc: Global, places: &[BlockPlace])
+        requires { self.old.events.journal.closed ≡ false → (events : List Change)
+            × (parts : List BlockPart) × HoldsAt F.shows F.kept F.sound F.moment F.left_since
+            N.first self.old.events.journal.medium self.old.events.journal.len
+            self.old.events.journal.closed events places.now parts }
+        ensures closed { self.new.events.journal.closed ≡ self.old.events.journal.closed }
+        // What was held is held.
+        ensures held { (events : List Change) (parts : List BlockPart)
+            → (self.old.events.journal.closed ≡ false
+            → HoldsAt F.shows F.kept F.sound F.moment F.left_since N.first
+            self.old.events.journal.medium self.old.events.journal.len
+            self.old.events.journal.closed events places.now parts)
+            → HoldsStore F.shows F.kept F.sound F.moment F.left_since N.first
+            self.old.events.journal.medium self.old.events.journal.len
+            self.old.events.journal.closed events
+            → HoldsStore F.shows F.kept F.sound F.moment F.left_since N.first
+            self.new.events.journal.medium self.new.events.journal.len
+            self.new.events.journal.closed events }
+        // After a crash at any moment since a folder, a start finds the same world.
+        ensures any_moment { (events : List Change) (parts : List BlockPart) (before : F)
+            → (self.old.events.journal.closed ≡ false
+            → HoldsAt F.shows F.kept F.sound F.moment F.left_since N.first
+            self.old.events.journal.medium self.old.events.journal.len
+            self.old.events.journal.closed events places.now parts)
+            → StartFinds F.moment F.left_since before self.old.events.journal.medium.folder
+            N.first events
+            → StartFinds F.moment F.left_since before self.new.events.journal.medium.folder
+            N.first events }
+    {
+        if self.events.journal.closed {
+            return;
+        }
+        let _ = self.sweep_blocks(alloc, places);
+    }
+}
+
+ghost use Rattle.std.specs.Prelude.{true};
+ghost use Rattle.data_folder.specs.Sweeping.{KeepsStore};
+ghost use Rattle.store_folder.specs.Sweeps.{names_at};
+
+/// The same in a folder. The journal stays, and so do the files of blocks at these places.
+fn sweep_apart<F: Folder>(
+    alloc: Global,
+    folder: &mut F,
+    places: &[BlockPlace],
+) -> Result<usize, BlockFault>
+    requires { F.sound folder.old ≡ true }
+    ensures sound { F.sound folder.new ≡ true }
+    ensures kept { KeepsStore F.shows F.kept F.sound F.moment F.left_since (names_at places.now)
+        folder.old folder.new }
+{
+    let Ok(kept) = file_names(alloc, places) else {
+        return Err(BlockFault::Memory);
+    };
+    let folders = match list_names(alloc, folder, "blocks") {
+        Ok(folders) => folders,
+        Err(_) => return Err(BlockFault::Medium),
+    };
+    let Ok(names) = litter_names(alloc, &folders, places) else {
+        return Err(BlockFault::Memory);
+    };
+    Ok(sweep(folder, &names, &kept))
+}

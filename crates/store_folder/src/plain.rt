@@ -1,0 +1,182 @@
+//! Journals of events alone, as a store kept them before a journal had a head.
+
+ghost use Rattle.std.specs.Prelude.{◌≡◌, ◌⊎◌, ◌-◌, ◌++◌, List, [], length, true, IfOk, IfErr, OnOk};
+ghost use Rattle.data_folder.specs.Folders.{HasFile};
+ghost use Rattle.data_folder.specs.JournalFile.{journal_name};
+ghost use Rattle.event_journal.specs.Holding.{Spell, Stands, contents_with};
+ghost use Rattle.event_text.specs.declared.error.TextError.TheVariants.{Kind};
+ghost use Rattle.head.specs.Worlds.{Event as Change};
+ghost use Rattle.head_record.specs.Spelling.{head_texts};
+ghost use Rattle.journal.specs.Contents.{contents_in};
+ghost use Rattle.journal.specs.Group.{IsJournalText};
+ghost use Rattle.journal.specs.Records.{file_of};
+ghost use Rattle.journal.specs.declared.error.JournalError.TheVariants.{Memory as NoRecord};
+ghost use Rattle.keeper.specs.Together.{texts_of};
+ghost use Rattle.store_folder.specs.Plain.{DeniesAdmitting, DeniesAdopting, DeniesEvents};
+ghost use Rattle.store_folder.specs.Plain.{DeniesPlain, DeniesText, LeavesEither, begins_plain};
+ghost use Rattle.store_folder.specs.declared.error.ReadError.TheVariants.{Head, Journal as Records};
+ghost use Rattle.store_folder.specs.declared.error.StartError.TheVariants.{Journal};
+ghost use Rattle.store_folder.specs.Starting.{nothing_saved};
+
+use crate::error::{ReadError, StartError};
+use crate::journals::FoundJournal;
+use crate::starting::{no_memory, nothing};
+use data_folder::{Folder, change_journal};
+use event_journal::read_events;
+use event_text::TextError;
+use head::{Event, Snapshot, replay};
+use head_record::{RefusedHead, head_contents};
+use journal::{JournalError, file_text, recover};
+use std::alloc::{AllocError, Global};
+
+/// Whether a file may be a journal of events alone: its first content begins as that of an event.
+pub fn begins_plain(file: &[u8]) -> bool
+    ensures { result ≡ begins_plain file.now }
+{
+    match file.get(13) {
+        Some(kind) => 1 <= *kind && *kind <= 3,
+        None => false,
+    }
+}
+
+/// That a journal has no content to begin with.
+fn no_head() -> ReadError
+    ensures { result ≡ Head (record { at = 0; error = Kind }) }
+{
+    ReadError::Head(RefusedHead {
+        at: 0,
+        error: TextError::Kind,
+    })
+}
+
+/// The events that all of the contents are, of which there are some.
+fn plain_events(alloc: Global, contents: &[Vec<u8>]) -> Result<Vec<Event>, ReadError>
+    ensures found { IfOk result (λ events. Spell (contents_in contents.now) events.items) }
+    ensures refused { IfErr result (λ e. DeniesEvents (contents_in contents.now) e) }
+{
+    if contents.is_empty() {
+        return Err(no_head());
+    }
+    match read_events(alloc, contents) {
+        Ok(events) => Ok(events),
+        Err(refused) => Err(ReadError::Event(refused)),
+    }
+}
+
+/// The events of a journal's file that has no head, of which there are some, or the first fault.
+/// The head is given as that of a store that has nothing.
+pub fn read_plain(alloc: Global, file: &[u8]) -> Result<FoundJournal, ReadError>
+    // What is answered is what the file stands for.
+    ensures found { IfOk result (λ j. Stands [] file.now j.events.items) }
+    ensures head { IfOk result (λ j. j.head ≡ nothing_saved) }
+    ensures len { IfOk result (λ j. j.len ≡ length (file_of (texts_of j.events.items))) }
+    ensures torn { IfOk result (λ j. j.torn ≡ length file.now - j.len) }
+    // A refusal tells which check failed first, and where.
+    ensures refused { IfErr result (λ e. DeniesPlain file.now e) }
+{
+    match recover(alloc, file) {
+        Ok(recovered) => match plain_events(alloc, &recovered.contents) {
+            Ok(events) => Ok(FoundJournal {
+                head: nothing(alloc),
+                events,
+                len: recovered.len,
+                torn: file.len().saturating_sub(recovered.len),
+            }),
+            Err(error) => Err(error),
+        },
+        Err(error) => Err(ReadError::Journal(error)),
+    }
+}
+
+/// The contents of a journal with the head of a store that has nothing in front of others.
+fn with_head(alloc: Global, contents: Vec<Vec<u8>>) -> Result<Vec<Vec<u8>>, AllocError>
+    ensures { IfOk result (λ all.
+        contents_in all.items ≡ head_texts nothing_saved ++ contents_in contents.items) }
+{
+    let mut rest = contents;
+    let mut all = head_contents(alloc, &nothing(alloc))?;
+    all.append(&mut rest)?;
+    Ok(all)
+}
+
+/// The text of the journal that has the head of a store that has nothing, and then these contents.
+/// Each of them was a record's, so there is no refusal but memory's.
+fn text_with_head(alloc: Global, contents: Vec<Vec<u8>>) -> Result<Vec<u8>, StartError>
+    ensures text { IfOk result (λ text. IsJournalText
+        (head_texts nothing_saved ++ contents_in contents.items) text.items) }
+    ensures refused { IfErr result (λ e. e ≡ Journal (Records NoRecord)) }
+{
+    let all = match with_head(alloc, contents) {
+        Ok(all) => all,
+        Err(_) => return Err(no_memory()),
+    };
+    match file_text(alloc, &all) {
+        Ok(text) => Ok(text),
+        Err(_) => Err(no_memory()),
+    }
+}
+
+/// That these events are accepted by a store that has nothing.
+fn admit(alloc: Global, events: &[Event]) -> Result<(), StartError>
+    ensures { IfErr result (λ e. DeniesAdmitting events.now e) }
+{
+    let nothing = match Snapshot::opening(alloc, Vec::new(alloc)) {
+        Ok(nothing) => nothing,
+        Err(_) => return Err(no_memory()),
+    };
+    match replay(alloc, nothing, events) {
+        Ok(_) => Ok(()),
+        Err(refused) => Err(StartError::Event(refused)),
+    }
+}
+
+/// The text that a journal of events alone has with the head of a store that has nothing, or why
+/// the journal is refused.
+fn plain_text(alloc: Global, file: &[u8]) -> Result<Vec<u8>, StartError>
+    ensures text { IfOk result (λ text. (events : List Change) × Stands [] file.now events
+        × IsJournalText (contents_with (head_texts nothing_saved) events) text.items) }
+    ensures refused { IfErr result (λ e. DeniesText file.now e) }
+{
+    let recovered = match recover(alloc, file) {
+        Ok(recovered) => recovered,
+        Err(error) => return Err(StartError::Journal(ReadError::Journal(error))),
+    };
+    let events = match plain_events(alloc, &recovered.contents) {
+        Ok(events) => events,
+        Err(error) => return Err(StartError::Journal(error)),
+    };
+    match admit(alloc, &events) {
+        Ok(()) => text_with_head(alloc, recovered.contents),
+        Err(error) => Err(error),
+    }
+}
+
+/// Gives the journal of a folder, which has this file, the head of a store that has nothing, if it
+/// is a journal of events alone, all of which such a store accepts. A torn end is left out. Nothing
+/// is changed where it is refused.
+pub(crate) fn add_head<F: Folder>(
+    alloc: Global,
+    folder: &mut F,
+    file: &[u8],
+) -> Result<(), StartError>
+    requires sound { F.sound folder.old ≡ true }
+    requires has { HasFile F.shows F.kept journal_name file.now folder.old }
+    ensures added { OnOk result ((events : List Change) × Stands [] file.now events
+        × HasFile F.shows F.kept journal_name
+        (file_of (contents_with (head_texts nothing_saved) events)) folder.new) }
+    ensures sound { OnOk result (F.sound folder.new ≡ true) }
+    ensures refused { IfErr result (λ e. DeniesAdopting F.failed folder.new file.now e) }
+    // A crash at any moment of the call leaves a journal of these events, with the head or without.
+    ensures any_moment { (folder.new ≡ folder.old) ⊎ ((events : List Change)
+        × Stands [] file.now events
+        × LeavesEither F.moment F.left_since folder.old folder.new events) }
+{
+    let text = match plain_text(alloc, file) {
+        Ok(text) => text,
+        Err(error) => return Err(error),
+    };
+    match change_journal(folder, &text) {
+        Ok(()) => Ok(()),
+        Err(_) => Err(StartError::Medium),
+    }
+}

@@ -1,0 +1,86 @@
+//! A journal that begins with a new head.
+
+ghost use Rattle.std.specs.Prelude.{◌≡◌, List, [], false, true, Err, IfErr, OnErr, OnOk, length};
+ghost use Rattle.event_journal.specs.Holding.{contents_with};
+ghost use Rattle.head.specs.Heads.{BlockPart};
+ghost use Rattle.head.specs.Worlds.{Event as Change};
+ghost use Rattle.head_record.specs.Saved.{Place};
+ghost use Rattle.head_record.specs.Spelling.{head_texts};
+ghost use Rattle.journal.specs.Records.{file_of};
+ghost use Rattle.store_folder.specs.Holding.{HoldsAt, HoldsStore};
+ghost use Rattle.store_folder.specs.Rolls.{MayRoll};
+ghost use Rattle.store_folder.specs.Starting.{StartFinds};
+
+use crate::error::RollFault;
+use crate::heads::head_journal;
+use crate::keeping::{Beginning, StoreKeeper};
+use data_folder::{Folder, RollError, roll};
+use head_record::HeadRecord;
+use std::alloc::Global;
+
+impl<N: Beginning, F: Folder + Drop> StoreKeeper<N, F> {
+    /// Begins the journal anew with this head, which says the world of all events so far. The files
+    /// of its blocks lie in the folder. No event may be kept meanwhile.
+    ///
+    /// The journal goes on as it was unless the error is `Lost`: then it is closed.
+    pub fn roll(&mut self, alloc: Global, head: &HeadRecord) -> Result<(), RollFault>
+        requires { (events : List Change) × (parts : List BlockPart)
+            × MayRoll F.shows F.kept F.sound F.moment F.left_since N.first
+            self.old.events.journal.medium self.old.events.journal.len
+            self.old.events.journal.closed events head.now parts }
+        // The same events are held, whatever the answer.
+        ensures held { (events : List Change) (parts : List BlockPart)
+            → MayRoll F.shows F.kept F.sound F.moment F.left_since N.first
+            self.old.events.journal.medium self.old.events.journal.len
+            self.old.events.journal.closed events head.now parts
+            → HoldsStore F.shows F.kept F.sound F.moment F.left_since N.first
+            self.new.events.journal.medium self.new.events.journal.len
+            self.new.events.journal.closed events }
+        // After `Ok` the head is the new one.
+        ensures places { OnOk result ((events : List Change) (parts : List BlockPart)
+            → MayRoll F.shows F.kept F.sound F.moment F.left_since N.first
+            self.old.events.journal.medium self.old.events.journal.len
+            self.old.events.journal.closed events head.now parts
+            → HoldsAt F.shows F.kept F.sound F.moment F.left_since N.first
+            self.new.events.journal.medium self.new.events.journal.len
+            self.new.events.journal.closed events head.now.places parts) }
+        // Where it fails and goes on, the head is the one before.
+        ensures err { OnErr result ((events : List Change) (places : List Place)
+            (parts : List BlockPart)
+            → HoldsAt F.shows F.kept F.sound F.moment F.left_since N.first
+            self.old.events.journal.medium self.old.events.journal.len
+            self.old.events.journal.closed events places parts
+            → self.new.events.journal.closed ≡ false
+            → HoldsAt F.shows F.kept F.sound F.moment F.left_since N.first
+            self.new.events.journal.medium self.new.events.journal.len
+            self.new.events.journal.closed events places parts) }
+        // After a crash at any moment of the call, a start finds the world of these events.
+        ensures any_moment { (events : List Change) (parts : List BlockPart)
+            → MayRoll F.shows F.kept F.sound F.moment F.left_since N.first
+            self.old.events.journal.medium self.old.events.journal.len
+            self.old.events.journal.closed events head.now parts
+            → self.old.events.journal.closed ≡ false
+            → StartFinds F.moment F.left_since self.old.events.journal.medium.folder
+            self.new.events.journal.medium.folder N.first events }
+        ensures open { OnOk result (self.new.events.journal.closed ≡ false) }
+        // Then it has the head and nothing more.
+        ensures len { OnOk result (self.new.events.journal.len
+            ≡ length (file_of (contents_with (head_texts head.now) []))) }
+        ensures goes_on { IfErr result (λ e. (e ≡ RollFault.Folder RollError.Lost → ⊥)
+            → self.old.events.journal.closed ≡ false → self.new.events.journal.closed ≡ false) }
+        ensures closed { self.old.events.journal.closed ≡ true
+            → (result ≡ Err (RollFault.Folder RollError.Closed)) × (self.new ≡ self.old) }
+    {
+        if self.events.journal.closed {
+            return Err(RollFault::Folder(RollError::Closed));
+        }
+        let text = match head_journal(alloc, head) {
+            Ok(text) => text,
+            Err(error) => return Err(RollFault::Text(error)),
+        };
+        match roll(&mut self.events.journal, &text) {
+            Ok(()) => Ok(()),
+            Err(error) => Err(RollFault::Folder(error)),
+        }
+    }
+}

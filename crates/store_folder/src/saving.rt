@@ -1,0 +1,172 @@
+//! A snapshot that is saved in the place of the events that made it.
+
+ghost use Rattle.std.specs.Prelude.{◌≡◌, ◌≤◌, ◌-◌, ◌++◌, List, Err, false, true, drop, length};
+ghost use Rattle.std.specs.Prelude.{[], IfErr, IfOk, OnErr, OnOk, take};
+ghost use Rattle.data_folder.specs.Sweeping.{KeepsStore};
+ghost use Rattle.event_journal.specs.Holding.{contents_with};
+ghost use Rattle.head.specs.Heads.{BlockPart};
+ghost use Rattle.head.specs.Worlds.{Event as Change};
+ghost use Rattle.head_record.specs.Saved.{save};
+ghost use Rattle.head_record.specs.Spelling.{head_texts};
+ghost use Rattle.journal.specs.Records.{file_of};
+ghost use Rattle.store_folder.specs.Holding.{AreAt, HoldsAt, HoldsStore};
+ghost use Rattle.store_folder.specs.Saving.{MaySave};
+ghost use Rattle.store_folder.specs.Starting.{StartFinds};
+ghost use Rattle.store_folder.specs.Sweeps.{names_at};
+ghost use Rattle.store_folder.specs.Writing.{AreLike, AreRewritten, places_from};
+
+use crate::error::RollFault;
+use crate::keeping::{Beginning, StoreKeeper};
+use crate::sweeping::file_names;
+use crate::writing::write_blocks;
+use data_folder::{Folder, RollError};
+use head::Snapshot;
+use head_record::{BlockPlace, HeadRecord};
+use std::alloc::{AllocError, Global};
+
+/// Places, and others after them.
+fn places_of(
+    alloc: Global,
+    first: &[BlockPlace],
+    more: &[BlockPlace],
+) -> Result<Vec<BlockPlace>, AllocError>
+    ensures { IfOk result (λ places. places.items ≡ first.now ++ more.now) }
+{
+    let mut places = Vec::from_slice(alloc, first)?;
+    places.extend_from_slice(more)?;
+    Ok(places)
+}
+
+/// Writes the blocks of a snapshot but the first so many, in folders of the numbers from `next` on,
+/// and gives what is saved of it. The files of blocks at the held places stay, of which the first
+/// so many are those of the snapshot's first blocks.
+fn write_saved<F: Folder>(
+    alloc: Global,
+    folder: &mut F,
+    snapshot: &Snapshot,
+    held: &[BlockPlace],
+    same: usize,
+    next: u64,
+) -> Result<HeadRecord, RollFault>
+    requires sound { F.sound folder.old ≡ true }
+    requires held { same ≤ length held.now }
+    requires blocks { same ≤ length snapshot.now.blocks }
+    ensures saved { IfOk result (λ head. head ≡ save snapshot.now
+        (take same held.now ++ places_from next (length snapshot.now.blocks - same))) }
+    ensures there { OnOk result ((parts : List BlockPart)
+        × AreRewritten (drop same snapshot.now.blocks) parts
+        × AreAt F.shows F.kept (places_from next (length snapshot.now.blocks - same)) parts
+        folder.new) }
+    ensures sound { F.sound folder.new ≡ true }
+    ensures stays { KeepsStore F.shows F.kept F.sound F.moment F.left_since (names_at held.now)
+        folder.old folder.new }
+{
+    let Ok(mut kept) = file_names(alloc, held) else {
+        return Err(RollFault::Memory);
+    };
+    let blocks = snapshot.blocks().split_at(same).1;
+    let added = match write_blocks(alloc, folder, &mut kept, blocks, next) {
+        Ok(added) => added,
+        Err(fault) => return Err(RollFault::Block(fault)),
+    };
+    let Ok(places) = places_of(alloc, held.split_at(same).0, &added) else {
+        return Err(RollFault::Memory);
+    };
+    let Ok(series) = snapshot.head().saved(alloc) else {
+        return Err(RollFault::Memory);
+    };
+    Ok(HeadRecord::new(snapshot.floor(), places, series))
+}
+
+impl<N: Beginning, F: Folder + Drop> StoreKeeper<N, F> {
+    /// How many bytes the journal has: it may be begun anew when they are many.
+    pub fn journal_len(&self) -> usize
+        ensures { result ≡ self.now.events.journal.len }
+    {
+        self.events.journal.len
+    }
+
+    /// Saves a snapshot of the world of all events so far, and begins the journal anew with it. The
+    /// blocks that the journal's head names lie at the held places; the first `same` of them are
+    /// the snapshot's, and the snapshot's other blocks are written anew, in folders of the numbers
+    /// from `next` on, of which none is in use. No event may be kept meanwhile. The places of the
+    /// snapshot's blocks, which the head then names; what is at others is litter
+    /// ([`StoreKeeper::sweep_blocks`]).
+    ///
+    /// Where it fails the journal goes on as it was, unless the fault is `Folder(Lost)`: then it is
+    /// closed.
+    pub fn save(
+        &mut self,
+        alloc: Global,
+        snapshot: &Snapshot,
+        held: &[BlockPlace],
+        same: usize,
+        next: u64,
+    ) -> Result<Vec<BlockPlace>, RollFault>
+        requires { self.old.events.journal.closed ≡ false → (events : List Change)
+            × (parts : List BlockPart) × MaySave F.shows F.kept F.sound F.moment F.left_since
+            N.first self.old.events.journal.medium self.old.events.journal.len
+            self.old.events.journal.closed events snapshot.now held.now parts same }
+        // The same events are held, whatever the answer.
+        ensures held { (events : List Change) (parts : List BlockPart)
+            → MaySave F.shows F.kept F.sound F.moment F.left_since N.first
+            self.old.events.journal.medium self.old.events.journal.len
+            self.old.events.journal.closed events snapshot.now held.now parts same
+            → HoldsStore F.shows F.kept F.sound F.moment F.left_since N.first
+            self.new.events.journal.medium self.new.events.journal.len
+            self.new.events.journal.closed events }
+        // After `Ok` the head names blocks like the snapshot's at these places.
+        ensures places { IfOk result (λ places. (events : List Change) (parts : List BlockPart)
+            → MaySave F.shows F.kept F.sound F.moment F.left_since N.first
+            self.old.events.journal.medium self.old.events.journal.len
+            self.old.events.journal.closed events snapshot.now held.now parts same
+            → (made : List BlockPart) × AreLike snapshot.now.blocks made
+            × HoldsAt F.shows F.kept F.sound F.moment F.left_since N.first
+            self.new.events.journal.medium self.new.events.journal.len
+            self.new.events.journal.closed events places.items made) }
+        // They are the first of those held, and folders of the numbers from the next one on.
+        ensures numbers { IfOk result (λ places. places.items
+            ≡ take same held.now ++ places_from next (length snapshot.now.blocks - same)) }
+        // Where it fails and goes on, the head is the one before.
+        ensures err { OnErr result ((events : List Change) (parts : List BlockPart)
+            → MaySave F.shows F.kept F.sound F.moment F.left_since N.first
+            self.old.events.journal.medium self.old.events.journal.len
+            self.old.events.journal.closed events snapshot.now held.now parts same
+            → self.new.events.journal.closed ≡ false
+            → HoldsAt F.shows F.kept F.sound F.moment F.left_since N.first
+            self.new.events.journal.medium self.new.events.journal.len
+            self.new.events.journal.closed events held.now parts) }
+        // After a crash at any moment of the call, a start finds the world of these events.
+        ensures any_moment { (events : List Change) (parts : List BlockPart)
+            → MaySave F.shows F.kept F.sound F.moment F.left_since N.first
+            self.old.events.journal.medium self.old.events.journal.len
+            self.old.events.journal.closed events snapshot.now held.now parts same
+            → self.old.events.journal.closed ≡ false
+            → StartFinds F.moment F.left_since self.old.events.journal.medium.folder
+            self.new.events.journal.medium.folder N.first events }
+        ensures open { OnOk result (self.new.events.journal.closed ≡ false) }
+        // Then it has what is saved and nothing more.
+        ensures len { IfOk result (λ places. self.new.events.journal.len
+            ≡ length (file_of (contents_with (head_texts (save snapshot.now places.items)) []))) }
+        ensures goes_on { IfErr result (λ e. (e ≡ RollFault.Folder RollError.Lost → ⊥)
+            → self.old.events.journal.closed ≡ false → self.new.events.journal.closed ≡ false) }
+        ensures closed { self.old.events.journal.closed ≡ true
+            → (result ≡ Err (RollFault.Folder RollError.Closed)) × (self.new ≡ self.old) }
+    {
+        if self.events.journal.closed {
+            return Err(RollFault::Folder(RollError::Closed));
+        }
+        let folder = &mut self.events.journal.medium.folder;
+        let head = match write_saved(alloc, folder, snapshot, held, same, next) {
+            Ok(head) => head,
+            Err(fault) => return Err(fault),
+        };
+        let Ok(places) = Vec::from_slice(alloc, head.places()) else {
+            return Err(RollFault::Memory);
+        };
+        match self.roll(alloc, &head) {
+            Ok(()) => Ok(places),
+            Err(fault) => Err(fault),
+        }
+    }
+}

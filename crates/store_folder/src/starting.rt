@@ -1,0 +1,247 @@
+//! How a store goes on, and how one begins.
+
+ghost use Rattle.std.specs.Prelude.{◌≡◌, ◌⊎◌, List, [], None, Ok, IfOk, IfErr, MatchResult};
+ghost use Rattle.std.specs.Prelude.{false, map, true};
+ghost use Rattle.data_folder.specs.Folders.{LeavesOnly};
+ghost use Rattle.data_folder.specs.JournalFile.{journal_name};
+ghost use Rattle.head.specs.Blocks.{opening_of, part_in};
+ghost use Rattle.head.specs.Heads.{BlockPart, world_of};
+ghost use Rattle.head.specs.Worlds.{replayed};
+ghost use Rattle.journal.specs.declared.error.JournalError.TheVariants.{Memory as NoRecord};
+ghost use Rattle.store_folder.specs.Codes.{cause_of};
+ghost use Rattle.store_folder.specs.Finding.{IsFoundStore};
+ghost use Rattle.store_folder.specs.Holding.{HoldsAt, HoldsStore};
+ghost use Rattle.store_folder.specs.Kinds.{has_deletion};
+ghost use Rattle.store_folder.specs.Starting.{BeginsWith, DeniesStart, GoesOn};
+ghost use Rattle.store_folder.specs.Starting.{IsNoneOrNothing, IsNoRefusal, IsRefusedEvent};
+ghost use Rattle.store_folder.specs.Starting.{StartFinds, nothing_saved};
+ghost use Rattle.store_folder.specs.Refusals.{IsRefusal};
+ghost use Rattle.store_folder.specs.States.{HasWorld, started};
+ghost use Rattle.store_folder.specs.declared.error.ReadError.TheVariants.{Journal as Records};
+ghost use Rattle.store_folder.specs.declared.error.StartCause.TheVariants.{Refused};
+ghost use Rattle.store_folder.specs.declared.error.StartError.TheVariants.{Journal};
+
+use crate::error::{ReadError, StartError};
+use crate::heads::head_journal;
+use crate::journals::FoundJournal;
+use crate::keeping::{Beginning, StoreKeeper};
+use crate::reading::FoundStore;
+use block::Block;
+use data_folder::{Folder, JournalFile, begin};
+use event_journal::EventJournal;
+use head::{Event, RefusedEvent, Snapshot, apply};
+use head_record::HeadRecord;
+use journal::{JournalError, MediumError};
+use labels::MIN_TIME;
+use std::alloc::Global;
+use std::marker::PhantomData;
+
+/// A store that goes on, or one that begins.
+#[derive(Drop)]
+pub struct StartedStore<N: Beginning, F: Folder + Drop> {
+    /// What the events of the journal make of its head and blocks.
+    pub snapshot: Snapshot,
+    /// What keeps these events, and those to come.
+    pub keeper: StoreKeeper<N, F>,
+    /// The journal, as it was found.
+    pub journal: FoundJournal,
+}
+
+/// The snapshot after events, as `head::replay` gives it. Where none of them is a deletion, its
+/// first blocks are those of the snapshot before.
+fn after_events(alloc: Global, snapshot: Snapshot, events: &[Event]) -> Result<Snapshot, StartError>
+    ensures ok { IfOk result (λ s. replayed (world_of snapshot) events.now ≡ Ok (world_of s)) }
+    ensures front { IfOk result (λ s. has_deletion events.now ≡ false
+        → BeginsWith snapshot.blocks s.blocks) }
+    ensures refused { IfErr result (λ e. IsRefusedEvent (world_of snapshot) events.now e) }
+{
+    let mut at = snapshot;
+    for place in 0..events.len() {
+        match apply(alloc, &at, &events[place]) {
+            Ok(next) => at = next,
+            Err(error) => return Err(StartError::Event(RefusedEvent { at: place, error })),
+        }
+    }
+    Ok(at)
+}
+
+/// What the events of a journal make of its head and blocks.
+fn snapshot_of(
+    alloc: Global,
+    journal: &FoundJournal,
+    blocks: Vec<Block>,
+) -> Result<Snapshot, StartError>
+    ensures world { IfOk result (λ s. HasWorld journal.now.head (map part_in blocks.items)
+        journal.now.events.items (world_of s)) }
+    ensures front { IfOk result (λ s. has_deletion journal.now.events.items ≡ false
+        → BeginsWith (map part_in blocks.items) s.blocks) }
+    ensures refused { IfErr result (λ e. DeniesStart journal.now.head (map part_in blocks.items)
+        journal.now.events.items e) }
+{
+    match Snapshot::resumed(alloc, blocks, journal.head.floor(), journal.head.series()) {
+        Ok(snapshot) => after_events(alloc, snapshot, &journal.events),
+        Err(error) => Err(StartError::Head(error)),
+    }
+}
+
+/// That no memory is left for a journal.
+pub(crate) fn no_memory() -> StartError
+    ensures { result ≡ Journal (Records NoRecord) }
+{
+    StartError::Journal(ReadError::Journal(JournalError::Memory))
+}
+
+/// What is saved of a store that has nothing.
+pub(crate) fn nothing(alloc: Global) -> HeadRecord
+    ensures { result ≡ nothing_saved }
+{
+    HeadRecord::new(MIN_TIME, Vec::new(alloc), Vec::new(alloc))
+}
+
+impl<N: Beginning, F: Folder + Drop> StoreKeeper<N, F> {
+    /// Begins the journal of a folder that has none: no blocks, no series, and no events. An `Err`
+    /// gives the folder back: a start finds no journal in it, or this one.
+    pub fn create(alloc: Global, folder: F) -> Result<StoreKeeper<N, F>, (StartError, F)>
+        requires sound { F.sound folder ≡ true }
+        requires none { F.shows folder journal_name None × F.kept folder journal_name 0 }
+        requires first { N.first ≡ world_of (opening_of []) }
+        ensures holds { IfOk result (λ k. HoldsStore F.shows F.kept F.sound F.moment F.left_since
+            N.first k.events.journal.medium k.events.journal.len k.events.journal.closed []) }
+        ensures places { IfOk result (λ k. HoldsAt F.shows F.kept F.sound F.moment F.left_since
+            N.first k.events.journal.medium k.events.journal.len k.events.journal.closed [] [] []) }
+        ensures open { IfOk result (λ k. k.events.journal.closed ≡ false) }
+        ensures any_moment { MatchResult result
+            (λ k. LeavesOnly F.moment F.left_since folder k.events.journal.medium.folder
+            IsNoneOrNothing)
+            (λ e. LeavesOnly F.moment F.left_since folder e.1 IsNoneOrNothing) }
+        // What fails is memory or the folder.
+        ensures refused { IfErr result (λ e. IsNoRefusal e.0) }
+    {
+        let text = match head_journal(alloc, &nothing(alloc)) {
+            Ok(text) => text,
+            Err(_) => return Err((no_memory(), folder)),
+        };
+        match begin(folder, &text) {
+            Ok(journal) => Ok(StoreKeeper {
+                events: EventJournal { journal },
+                of: PhantomData,
+            }),
+            Err((_, folder)) => Err((StartError::Medium, folder)),
+        }
+    }
+
+    /// Goes on after the events of a journal, whose torn end is cut off. An `Err` gives the folder
+    /// back where that fails.
+    fn resume(folder: F, journal: &FoundJournal) -> Result<StoreKeeper<N, F>, (MediumError, F)>
+        requires found { (parts : List BlockPart)
+            × IsFoundStore F.shows F.kept journal.now parts folder }
+        requires sound { F.sound folder ≡ true }
+        ensures holds { IfOk result (λ k. (parts : List BlockPart)
+            → IsFoundStore F.shows F.kept journal.now parts folder
+            → N.first ≡ world_of (started journal.now.head parts)
+            → HoldsAt F.shows F.kept F.sound F.moment F.left_since N.first
+            k.events.journal.medium k.events.journal.len k.events.journal.closed
+            journal.now.events.items journal.now.head.places parts) }
+        ensures open { IfOk result (λ k. k.events.journal.closed ≡ false) }
+        ensures any_moment { (parts : List BlockPart)
+            → IsFoundStore F.shows F.kept journal.now parts folder
+            → N.first ≡ world_of (started journal.now.head parts) → MatchResult result
+            (λ k. StartFinds F.moment F.left_since folder k.events.journal.medium.folder N.first
+            journal.now.events.items)
+            (λ e. StartFinds F.moment F.left_since folder e.1 N.first
+            journal.now.events.items) }
+    {
+        match EventJournal::resume(JournalFile { folder }, journal.len) {
+            Ok(events) => Ok(StoreKeeper {
+                events,
+                of: PhantomData,
+            }),
+            Err((error, medium)) => Err((error, medium.folder)),
+        }
+    }
+}
+
+/// Begins the store of a folder that has none. An `Err` gives the folder back.
+pub fn begin_store<N: Beginning, F: Folder + Drop>(
+    alloc: Global,
+    folder: F,
+) -> Result<StartedStore<N, F>, (StartError, F)>
+    requires sound { F.sound folder ≡ true }
+    requires none { F.shows folder journal_name None × F.kept folder journal_name 0 }
+    // The world before all events is that of a store that has nothing.
+    requires first { N.first ≡ world_of (opening_of []) }
+    ensures begun { IfOk result (λ x. GoesOn F.shows F.kept F.sound F.moment F.left_since
+        N.first x.keeper.events.journal.medium x.keeper.events.journal.len
+        x.keeper.events.journal.closed x.journal.events.items x.journal.head.places []
+        x.snapshot) }
+    ensures events { IfOk result (λ x. x.journal.events.items ≡ []) }
+    ensures refused { IfErr result (λ e. IsNoRefusal e.0) }
+{
+    let snapshot = match Snapshot::opening(alloc, Vec::new(alloc)) {
+        Ok(snapshot) => snapshot,
+        Err(_) => return Err((no_memory(), folder)),
+    };
+    match StoreKeeper::create(alloc, folder) {
+        Ok(keeper) => {
+            let journal = FoundJournal {
+                head: nothing(alloc),
+                events: Vec::new(alloc),
+                len: keeper.journal_len(),
+                torn: 0,
+            };
+            Ok(StartedStore {
+                snapshot,
+                keeper,
+                journal,
+            })
+        }
+        Err(failed) => Err(failed),
+    }
+}
+
+/// Goes on with the store that a folder has: its snapshot, and what keeps the events to come. The
+/// torn end of the journal is cut off, after all else was accepted; nothing else in the folder
+/// changes. `J17` if no snapshot has what the head and the blocks say, `J18` if an event is
+/// refused. An `Err` gives the folder back.
+pub fn resume_store<N: Beginning, F: Folder + Drop>(
+    alloc: Global,
+    folder: F,
+    found: FoundStore,
+) -> Result<StartedStore<N, F>, (StartError, F)>
+    requires sound { F.sound folder ≡ true }
+    requires found { IsFoundStore F.shows F.kept found.journal (map part_in found.blocks.items)
+        folder }
+    // The world before all events is that of the head and the blocks.
+    requires first { N.first
+        ≡ world_of (started found.journal.head (map part_in found.blocks.items)) }
+    // The journal is the one that was found. The snapshot is what its events make of that world,
+    // and they are held.
+    ensures journal { IfOk result (λ x. x.journal ≡ found.journal) }
+    ensures resumed { IfOk result (λ x. GoesOn F.shows F.kept F.sound F.moment F.left_since
+        N.first x.keeper.events.journal.medium x.keeper.events.journal.len
+        x.keeper.events.journal.closed x.journal.events.items x.journal.head.places
+        (map part_in found.blocks.items) x.snapshot) }
+    ensures refused { IfErr result (λ e. (e.0 ≡ StartError.Medium)
+        ⊎ DeniesStart found.journal.head (map part_in found.blocks.items)
+        found.journal.events.items e.0) }
+    ensures told { IfErr result (λ e. cause_of e.0 ≡ Refused → IsRefusal e.0) }
+    // After a crash at any moment of the call, a start finds the same world.
+    ensures any_moment { MatchResult result
+        (λ x. StartFinds F.moment F.left_since folder x.keeper.events.journal.medium.folder
+        N.first found.journal.events.items)
+        (λ e. StartFinds F.moment F.left_since folder e.1 N.first found.journal.events.items) }
+{
+    let FoundStore { journal, blocks } = found;
+    let snapshot = match snapshot_of(alloc, &journal, blocks) {
+        Ok(snapshot) => snapshot,
+        Err(error) => return Err((error, folder)),
+    };
+    match StoreKeeper::resume(folder, &journal) {
+        Ok(keeper) => Ok(StartedStore {
+            snapshot,
+            keeper,
+            journal,
+        }),
+        Err((_, folder)) => Err((StartError::Medium, folder)),
+    }
+}
