@@ -49,7 +49,7 @@ pub data Move : Type 0 where
   Prepare : Move
   -- the next journal takes the journal's name
   Rename : Move
-  -- a process starts: what lies beside the journal is removed, and the journal is read
+  -- a process starts: it reads the journal, and what lies beside it counts for nothing
   Restart : Move
 
 -- an accepted event is in the journal, and acknowledged; what lies beside it is out of date
