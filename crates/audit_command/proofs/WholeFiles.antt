@@ -1,9 +1,9 @@
 -- What is known of the first bytes of files is known of all their bytes.
 use Rattle.std.proofs.Common.{◌≡◌, List, ℕ, subst}
-use Rattle.auditor.specs.BlockFiles.Checks.{Files}
+use Rattle.block_walk.specs.BlockFiles.Checks.{Files}
+use Rattle.block_walk.proofs.LongFiles.{first_of, refused_of_first, walked_of_first}
 use Rattle.auditor.specs.declared.judgement.BlockTable.{BlockTable}
 use Rattle.auditor.specs.declared.judgement.BlockTable.TheVariants.{Walked, Refused}
-use Rattle.auditor.proofs.LongFiles.{first_of, refused_of_first, walked_of_first}
 use Rattle.audit_command.specs.Reading.{Host, AreRead, AreFilesAt}
 use Rattle.audit_command.specs.Walking.{bytes_of, IsTableOf}
 use Rattle.audit_command.specs.declared.files.BlockFiles.{BlockFiles}

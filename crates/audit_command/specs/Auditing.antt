@@ -6,11 +6,11 @@ use Rattle.matchers.specs.Queries.{is_query_range}
 use Rattle.matchers.specs.Selectors.{IsAccepted, IsTextRefusal}
 use Rattle.matchers.specs.Views.{MatcherView, QueryView}
 use Rattle.matchers.specs.declared.error.QueryError.TheVariants.{BadRange, TooManyMatchers}
+use Rattle.reply_reader.specs.Replies.{text_said, told_of}
+use Rattle.reply_reader.specs.declared.reply.Reply.{Reply}
 use Rattle.auditor.specs.Judgements.{AreLines, is_fault, lines_text}
-use Rattle.auditor.specs.Replies.{text_said, told_of}
 use Rattle.auditor.specs.declared.judgement.BlockTable.{BlockTable}
 use Rattle.auditor.specs.declared.judgement.Line.{Line}
-use Rattle.auditor.specs.declared.reply.Reply.{Reply}
 use Rattle.audit_command.specs.Asking.{directories_of}
 use Rattle.audit_command.specs.Reading.{Host}
 use Rattle.audit_command.specs.Walking.{AreTablesAt, IsFirstFault}

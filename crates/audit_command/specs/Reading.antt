@@ -3,7 +3,7 @@ use Rattle.std.specs.Prelude.{◌≡◌, ℕ, List, [], ◌∷◌, ◌++◌, map
 use Rattle.std.specs.Prelude.{string_bytes}
 use Rattle.std.specs.Borrow.{Bor}
 use Rattle.std.specs.List.{AllByRecursion}
-use Rattle.auditor.specs.BlockFiles.Checks.{Files}
+use Rattle.block_walk.specs.BlockFiles.Checks.{Files}
 use Rattle.audit_command.specs.declared.fault.Fault.{Fault}
 use Rattle.audit_command.specs.declared.fault.Fault.TheVariants.{Words, Refused, CannotReadInput}
 use Rattle.audit_command.specs.declared.fault.Fault.TheVariants.{BadReply, CannotRead}

@@ -1,13 +1,13 @@
 -- What is known of the blocks in directories, and why it is not.
 use Rattle.std.specs.Prelude.{◌≡◌, ℕ, List, ◌∷◌, ◌++◌}
 use Rattle.std.specs.List.{AllZip}
+use Rattle.block_walk.specs.declared.error.WalkError.{WalkError}
+use Rattle.block_walk.specs.declared.error.WalkError.TheVariants.{Memory}
+use Rattle.block_walk.specs.WalkCodes.{code_of}
+use Rattle.block_walk.specs.BlockFiles.Checks.{Files, IsWalkError}
+use Rattle.block_walk.specs.BlockFiles.Spelled.{IsWalked}
 use Rattle.auditor.specs.declared.judgement.BlockTable.{BlockTable}
 use Rattle.auditor.specs.declared.judgement.BlockTable.TheVariants.{Walked, Refused}
-use Rattle.auditor.specs.declared.walk.error.WalkError.{WalkError}
-use Rattle.auditor.specs.declared.walk.error.WalkError.TheVariants.{Memory}
-use Rattle.auditor.specs.WalkCodes.{code_of}
-use Rattle.auditor.specs.BlockFiles.Checks.{Files, IsWalkError}
-use Rattle.auditor.specs.BlockFiles.Spelled.{IsWalked}
 use Rattle.audit_command.specs.Reading.{Host, AreFilesAt, IsReadingFault}
 use Rattle.audit_command.specs.declared.fault.Fault.{Fault}
 use Rattle.audit_command.specs.declared.fault.Fault.TheVariants as fault

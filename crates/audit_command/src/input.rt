@@ -1,7 +1,7 @@
 //! The reply on standard input.
 
 ghost use Rattle.std.specs.Prelude.{◌≡◌, Some, IfOk, IfErr, IfSome};
-ghost use Rattle.auditor.specs.Replies.{text_said, told_of};
+ghost use Rattle.reply_reader.specs.Replies.{text_said, told_of};
 ghost use Rattle.audit_command.specs.Auditing.{IsInputFault, IsTextFault, IsReplyIn, IsReplyFault};
 
 use crate::fault::Fault;

@@ -13,13 +13,13 @@ use Rattle.index_reader.specs.Layout as index_layout
 use Rattle.index_reader.specs.Grammar as grammar
 use Rattle.index_reader.specs.Spelled as spelled
 use Rattle.index_reader.specs.Indexes as indexes
-use Rattle.auditor.specs.declared.walk.contents.Contents.{Contents}
-use Rattle.auditor.specs.declared.walk.chunk.Chunk.{Chunk}
-use Rattle.auditor.specs.IndexFile.Layout.{IsPlaced, SeriesEntry, Layout, ascending, is_less, Label, Body}
-use Rattle.auditor.specs.IndexFile.Grammar.{IsSymbolTable, IsWalk, IsLayout}
-use Rattle.auditor.specs.IndexFile.Labelled.{AreLabels}
-use Rattle.auditor.specs.IndexFile.Series.{Series, references, label_sets, series_at, series_of}
-use Rattle.auditor.specs.IndexFile.Spelled.{IsFirst, IsLater, AreLater, AreChunks, IsBody, AreBodies, AreZero, AreInOrder, IsIndex}
+use Rattle.block_walk.specs.declared.contents.Contents.{Contents}
+use Rattle.block_walk.specs.declared.chunk.Chunk.{Chunk}
+use Rattle.block_walk.specs.IndexFile.Layout.{IsPlaced, SeriesEntry, Layout, ascending, is_less, Label, Body}
+use Rattle.block_walk.specs.IndexFile.Grammar.{IsSymbolTable, IsWalk, IsLayout}
+use Rattle.block_walk.specs.IndexFile.Labelled.{AreLabels}
+use Rattle.block_walk.specs.IndexFile.Series.{Series, references, label_sets, series_at, series_of}
+use Rattle.block_walk.specs.IndexFile.Spelled.{IsFirst, IsLater, AreLater, AreChunks, IsBody, AreBodies, AreZero, AreInOrder, IsIndex}
 
 -- the auditor's words for what the store's reader has
 

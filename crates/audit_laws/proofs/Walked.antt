@@ -7,7 +7,7 @@ use Rattle.index_reader.specs.declared.chunk.Chunk as kept_chunk
 use Rattle.index_reader.specs.Indexes as indexes
 use Rattle.tombstones.specs.declared.deletion.Deletion.{Deletion}
 use Rattle.block.specs.Grammar as block
-use Rattle.auditor.specs.BlockFiles.Spelled.{AreSpelled, AreRowsOfSeries, IsWalked}
+use Rattle.block_walk.specs.BlockFiles.Spelled.{AreSpelled, AreRowsOfSeries, IsWalked}
 use Rattle.audit_laws.proofs.Indexed.{chunk_told, series_told, references_again, index_again}
 
 spelled_again : (file : List ℕ) (cs : List kept_chunk.Chunk) (samples : List (ℤ × ℤ))

@@ -5,8 +5,8 @@ ghost use Rattle.labels.specs.Parts.{Part};
 ghost use Rattle.block.specs.Grammar.{IsBlock};
 ghost use Rattle.block.specs.Opening.{block_of};
 ghost use Rattle.block.specs.Outcome.{Gives as Opens};
-ghost use Rattle.auditor.specs.IndexFile.Outcome.{Gives};
-ghost use Rattle.auditor.specs.BlockFiles.Spelled.{IsWalked};
+ghost use Rattle.block_walk.specs.IndexFile.Outcome.{Gives};
+ghost use Rattle.block_walk.specs.BlockFiles.Spelled.{IsWalked};
 
 use auditor::{Table, WalkError};
 use block::{Block, BlockError, Range};

@@ -10,9 +10,9 @@ use Rattle.labels.proofs.Lists.{here, there, Contains-cases, none_in_nil, rising
 use Rattle.cover.specs.declared.certificate.Interval.{Interval}
 use Rattle.cover.specs.Certificates.{Asked, IsAsked, IsRun, run_of, next_from, IsChained}
 use Rattle.cover.proofs.Runs.{in_run, of_run, AllForward, begins_not_below, in_some, of_map, interval_run}
+use Rattle.reply_reader.proofs.Booleans.{and_left, and_right, and_both}
 use Rattle.auditor.specs.Auditing.{IsCut}
 use Rattle.auditor.specs.Looking.{rows_from, first_reference, cuts}
-use Rattle.auditor.proofs.Booleans.{and_left, and_right, and_both}
 use Rattle.auditor.proofs.Splitting.{references-filter, rises_from}
 
 -- chained intervals that begin with references and are not empty, the first with the first of all

@@ -16,9 +16,9 @@ use Rattle.cover.specs.declared.certificate.Verdict.TheVariants.{Match, NoSample
 use Rattle.cover.specs.Asking.{asked, labels_at, samples_at, satisfies_at}
 use Rattle.cover.specs.Certificates.{IsMatching, FitsUnder, run_of, next_from, IsChained}
 use Rattle.cover.proofs.Runs.{AllForward}
+use Rattle.reply_reader.proofs.Booleans.{and_left, and_right, and_both, not_true, true_not, either, all_true, true_all}
 use Rattle.auditor.specs.Auditing.{names_known, all_known, AllFit, IsFirstMisfit}
 use Rattle.auditor.specs.Looking.{rows_below, rows_from, answers, are_silent, are_rejected, is_one_match, fits, first_misfit}
-use Rattle.auditor.proofs.Booleans.{and_left, and_right, and_both, not_true, true_not, either, all_true, true_all}
 use Rattle.auditor.proofs.Splitting.{Entry, references-filter, has_reference, of_reference, from_twice}
 
 pub labels_of : (part : Part) (row : Entry) → IsStrictlyIncreasing (references part)

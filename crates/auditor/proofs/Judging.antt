@@ -14,9 +14,9 @@ use Rattle.cover.specs.Asking.{asked}
 use Rattle.cover.specs.Certificates.{IsLeast, AreSeparators}
 use Rattle.cover.proofs.Choices.{asked_part}
 use Rattle.cover.proofs.Least.{separators_bound}
+use Rattle.reply_reader.proofs.Booleans.{and_left, and_right, and_both}
 use Rattle.auditor.specs.Auditing.{all_known, IsCut, AllFit, AreCounted, IsFirstShared, IsPartitioned, selected_content, IsSoundAnswer, IsFlaw, misfit_flaw}
 use Rattle.auditor.specs.Looking.{cuts, first_misfit, are_picked, shared_at}
-use Rattle.auditor.proofs.Booleans.{and_left, and_right, and_both}
 use Rattle.auditor.proofs.Cutting.{Chain, cuts_chain, chain_cuts, chain_cut, cut_chain}
 use Rattle.auditor.proofs.Fitting.{IsTail, tail_whole, none_misfits, some_misfit}
 use Rattle.auditor.proofs.Separating.{AreIn, picked_are, are_picked-of, some_shared, none_shared, separators_of}

@@ -3,7 +3,7 @@ use Rattle.std.proofs.Common.{◌≡◌, ℕ, suc, ◌+◌, ◌<◌, ◌≤◌, 
 use Rattle.std.specs.Prelude.{if◌then◌else◌}
 use Rattle.std.specs.List.{AllZip}
 use Rattle.std.proofs.lemmas.List.{take_more, take_all}
-use Rattle.auditor.specs.declared.reply.ToldPart.{ToldPart}
+use Rattle.reply_reader.specs.declared.reply.ToldPart.{ToldPart}
 use Rattle.auditor.specs.Judgements.{is_named, unnamed}
 
 -- one more in each of two lists

@@ -18,8 +18,8 @@ use Rattle.labels.specs.Rows.{Row, AreFull}
 use Rattle.labels.proofs.OrderLaws.{point_total, point_exact}
 use Rattle.labels.proofs.Times.{both_T, T_of}
 use Rattle.labels.proofs.ContentLaws.{or_else, or_else_none, find-++, same_content}
+use Rattle.reply_reader.proofs.Booleans.{and_left, and_right}
 use Rattle.auditor.specs.Listing.{with_each, point_before, same_point}
-use Rattle.auditor.proofs.Booleans.{and_left, and_right}
 
 abbrev pub Sample : Type 0
 Sample = Point × ℤ

@@ -14,8 +14,8 @@ use Rattle.labels.proofs.OrderLaws.{point_total}
 use Rattle.labels.proofs.SortedRows.{is_sorted-points_of}
 use Rattle.labels.proofs.Times.{T_of, first_T, second_T}
 use Rattle.cover.specs.declared.part_cover.PartAnswer.{PartAnswer}
+use Rattle.reply_reader.proofs.Booleans.{and_left, and_right}
 use Rattle.auditor.specs.Listing.{listed, with_each, last_listed}
-use Rattle.auditor.proofs.Booleans.{and_left, and_right}
 
 less_is : (o : Ordering) → T (is_lt o) → o ≡ Less
 less_is Less h = refl

@@ -13,10 +13,10 @@ use Rattle.cover.specs.declared.certificate.Verdict.TheVariants.{Match, NoSample
 use Rattle.cover.specs.Asking.{asked, satisfies_at}
 use Rattle.cover.specs.Certificates.{references_between, IsRun, FitsUnder, IsFittingRun, AreSeparators}
 use Rattle.cover.proofs.Runs.{in_between, of_between}
+use Rattle.reply_reader.proofs.Neighbours.{from_read}
+use Rattle.reply_reader.proofs.Booleans.{and_left, and_right, and_both, or_cases, or_left, or_right, either}
 use Rattle.auditor.specs.Auditing.{ShareARun, ShareAt, IsFirstShared}
 use Rattle.auditor.specs.Looking.{rows_below, rows_from, begin_with, after_first, are_picked, are_silent, rejects_each, are_rejected, share_verdict, first_shared}
-use Rattle.auditor.proofs.Neighbours.{from_read}
-use Rattle.auditor.proofs.Booleans.{and_left, and_right, and_both, or_cases, or_left, or_right, either}
 use Rattle.auditor.proofs.Splitting.{Entry, references-filter, rises_from, from_twice}
 use Rattle.auditor.proofs.Fitting.{AreOf, silent_fits, fits_silent, rejected_fits, fits_rejected}
 

@@ -5,8 +5,6 @@ use Rattle.auditor.specs.declared.flaw.Flaw.TheVariants.{NotAPartition, NotMatch
 use Rattle.auditor.specs.declared.flaw.Flaw.TheVariants.{SeparatorCount, SeparatorsFit, WrongRows}
 use Rattle.auditor.specs.declared.flaw.Flaw.TheVariants.{UnknownMatcher, NotSilent, Hidden}
 use Rattle.auditor.specs.declared.flaw.Flaw.TheVariants.{WrongMerge, Memory}
-use Rattle.auditor.specs.declared.reply.ReplyError.{ReplyError}
-use Rattle.auditor.specs.declared.reply.ReplyError.TheVariants as reply
 
 -- the number of a flaw, as text
 abbrev pub code_of : Flaw → List ℕ
@@ -43,8 +41,3 @@ flaw_text Memory = codes "no memory"
 abbrev pub OrMemory : (Flaw → Type 0) → Flaw → Type 0
 OrMemory cause Memory = Unit {0}
 OrMemory cause flaw = cause flaw
-
--- why a text is not read as a reply, in a line
-abbrev pub reply_error_text : ReplyError → List ℕ
-reply_error_text reply.BadReply = codes "bad reply"
-reply_error_text reply.Memory = codes "no memory"

@@ -8,14 +8,15 @@ use Rattle.matchers.specs.Views.{QueryView}
 use Rattle.postings.specs.declared.part_name.PartName.{PartName}
 use Rattle.postings.specs.declared.part_name.PartName.TheVariants.{Block, Head}
 use Rattle.cover.specs.declared.part_cover.PartAnswer.{PartAnswer}
+use Rattle.reply_reader.specs.Replies.{name_text}
+use Rattle.reply_reader.specs.declared.reply.ToldPart.{ToldPart}
+use Rattle.reply_reader.specs.declared.reply.ToldPart.TheVariants as parts
+use Rattle.reply_reader.specs.declared.reply.Reply.{Reply}
 use Rattle.auditor.specs.declared.flaw.Flaw.{Flaw}
 use Rattle.auditor.specs.declared.flaw.Flaw.TheVariants.{NotAPartition, NotMatching, NotRejected}
 use Rattle.auditor.specs.declared.flaw.Flaw.TheVariants.{SeparatorCount, SeparatorsFit, WrongRows}
 use Rattle.auditor.specs.declared.flaw.Flaw.TheVariants.{UnknownMatcher, NotSilent, Hidden}
 use Rattle.auditor.specs.declared.flaw.Flaw.TheVariants.{WrongMerge, Memory}
-use Rattle.auditor.specs.declared.reply.ToldPart.{ToldPart}
-use Rattle.auditor.specs.declared.reply.ToldPart.TheVariants as parts
-use Rattle.auditor.specs.declared.reply.Reply.{Reply}
 use Rattle.auditor.specs.declared.judgement.BlockTable.{BlockTable}
 use Rattle.auditor.specs.declared.judgement.BlockTable.TheVariants as tables
 use Rattle.auditor.specs.declared.judgement.Judgement.{Judgement}
@@ -51,10 +52,6 @@ judgement_text Valid = codes "valid"
 judgement_text Skipped = codes "skipped"
 judgement_text (Flawed flaw) = placed (code_of flaw) (place_of flaw)
 judgement_text (Refused code) = codes "refused " ++ code.now
-
-abbrev pub name_text : PartName → List ℕ
-name_text (Block n) = codes "block " ++ decimal n
-name_text Head = codes "head"
 
 abbrev pub subject_text : Subject → List ℕ
 subject_text (Part name) = name_text name

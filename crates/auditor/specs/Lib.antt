@@ -2,10 +2,4 @@ pub mod Auditing
 pub mod Looking
 pub mod Listing
 pub mod Errors
-pub mod IndexFile
-pub mod WalkCodes
-pub mod BlockFiles
-pub mod Replies
-pub mod Read
 pub mod Judgements
-pub mod Usual

@@ -14,7 +14,7 @@ use crate::intervals::{all_known, are_cut, first_misfit};
 use crate::looks::Looks;
 use crate::rows::{same_rows, selected_rows};
 use crate::separators::{are_counted, first_shared};
-use crate::table::Table;
+use block_walk::Table;
 use cover::{PartAnswer, Verdict};
 use labels::{Row, SeriesRef};
 use matchers::Query;

@@ -3,7 +3,7 @@
 ghost use Rattle.std.specs.Prelude.{◌≡◌};
 
 use crate::flaw::Flaw;
-use crate::table::Table;
+use block_walk::Table;
 use postings::PartName;
 use std::fmt;
 

@@ -8,15 +8,10 @@
 //! of the part (`F9`), [`audit_merge`] exactly where rows are those of all that several answers
 //! list, the value listed last at each point (`F10`). So a certificate that it accepts is least.
 //!
-//! A [`Table`] is the part. [`Table::walk`] reads it from an index, a chunks file and a file of
-//! deletions, without the postings, exactly where these spell one (`IsWalked`), and else names the
-//! first check that fails; [`WalkError`] has the codes. [`Table::walk_by`] does the same by several
-//! threads.
-//!
-//! [`Reply::read`] reads a whole reply: it is `Ok` exactly where the text is JSON of a reply's
-//! shape, and then the reply is what it says. [`judge`] gives the lines of a reply over what is
-//! known of the blocks: one for each part, in order, one for each block of which the reply says
-//! nothing, and last that of the rows.
+//! A [`Table`] is the part: the library `block_walk` reads it from the files of a block. A
+//! [`Reply`] is read by `reply_reader`. [`judge`] gives the lines of a reply over what is known of
+//! the blocks: one for each part, in order, one for each block of which the reply says nothing, and
+//! last that of the rows.
 //!
 //! ```
 //! let query = Query::new(Selector::parse(alloc, "up").ok()?, 0, 100).ok()?;
@@ -27,10 +22,9 @@
 //! assert_eq!(rt; told.as_str(), "block 0: refused I9\nrows: F10\n");
 //! ```
 //!
-//! The crate stands on `labels`, `matchers`, `wire`, `chunk_reader`, `tombstones` and the types and
-//! definitions of `cover`, and for replies on `json`, `fast_float`, `simdutf8` and `serde_json`. It
-//! shares no reader of an index, no search, no merge and no walk of certificates with the store
-//! whose answers it judges.
+//! The crate stands on `block_walk` and `reply_reader`, on `labels` and `matchers`, and on the types
+//! and definitions of `cover`. It shares no reader of an index, no search, no merge and no walk of
+//! certificates with the store whose answers it judges.
 #![tactic(auto)]
 
 mod alone;
@@ -40,23 +34,16 @@ mod intervals;
 mod judgement;
 mod looks;
 mod merged;
-mod reading;
-mod reply;
 mod report;
 mod rows;
 mod separators;
 mod skip;
-mod table;
-mod usual;
-mod walk;
 
 pub use answer::{audit, audit_laws};
+pub use block_walk::{Table, WalkError};
 pub use flaw::Flaw;
 pub use judgement::{BlockTable, Judgement, Line, Subject};
 pub use merged::audit_merge;
-pub use reading::name_law;
-pub use reply::{Reply, ReplyError, ToldPart};
+pub use reply_reader::{Reply, ReplyError, ToldPart, name_law};
 pub use report::{judge, lines_text};
 pub use skip::audit_skip;
-pub use table::Table;
-pub use walk::WalkError;

@@ -11,12 +11,12 @@ use crate::answer::audit;
 use crate::flaw::Flaw;
 use crate::judgement::{BlockTable, Judgement, Line, Subject};
 use crate::merged::audit_merge;
-use crate::reply::{Reply, ToldPart};
 use crate::skip::audit_skip;
 use cover::PartAnswer;
 use labels::Row;
 use matchers::Query;
 use postings::PartName;
+use reply_reader::{Reply, ToldPart};
 use std::alloc::{AllocError, Global};
 
 /// What is known of the block of a number.

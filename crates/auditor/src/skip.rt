@@ -5,7 +5,7 @@ ghost use Rattle.auditor.specs.Auditing.{selected_content, IsHiding};
 
 use crate::flaw::Flaw;
 use crate::looks::Looks;
-use crate::table::Table;
+use block_walk::Table;
 use matchers::Query;
 use std::alloc::Global;
 

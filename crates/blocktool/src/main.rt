@@ -1,9 +1,43 @@
-//! The program `blocktool`: blocks for `querier` and `auditor` out of other programs' data.
+//! The program `blocktool`: it makes blocks for `querier` and `auditor` out of other programs' data.
 //!
-//! It passes its words, the host's files, its input and its two outputs to `blocktool_command::run`.
+//! `run` does what the words after the program's name ask for. An `Input` gives rows in a range
+//! of times and counts what it read; `conversion` makes of several inputs, of which the later wins,
+//! one output after another. `from_prometheus` finds blocks of Prometheus (`folder`), opens them
+//! (`prometheus`) as inputs and plans into how many outputs their times are cut. What is refused,
+//! and with which status a line ends, is said by `fault` and `program`.
+//!
+//! It stands on `prometheus_block` for what is read, on `imported_values` for values, on
+//! `block_outputs` and `block_folder` for what is written, and on `clap` for words.
 #![tactic(auto)]
 
-use blocktool_command::run;
+mod command;
+mod conversion;
+mod fault;
+mod files;
+mod folder;
+mod from_openmetrics;
+mod from_prometheus;
+mod from_rows;
+mod input;
+mod laws;
+mod list;
+mod listed;
+mod own;
+mod plan;
+mod program;
+mod prometheus;
+mod rewrite;
+mod said;
+mod summary;
+mod target;
+mod teller;
+mod text_commands;
+mod texts;
+mod to_openmetrics;
+mod words;
+mod writing;
+
+use crate::program::run;
 use std::io::{self, IsTerminal};
 use std::process::ExitCode;
 

@@ -1,10 +1,32 @@
 //! The program `explain`: it reads a reply from standard input, and writes a page that shows it.
 //!
-//! It passes its words, the host's files and input and its two outputs to `explain_command::run`,
-//! whose contract says with which status it ends.
+//! [`run`] does what the words after the program's name ask for, over files, a reader and two
+//! writers: `--selector S [--from N] [--to N] [--about SERIES] [DIR]...` has it write one file of
+//! HTML. `command` says what the words ask for, `series` reads the series that somebody asks about,
+//! `answer` makes the page, and `fault` says why there is none. With directories the library
+//! `auditor` judges the reply first, over the files that `audit_command` reads. The contract of
+//! `run` says with which status the program ends.
+//!
+//! ```
+//! let words = [String::from_str(alloc, "--selector=up")?];
+//! let mut reply = br#"{"parts":[],"rows":[]}"#.as_slice();
+//! let mut out: Vec<u8> = Vec::new(alloc);
+//! let mut err: Vec<u8> = Vec::new(alloc);
+//! let ending = run(alloc, &rt, &words, &mut reply, &mut out, &mut err);
+//! assert_eq!(rt; (ending.status, err.len()), (0, 0));
+//! ```
+//!
+//! It stands on `page` and `page_claims`, on `auditor` and `audit_command`, on `labels` and
+//! `matchers`, on `clap` for words and on `sha2` for the reply's digest.
 #![tactic(auto)]
 
-use explain_command::run;
+mod answer;
+mod command;
+mod fault;
+mod program;
+mod series;
+
+use crate::program::run;
 use std::io;
 use std::process::ExitCode;
 

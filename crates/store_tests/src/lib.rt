@@ -1,6 +1,7 @@
-//! Tests from outside of what stands on a store: changes (`changes`), searches and serving
-//! (`serving`), the subcommands of `querier` (`subcommands`), the auditor (`audits`), and events in a
-//! journal (`journals`). What needs no types stands in `case_files`.
+//! Tests from outside of what a store stands on and of what stands on it: selections
+//! (`selections`), changes (`changes`), searches and serving (`serving`), the subcommands of
+//! `querier` (`subcommands`), the auditor (`audits`), and events in a journal (`journals`). What
+//! needs no types stands in `case_files`.
 //!
 //! They stand in one crate of their own: the gate proves each crate that they test once and not a
 //! second time with its tests, and what links a store takes minutes before its first function.
@@ -12,6 +13,8 @@ mod audits;
 mod changes;
 #[cfg(test)]
 mod journals;
+#[cfg(test)]
+mod selections;
 #[cfg(test)]
 mod serving;
 #[cfg(test)]

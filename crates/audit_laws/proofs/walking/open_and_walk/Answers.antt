@@ -1,5 +1,5 @@
 use Rattle.std.proofs.Common.{◌≡◌, ℕ, List, sym, subst, ◌∙◌}
-use Rattle.auditor.specs.BlockFiles.Spelled.{IsWalked}
+use Rattle.block_walk.specs.BlockFiles.Spelled.{IsWalked}
 use Rattle.audit_laws.proofs.Walked.{block_walked}
 use Rattle.audit_laws.proofs.walking.open_and_walk.Goals as goal
 

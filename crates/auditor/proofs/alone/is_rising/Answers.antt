@@ -1,7 +1,7 @@
 use Rattle.std.proofs.Common.{sym, ◌∙◌, arith}
 use Rattle.std.specs.Ordering.{int_cmp}
 use Rattle.std.proofs.lemmas.Cmp.{int_cmp_total}
-use Rattle.auditor.proofs.Neighbours.{goes_on, stops, is_sorted-last}
+use Rattle.reply_reader.proofs.Neighbours.{goes_on, stops, is_sorted-last}
 use Rattle.auditor.proofs.alone.is_rising.Goals as goal
 
 pub returns-then-not-is_earlier : goal.returns-then-not-is_earlier

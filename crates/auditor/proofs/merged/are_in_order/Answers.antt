@@ -1,7 +1,7 @@
 use Rattle.std.proofs.Common.{sym, ◌∙◌, arith}
 use Rattle.labels.specs.Labels.{labels_cmp}
 use Rattle.labels.specs.Laws.{labels_total}
-use Rattle.auditor.proofs.Neighbours.{goes_on, stops, is_sorted-last}
+use Rattle.reply_reader.proofs.Neighbours.{goes_on, stops, is_sorted-last}
 use Rattle.auditor.proofs.merged.are_in_order.Goals as goal
 
 pub returns-then-not-is_before : goal.returns-then-not-is_before

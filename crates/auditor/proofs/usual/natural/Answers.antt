@@ -1,8 +1,0 @@
-use Rattle.serde_json.specs.Find.{as_u64}
-use Rattle.auditor.proofs.UsualTexts.{number_comes}
-use Rattle.auditor.proofs.usual.natural.Goals as goal
-
-pub returns-in-Some : goal.returns-in-Some
-returns-in-Some c =
-    number_comes as_u64 c.args.reader.now c.number.new.reader c.in_ok-number.field-0.now
-    c.in-Some.value c.in_ok-number.ensures c.in-Some.ensures

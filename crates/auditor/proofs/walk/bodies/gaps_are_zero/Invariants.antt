@@ -1,9 +1,0 @@
-use Rattle.std.proofs.Common.{◌≡◌, drop}
-use Rattle.auditor.specs.IndexFile.Flat.{gaps_zero}
-use Rattle.auditor.specs.IndexFile.Seen.{entries_seen}
-use Rattle.auditor.proofs.walk.bodies.gaps_are_zero.Given as goal
-
-abbrev pub invariant-loop-at : goal.invariant-loop-at
-invariant-loop-at l =
-    gaps_zero l.file l.fn.end l.from (drop l.at (entries_seen l.entries))
-    ≡ gaps_zero l.file l.fn.end l.fn.first (entries_seen l.entries)

@@ -1,8 +1,0 @@
-use Rattle.auditor.proofs.IndexFile.Sound.{labels_inside}
-use Rattle.auditor.proofs.walk.checked.checked_bodies.Goals as goal
-
-pub is_rising-requires : goal.is_rising-requires
-is_rising-requires c =
-    rw (c.deref-4.ensures.value, c.deref-5.ensures.value)
-    (labels_inside c.in_ok-bodies.bodies.labels.items c.in_ok-bodies.bodies.chunks.items
-    c.in_ok-bodies.bodies.rows.items c.in_ok-bodies.ensures.inside)

@@ -1,8 +1,0 @@
-use Rattle.std.proofs.Common.{◌≡◌, ◌++◌, drop}
-use Rattle.auditor.specs.BlockFiles.Samples.{undeleted}
-use Rattle.auditor.proofs.walk.samples.push_each.Given as goal
-
-abbrev pub invariant-loop-i : goal.invariant-loop-i
-invariant-loop-i l =
-    l.found.items ++ undeleted l.tombstones l.reference (drop l.i l.samples)
-    ≡ l.fn.found.items ++ undeleted l.tombstones l.reference l.samples

@@ -1,9 +1,0 @@
-use Rattle.std.proofs.Common.{◌≡◌, ◌++◌, drop}
-use Rattle.auditor.specs.BlockFiles.Samples.{samples_in, undeleted}
-use Rattle.auditor.proofs.walk.samples.samples_of.Given as goal
-
-abbrev pub invariant-loop-chunk : goal.invariant-loop-chunk
-invariant-loop-chunk l =
-    l.found.items
-    ++ undeleted l.tombstones l.reference (samples_in l.chunks (drop l.chunk-index l.list))
-    ≡ undeleted l.tombstones l.reference (samples_in l.chunks l.list)

@@ -1,0 +1,3 @@
+mod IndexFile
+mod BlockFiles
+pub mod LongFiles

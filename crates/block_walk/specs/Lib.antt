@@ -1,0 +1,3 @@
+pub mod IndexFile
+pub mod WalkCodes
+pub mod BlockFiles

@@ -1,0 +1,69 @@
+//! Replies as text.
+
+ghost use Rattle.std.specs.Prelude.{◌≡◌, Some, IfOk};
+ghost use Rattle.reply_reader.specs.Replies.{text_said, told_of};
+ghost use Rattle.metrics_writer.specs.Series.{text_of};
+ghost use Rattle.blocktool.specs.Texts.{IsTextOfReply};
+
+use crate::fault::Fault;
+use crate::texts::read_text;
+use imported_values::Digits;
+use metrics_writer::{WriteError, write_text};
+use reply_reader::{Reply, ReplyError};
+use std::alloc::Global;
+use std::io::{Read, Write};
+use std::rt::Files;
+
+/// A reply: how many digits its values have, and the file in which it is, if it is not standard
+/// input.
+#[derive(Clone, Copy, Drop)]
+pub(crate) struct ReplyIn<'a> {
+    pub(crate) digits: Digits,
+    pub(crate) file: Option<&'a str>,
+}
+
+/// The reply that a text is.
+pub(crate) fn reply_of(alloc: Global, text: &[u8]) -> Result<Reply, Fault>
+    ensures { IfOk result (λ reply. text_said text.now ≡ Some (told_of reply)) }
+{
+    match Reply::read(alloc, text) {
+        Ok(reply) => Ok(reply),
+        Err(ReplyError::BadReply) => Err(Fault::BadReply),
+        Err(ReplyError::Memory) => Err(Fault::Memory),
+    }
+}
+
+fn text_of(alloc: Global, reply: &Reply, digits: Digits) -> Result<Vec<u8>, Fault>
+    ensures { IfOk result (λ text. text.items ≡ text_of digits reply.now.rows.items) }
+{
+    match write_text(alloc, reply.rows.as_slice(), digits.number()) {
+        Ok(text) => Ok(text),
+        Err(WriteError::NoMetric) => Err(Fault::NoMetric),
+        Err(WriteError::Memory) => Err(Fault::Memory),
+    }
+}
+
+/// The text of the merged rows of a reply, whose values have so many digits after the point.
+fn text_of_reply(alloc: Global, reply: &[u8], digits: Digits) -> Result<Vec<u8>, Fault>
+    // What is read as the reply's merged rows is what is written, sample for sample.
+    ensures { IfOk result (λ text. IsTextOfReply digits reply.now text.items) }
+{
+    let told = reply_of(alloc, reply)?;
+    let text = text_of(alloc, &told, digits)?;
+    Ok(text)
+}
+
+/// Writes the merged rows of the reply in a file, or on standard input, as OpenMetrics text.
+pub(crate) fn to_openmetrics<R: Files + AllocGlobal, I: Read, W: Write>(
+    alloc: Global,
+    rt: &R,
+    reply_in: &ReplyIn<'_>,
+    input: &mut I,
+    out: &mut W,
+) -> Result<(), Fault> {
+    let reply = read_text(alloc, rt, reply_in.file, input)?;
+    let text = text_of_reply(alloc, reply.as_slice(), reply_in.digits)?;
+    out.write_all(text.as_slice())?;
+    out.flush()?;
+    Ok(())
+}

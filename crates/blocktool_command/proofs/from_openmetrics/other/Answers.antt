@@ -1,5 +1,0 @@
-use Rattle.blocktool_command.proofs.Told.{other_told}
-use Rattle.blocktool_command.proofs.from_openmetrics.other.Goals as goal
-
-pub returns-in-Ok : goal.returns-in-Ok
-returns-in-Ok c = other_told c.in-Ok.name c.args.left

@@ -1,5 +1,0 @@
-use Rattle.std.proofs.Common.{refl, inr}
-use Rattle.blocktool_command.proofs.from_openmetrics.refused.Goals as goal
-
-pub returns-in-Refused : goal.returns-in-Refused
-returns-in-Refused c = inr (c.in-Ok.name, c.in-Refused.refusal, refl, c.in-Refused.is)

@@ -1,5 +1,0 @@
-use Rattle.auditor.specs.Replies.{told_of}
-use Rattle.blocktool_command.proofs.from_rows.rows_of_reply.Goals as goal
-
-pub returns : goal.returns
-returns c = ((told_of c.in_ok-told.told).0, c.in_ok-told.ensures)

@@ -1,5 +1,0 @@
-use Rattle.blocktool_command.proofs.Contents.{block_gives}
-use Rattle.blocktool_command.proofs.laws.blocks_give_their_content.Goals as goal
-
-pub returns : goal.returns
-returns g c = block_gives _ c.parts_have_the_rows_between.ensures

@@ -1,0 +1,144 @@
+-- What a page shows, and why there is none.
+use Rattle.std.specs.Prelude.{◌≡◌, ℕ, Bool, true, false, List, [], ◌∷◌, Option, None, Some, length}
+use Rattle.std.specs.Prelude.{option_map}
+use Rattle.std.specs.List.{flat_map}
+use Rattle.std.specs.Option.{option_copied}
+use Rattle.labels.specs.Labels.{Labels}
+use Rattle.matchers.specs.Views.{QueryView}
+use Rattle.reply_reader.specs.Replies.{text_said, told_of}
+use Rattle.reply_reader.specs.declared.reply.Reply.{Reply}
+use Rattle.auditor.specs.Judgements.{AreLines, answers_of}
+use Rattle.auditor.specs.declared.judgement.BlockTable.{BlockTable}
+use Rattle.auditor.specs.declared.judgement.Line.{Line}
+use Rattle.sha2.specs.Sha256.{sha256}
+use Rattle.page_claims.specs.declared.told.Told.{Told}
+use Rattle.page.specs.Pages.{IsPageOf, IsTextOf}
+use Rattle.page.specs.declared.shown.Shown.{Shown}
+use Rattle.page.specs.declared.write.Page.{Page}
+use Rattle.audit_command.specs.Asking.{directories_of}
+use Rattle.audit_command.specs.Auditing.{IsAllOf, IsQueryOf, IsSelectionFault, IsAllowed}
+use Rattle.audit_command.specs.Auditing.{IsReplyFault, IsWritingFault}
+use Rattle.audit_command.specs.Reading.{Host}
+use Rattle.audit_command.specs.Walking.{AreTablesAt, IsFirstFault}
+use Rattle.audit_command.specs.declared.fault.Fault.{Fault as AuditFault}
+use Rattle.explain.specs.Series.{IsSeries, IsSeriesFault}
+use Rattle.explain.specs.declared.answer.Found.{Found}
+use Rattle.explain.specs.declared.command.Asked.{Asked}
+use Rattle.explain.specs.declared.fault.Fault.{Fault}
+use Rattle.explain.specs.declared.fault.Fault.TheVariants.{Audit, NoSeries}
+
+-- the label set of the text, or none where no text is
+abbrev pub IsAboutText : Option (List ℕ) → Option Labels → Type 0
+IsAboutText None None = Unit {0}
+IsAboutText None (Some labels) = ⊥
+IsAboutText (Some text) None = ⊥
+IsAboutText (Some text) (Some labels) = IsSeries text labels
+
+-- the text that somebody asks about
+abbrev pub about_text : Asked → Option (List ℕ)
+about_text asked = option_map (λ text. text.now) asked.about
+
+-- the series that somebody asks about
+abbrev pub IsAbout : Asked → Option Labels → Type 0
+IsAbout asked about = IsAboutText (about_text asked) about
+
+-- there is a text, and it is no series, or memory failed
+abbrev pub IsAboutTextFault : Option (List ℕ) → Fault → Type 0
+IsAboutTextFault None fault = ⊥
+IsAboutTextFault (Some text) fault = IsSeriesFault text fault
+
+abbrev pub IsAboutFault : Asked → Fault → Type 0
+IsAboutFault asked fault = IsAboutTextFault (about_text asked) fault
+
+-- a fault of the audit's own
+abbrev pub IsAuditFault : (AuditFault → Type 0) → Fault → Type 0
+IsAuditFault cause (Audit fault) = cause fault
+IsAuditFault cause NoSeries = ⊥
+
+-- the answers and the rows of the reply that the text says
+pub record IsToldIn (text : List ℕ) (told : Told) : Type 0 where
+  pub reply : Reply
+  pub says : text_said text ≡ Some (told_of reply)
+  pub answers : told.answers.items ≡ flat_map answers_of reply.parts.items
+  pub rows : told.rows ≡ reply.rows
+
+-- the auditor's lines of the reply that the text says
+pub record AreJudged (tables : List BlockTable) (query : QueryView) (text : List ℕ)
+    (lines : List Line) : Type 0 where
+  pub reply : Reply
+  pub says : text_said text ≡ Some (told_of reply)
+  pub are_lines : AreLines tables query reply lines
+
+-- the auditor's lines; none, if no block is known
+abbrev pub AreLinesOf : List BlockTable → QueryView → List ℕ → List Line → Type 0
+AreLinesOf [] query text lines = lines ≡ []
+AreLinesOf (table ∷ tables) query text lines = AreJudged (table ∷ tables) query text lines
+
+-- what is asked, and what the reader and the directories hold
+pub record HasRead (reads : Host) (input : Option (List ℕ)) (asked : Asked) (found : Found)
+    : Type 0 where
+  pub is_query : IsQueryOf asked.audit found.query
+  pub is_about : IsAbout asked found.about
+  pub all : IsAllOf input found.text.items
+  pub is_told : IsToldIn found.text.items found.told
+  pub are_tables : AreTablesAt reads (directories_of asked.audit) found.tables.items
+  pub are_lines : AreLinesOf found.tables.items found.query found.text.items found.lines.items
+
+-- what is shown is what was read, with the length and the SHA-256 of the reply
+pub record Shows (asked : Asked) (found : Found) (shown : Shown) : Type 0 where
+  pub selector : shown.selector ≡ asked.audit.selector
+  pub query : shown.query.now ≡ found.query
+  pub told : shown.told.now ≡ found.told
+  pub tables : shown.tables.now ≡ found.tables.items
+  pub lines : shown.lines.now ≡ found.lines.items
+  pub about : option_copied shown.about ≡ found.about
+  pub length_is : shown.length ≡ length found.text.items
+  pub digest_is : shown.digest ≡ sha256 found.text.items
+
+-- the page is HTML, or a text for a terminal
+abbrev pub IsShownAs : Bool → Shown → Page → Type 0
+IsShownAs true shown page = IsTextOf shown page
+IsShownAs false shown page = IsPageOf shown page
+
+-- the page is that of what is shown, which was found
+pub record IsPageOfFound (asked : Asked) (found : Found) (page : Page) : Type 0 where
+  pub shown : Shown
+  pub shows : Shows asked found shown
+  pub page_is : IsShownAs asked.text shown page
+
+-- the page shows what was read
+pub record IsAnswer (reads : Host) (input : Option (List ℕ)) (asked : Asked) (page : Page)
+    : Type 0 where
+  pub found : Found
+  pub has_read : HasRead reads input asked found
+  pub page_of_found : IsPageOfFound asked found page
+
+-- the query is accepted, and so is the series that somebody asks about
+pub record IsTaken (asked : Asked) : Type 0 where
+  pub query : IsAllowed asked.audit
+  pub about : Option Labels
+  pub is_about : IsAbout asked about
+
+-- what the reader holds is a reply
+pub record HoldsReply (input : Option (List ℕ)) : Type 0 where
+  pub text : List ℕ
+  pub all : IsAllOf input text
+  pub told : Told
+  pub is_told : IsToldIn text told
+
+-- Why no page is written: by the query; by the series that is asked about, if the query is
+-- accepted; by the reply, if both are; by the directories, if there is a reply too; or by the
+-- writer, if there is a page.
+pub data IsAnswerFault (reads : Host) (input : Option (List ℕ)) (asked : Asked)
+    (fault : Fault) : Type 0 where
+  by_query : IsAuditFault (IsSelectionFault asked.audit) fault
+      → IsAnswerFault reads input asked fault
+  by_series : IsAllowed asked.audit → IsAboutFault asked fault
+      → IsAnswerFault reads input asked fault
+  by_reply : IsTaken asked → IsAuditFault (IsReplyFault input) fault
+      → IsAnswerFault reads input asked fault
+  by_directories : IsTaken asked → HoldsReply input
+      → IsAuditFault (IsFirstFault reads (directories_of asked.audit)) fault
+      → IsAnswerFault reads input asked fault
+  by_writing : (page : Page) → IsAnswer reads input asked page
+      → IsAuditFault IsWritingFault fault → IsAnswerFault reads input asked fault

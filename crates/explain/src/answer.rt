@@ -1,0 +1,158 @@
+//! The page of a reply.
+
+ghost use Rattle.std.specs.Prelude.{IfOk, IfErr};
+ghost use Rattle.audit_command.specs.Auditing.{IsTextFault};
+ghost use Rattle.explain.specs.Showing.{IsAbout, IsAboutFault, IsAuditFault, IsToldIn};
+ghost use Rattle.explain.specs.Showing.{AreLinesOf, IsShownAs, HasRead, IsPageOfFound};
+ghost use Rattle.explain.specs.Showing.{Shows, IsAnswer, IsAnswerFault};
+
+use crate::command::Asked;
+use crate::fault::Fault;
+use crate::series::series_of;
+use audit_command::{ReadFiles, all_of, query_of, reply_of, tables_at};
+use auditor::{BlockTable, Line, judge};
+use labels::LabelSet;
+use matchers::Query;
+use page::{Page, Shown, write_page, write_text};
+use page_claims::Told;
+use sha2::{Digest, Sha256};
+use std::alloc::{AllocError, Global};
+use std::io::Read;
+
+/// The series that somebody asks about, if there is one.
+fn about_of(alloc: Global, asked: &Asked<'_>) -> Result<Option<LabelSet>, Fault>
+    ensures ok { IfOk result (λ about. IsAbout asked.now about) }
+    ensures err { IfErr result (λ fault. IsAboutFault asked.now fault) }
+{
+    match asked.about {
+        Some(text) => Ok(Some(series_of(alloc, text)?)),
+        None => Ok(None),
+    }
+}
+
+/// The reply that a text says, taken apart.
+fn told_in(alloc: Global, text: &[u8]) -> Result<Told, Fault>
+    ensures ok { IfOk result (λ told. IsToldIn text.now told) }
+    ensures err { IfErr result (λ fault. IsAuditFault (IsTextFault text.now) fault) }
+{
+    let reply = reply_of(alloc, text)?;
+    Ok(Told::of(alloc, reply)?)
+}
+
+/// What the auditor says of a reply over the blocks that are known; nothing, if there is none.
+fn lines_of(
+    alloc: Global,
+    tables: &[BlockTable],
+    query: &Query,
+    text: &[u8],
+) -> Result<Vec<Line>, Fault>
+    ensures ok { IfOk result (λ lines. AreLinesOf tables.now query.now text.now lines.items) }
+    ensures err { IfErr result (λ fault. IsAuditFault (IsTextFault text.now) fault) }
+{
+    if tables.is_empty() {
+        return Ok(Vec::new(alloc));
+    }
+    let reply = reply_of(alloc, text)?;
+    Ok(judge(alloc, tables, query, reply)?)
+}
+
+/// The page, as HTML or as a text.
+fn write_shown(alloc: Global, text: bool, shown: &Shown<'_>) -> Result<Page, AllocError>
+    ensures { IfOk result (λ page. IsShownAs text shown.now page) }
+{
+    if text {
+        write_text(alloc, shown)
+    } else {
+        write_page(alloc, shown)
+    }
+}
+
+/// What was read: the query, the series that somebody asks about, the text of the reply and what it
+/// says, what is known of the blocks, and what the auditor says of the reply.
+#[derive(Drop)]
+pub struct Found {
+    pub query: Query,
+    pub about: Option<LabelSet>,
+    pub text: Vec<u8>,
+    pub told: Told,
+    pub tables: Vec<BlockTable>,
+    pub lines: Vec<Line>,
+}
+
+/// Reads what is asked, the reply and the files in the directories.
+fn read_all<F: ReadFiles, R: Read>(
+    alloc: Global,
+    files: &F,
+    asked: &Asked<'_>,
+    input: &mut R,
+) -> Result<Found, Fault>
+    ensures ok { IfOk result
+        (λ found. HasRead (F.may_read files.now) (R.remaining input.old) asked.now found) }
+    ensures err { IfErr result
+        (λ fault. IsAnswerFault (F.may_read files.now) (R.remaining input.old) asked.now fault) }
+{
+    let query = query_of(alloc, &asked.audit)?;
+    let about = about_of(alloc, asked)?;
+    let text = all_of(alloc, input)?;
+    let told = told_in(alloc, text.as_slice())?;
+    let tables = tables_at(alloc, files, asked.audit.directories.as_slice())?;
+    let lines = lines_of(alloc, tables.as_slice(), &query, text.as_slice())?;
+    Ok(Found {
+        query,
+        about,
+        text,
+        told,
+        tables,
+        lines,
+    })
+}
+
+/// The page of what is shown, which was read.
+fn write_found(
+    alloc: Global,
+    asked: &Asked<'_>,
+    _found: &Found,
+    shown: &Shown<'_>,
+) -> Result<Page, AllocError>
+    requires { Shows asked.now _found.now shown.now }
+    ensures { IfOk result (λ page. IsPageOfFound asked.now _found.now page) }
+{
+    write_shown(alloc, asked.text, shown)
+}
+
+/// The page of what was read, with the length and the SHA-256 of the reply.
+fn page_of(alloc: Global, asked: &Asked<'_>, found: &Found) -> Result<Page, AllocError>
+    ensures { IfOk result (λ page. IsPageOfFound asked.now found.now page) }
+{
+    let shown = Shown {
+        selector: asked.audit.selector,
+        query: &found.query,
+        told: &found.told,
+        tables: found.tables.as_slice(),
+        lines: found.lines.as_slice(),
+        about: found.about.as_ref(),
+        length: found.text.len() as u64,
+        digest: Sha256::digest(found.text.as_slice()),
+    };
+    write_found(alloc, asked, found, &shown)
+}
+
+/// The page of the reply that a reader gives.
+///
+/// The selector is checked, then the range, then the series that is asked about; then the reply is
+/// read, to its end, and then the files in each directory, in the order given. The page shows what
+/// was read, and what the auditor says of it if a directory was given.
+pub fn answer<F: ReadFiles, R: Read>(
+    alloc: Global,
+    files: &F,
+    asked: &Asked<'_>,
+    input: &mut R,
+) -> Result<Page, Fault>
+    ensures ok { IfOk result
+        (λ page. IsAnswer (F.may_read files.now) (R.remaining input.old) asked.now page) }
+    ensures err { IfErr result
+        (λ fault. IsAnswerFault (F.may_read files.now) (R.remaining input.old) asked.now fault) }
+{
+    let found = read_all(alloc, files, asked, input)?;
+    Ok(page_of(alloc, asked, &found)?)
+}

@@ -1,9 +1,0 @@
-use Rattle.std.proofs.Common.{◌∙◌, codes}
-use Rattle.clap.specs.Words.{found_of}
-use Rattle.clap.proofs.WalkLemmas.{one_text-rows}
-use Rattle.explain_command.proofs.command.text_in.Goals as goal
-
-pub returns : goal.returns
-returns c =
-    let same = one_text-rows (found_of c.args.found.now) (codes "text") in
-    record { used = λ e. c.get_flag.ensures.value (same ∙ e); unused = λ e. c.get_flag.ensures.other (same ∙ e) }

@@ -1,6 +1,0 @@
-use Rattle.std.proofs.Common.{◌≡◌, drop}
-use Rattle.explain_command.specs.Series.{are_equal}
-use Rattle.explain_command.proofs.series.are_equal.Given as goal
-
-abbrev pub invariant-loop-matcher : goal.invariant-loop-matcher
-invariant-loop-matcher l = are_equal l.matchers ≡ are_equal (drop l.matcher-index l.matchers)

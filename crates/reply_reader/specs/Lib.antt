@@ -1,0 +1,4 @@
+pub mod Replies
+pub mod Errors
+pub mod Read
+pub mod Usual
