@@ -1,6 +1,6 @@
 //! A block that was checked.
 
-ghost use Rattle.std.specs.Prelude.{◌≡◌, length, IfOk, IfErr, Ok};
+ghost use Rattle.std.specs.Prelude.{◌≡◌, length, IfOk, IfErr, Ok, true};
 ghost use Rattle.labels.specs.Parts.{IsPart, Part};
 ghost use Rattle.index_reader.specs.Indexes.{IsConsistent};
 ghost use Rattle.index_reader.specs.Checks.{IsRefused};
@@ -210,6 +210,32 @@ impl Block {
         ensures { result ≡ sample_count self.now.part }
     {
         count_live(&self.files.index, &self.files.chunks, &self.tombstones)
+    }
+
+    /// Whether another block shows the same, as far as both are kept alike: then it does, and
+    /// `false` may be said of one whose files were written otherwise. It takes time in proportion
+    /// to their sizes, and no memory.
+    pub fn is_same(&self, other: &Block) -> bool
+        ensures { result ≡ true → self.now ≡ other.now }
+    {
+        if self.range != other.range {
+            return false;
+        }
+        if !self.tombstones.is_same(&other.tombstones) {
+            return false;
+        }
+        let (files, others) = (&self.files, &other.files);
+        if !files.chunks.is_same(&others.chunks) {
+            return false;
+        }
+        files.index.is_same(&others.index)
+    }
+
+    /// An equal block. It shares the files, and takes memory for the deletions alone.
+    pub fn share(&self, alloc: Global) -> Result<Block, AllocError>
+        ensures { IfOk result (λ b. b ≡ self.now) }
+    {
+        self.without(alloc, &[], 0, 0)
     }
 
     /// The block without the samples of these series in the closed range of times, in milliseconds.

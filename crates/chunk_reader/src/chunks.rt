@@ -1,6 +1,7 @@
 //! The file, and the checks of a chunk in their order.
 
 ghost use Rattle.std.specs.Prelude.{◌≡◌, ◌<◌, ◌≤◌, ℕ, ℤ, List, length, IfOk, IsOk, OnOk, Ok};
+ghost use Rattle.std.specs.Prelude.{Decides};
 ghost use Rattle.std.specs.List.{flat_map};
 ghost use Rattle.chunk_reader.specs.Frames.{framed_at, AnswersFrame, IsFramed};
 ghost use Rattle.chunk_reader.specs.Grammar.{IsChunk, IsSegment, sample_text};
@@ -63,6 +64,13 @@ impl Chunks {
     {
         check_head(file.as_slice())?;
         Ok(Chunks { file })
+    }
+
+    /// Whether another file has the same bytes.
+    pub fn is_same(&self, other: &Chunks) -> bool
+        ensures { Decides result (self.now ≡ other.now) }
+    {
+        self.file.as_slice() == other.file.as_slice()
     }
 
     /// The samples of the chunk at `reference`, in place. It takes time in proportion to the chunk,

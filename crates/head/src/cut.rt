@@ -97,13 +97,6 @@ fn block_of(alloc: Global, range: Range, rows: &PartRows) -> Result<Block, Commi
     }
 }
 
-/// An equal block, which shares the files.
-fn share_block(alloc: Global, block: &Block) -> Result<Block, AllocError>
-    ensures { IfOk result (λ b. part_in b ≡ part_in block.now) }
-{
-    block.without(alloc, &[], 0, 0)
-}
-
 /// The blocks, and one more as the last.
 fn with_block(alloc: Global, blocks: &[Block], last: Block) -> Result<Arc<Vec<Block>>, AllocError>
     ensures { IfOk result (λ all.
@@ -111,7 +104,7 @@ fn with_block(alloc: Global, blocks: &[Block], last: Block) -> Result<Arc<Vec<Bl
 {
     let mut all = Vec::new(alloc);
     for block in blocks {
-        all.push(share_block(alloc, block)?)?;
+        all.push(block.share(alloc)?)?;
     }
     all.push(last)?;
     Ok(Arc::new(alloc, all)?)

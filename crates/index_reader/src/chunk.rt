@@ -9,11 +9,18 @@ use labels::{MAX_TIME, is_time};
 use wire::Cut;
 
 /// A chunk's times and its reference.
-#[derive(Clone, Copy, Debug)]
+#[derive(Clone, Copy, Debug, PartialEq, Eq)]
 pub struct Chunk {
     pub mint: i64,
     pub maxt: i64,
     pub reference: u64,
+}
+
+/// Whether both are the same chunks.
+pub fn are_same_chunks(xs: &[Chunk], ys: &[Chunk]) -> bool
+    ensures { result ≡ true → xs.now ≡ ys.now }
+{
+    xs == ys
 }
 
 #[tactic(auto, unfolding(crate::specs::Reading::Chunks::time_after))]

@@ -1,7 +1,7 @@
 //! An index that was checked.
 
 ghost use Rattle.std.specs.Prelude.{◌≡◌, ◌<◌, ℕ, ◌==◌, [], length, slice_get, Some, Ok, IfOk};
-ghost use Rattle.std.specs.Prelude.{IfErr};
+ghost use Rattle.std.specs.Prelude.{IfErr, true};
 ghost use Rattle.std.specs.Prelude.{IfSome, IfNone};
 ghost use Rattle.index_reader.specs.Outcome.{Gives};
 ghost use Rattle.index_reader.specs.Indexes.{Indexed, IsConsistent, references, label_sets};
@@ -12,13 +12,15 @@ ghost use Rattle.index_reader.specs.Checks.{IsRefused};
 
 use crate::bodies::flat_parts;
 use crate::checks::{Checked, check};
-use crate::chunk::Chunk;
+use crate::chunk::{Chunk, are_same_chunks};
 use crate::error::IndexError;
+use crate::keys::are_same_labels;
 use crate::lists::{Lists, copy_lists};
 use crate::pairs::Pairs;
 use crate::postings::Entries;
-use crate::series::{Series, label_set_of};
+use crate::series::{Series, are_same_series, label_set_of};
 use crate::sharing::{OneThread, Readers, Workers};
+use crate::symbols::are_same_texts;
 use labels::{LabelSet, SeriesRef};
 use std::alloc::{AllocError, Global};
 use std::marker::Model;
@@ -110,6 +112,28 @@ impl Index {
         ensures consistent { IfOk result IsConsistent }
     {
         index_of(&Workers { rt, threads }, alloc, file)
+    }
+
+    /// Whether another index holds the same, as far as both are kept alike: then it does, and
+    /// `false` may be said of one that was kept otherwise. It takes time in proportion to their
+    /// sizes, and no memory.
+    pub fn is_same(&self, other: &Index) -> bool
+        ensures { result ≡ true → self.now ≡ other.now }
+    {
+        let (pairs, others) = (&self.pairs, &other.pairs);
+        if !are_same_texts(&pairs.symbols.texts, &others.symbols.texts) {
+            return false;
+        }
+        if !are_same_labels(&pairs.keys.pairs, &others.keys.pairs) {
+            return false;
+        }
+        if !are_same_labels(&self.labels, &other.labels) {
+            return false;
+        }
+        if !are_same_chunks(&self.chunks, &other.chunks) {
+            return false;
+        }
+        are_same_series(&self.series, &other.series)
     }
 
     /// How many series there are, at most 1,048,576.

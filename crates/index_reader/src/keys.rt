@@ -21,6 +21,13 @@ fn key_cmp(a: (u32, u32), b: (u32, u32)) -> Ordering
     a.cmp(&b)
 }
 
+/// Whether both are the same labels.
+pub fn are_same_labels(xs: &[(u32, u32)], ys: &[(u32, u32)]) -> bool
+    ensures { result ≡ true → xs.now ≡ ys.now }
+{
+    xs == ys
+}
+
 /// The label at a place.
 pub fn key_in(labels: &[(u32, u32)], i: usize) -> (u32, u32)
     requires { i < length labels.now }

@@ -1,6 +1,6 @@
 //! The series of an index, as they are kept, and their label sets.
 
-ghost use Rattle.std.specs.Prelude.{◌≡◌, ◌<◌, length, IfOk};
+ghost use Rattle.std.specs.Prelude.{◌≡◌, ◌<◌, length, true, IfOk};
 ghost use Rattle.labels.specs.LabelSets.{IsLabelSet};
 ghost use Rattle.labels.specs.Pairs.{texts_of};
 ghost use Rattle.index_reader.specs.CheckedFile.{symbol_texts};
@@ -13,13 +13,20 @@ use labels::{LabelSet, SeriesRef};
 use std::alloc::{AllocError, Global};
 
 /// A series: its reference, and where its labels and its chunks stand among those of all series.
-#[derive(Clone, Copy, Debug)]
+#[derive(Clone, Copy, Debug, PartialEq, Eq)]
 pub struct Series {
     pub reference: SeriesRef,
     pub labels_start: usize,
     pub labels_end: usize,
     pub chunks_start: usize,
     pub chunks_end: usize,
+}
+
+/// Whether both are the same series.
+pub fn are_same_series(xs: &[Series], ys: &[Series]) -> bool
+    ensures { result ≡ true → xs.now ≡ ys.now }
+{
+    xs == ys
 }
 
 // The name and the value of a label.

@@ -48,6 +48,13 @@ fn utf8_text(bytes: &[u8]) -> Option<&str>
     str::from_utf8(bytes).ok()
 }
 
+/// Whether both are the same texts.
+pub fn are_same_texts(xs: &[String], ys: &[String]) -> bool
+    ensures { result ≡ true → strings_of xs.now ≡ strings_of ys.now }
+{
+    xs == ys
+}
+
 #[tactic(auto, unfolding(crate::specs::Reading::Symbols::symbol_at))]
 fn read_symbol<'a>(cut: &mut Cut<'a>) -> Result<&'a str, IndexError>
     ensures { Gives (λ x. (x.now, cut.new)) result (symbol_at cut.old) }

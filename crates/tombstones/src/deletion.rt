@@ -3,7 +3,7 @@
 ghost use Rattle.std.specs.Prelude.{◌≡◌};
 
 /// A closed interval of times, in milliseconds, in which the samples of one series are deleted.
-#[derive(Clone, Copy, Debug)]
+#[derive(Clone, Copy, Debug, PartialEq, Eq)]
 pub struct Deletion {
     /// The number of the series' reference.
     pub reference: u32,

@@ -1,7 +1,7 @@
 //! Deletions, and whether one of them deletes a time.
 
 ghost use Rattle.std.specs.Prelude.{◌≡◌, map, ◌<◌, ◌≤◌, ◌++◌, ◌∷◌, ◌||◌, [], true, false, ℕ, ℤ};
-ghost use Rattle.std.specs.Prelude.{List, length, slice_index_or, IfOk, OnErr, OnOk};
+ghost use Rattle.std.specs.Prelude.{List, length, slice_index_or, Decides, IfOk, OnErr, OnOk};
 ghost use Rattle.std.specs.List.Sorted.{IsPermutation};
 ghost use Rattle.tombstones.specs.Covering.{are_covered, covered, deletes, has_deletion, interval};
 ghost use Rattle.tombstones.specs.Covering.{CoversAlso};
@@ -71,6 +71,13 @@ impl Tombstones {
         ensures { result.now ≡ self.now }
     {
         self.deletions.as_slice()
+    }
+
+    /// Whether the other deletions are the same.
+    pub fn is_same(&self, other: &Tombstones) -> bool
+        ensures { Decides result (self.now ≡ other.now) }
+    {
+        self.deletions.as_slice() == other.deletions.as_slice()
     }
 
     /// Whether a deletion of the series deletes the time. It takes time in proportion to the
