@@ -1,12 +1,15 @@
 //! Where events are kept before they are published.
 
 ghost use Rattle.std.specs.Prelude.{◌≡◌, ◌⊎◌, ◌++◌, ℕ, Bool, List, true, false, Err, OnOk};
-ghost use Rattle.std.specs.Prelude.{OnErr, IsErrOf};
+ghost use Rattle.std.specs.Prelude.{None, OnErr, IsErrOf, Ok};
+ghost use Rattle.head.specs.Heads.{SnapshotParts, world_of};
 ghost use Rattle.head.specs.Worlds.{Event as Change, World};
 ghost use Rattle.keeper.specs.Finding.{FindsOnly, IsOfAll, IsOfAllAndMore, IsOfAllAndSome};
 ghost use Rattle.keeper.specs.Together.{SpellTogether};
 
 use crate::error::KeepError;
+use head::Snapshot;
+use std::alloc::Global;
 
 /// Keeps events for good, each before it is published. It is handed their records, which can be
 /// made before a lock is taken.
@@ -31,6 +34,9 @@ pub trait Keeper {
 
     /// It has no room for more.
     ghost full: { Self → Type 0 };
+
+    /// Whether it is worth it to save a snapshot ([`Keeper::checkpoint`]).
+    ghost due: { Self → SnapshotParts → Bool };
 
     /// The moment, as a number that does not fall.
     ghost moment: { Self → ℕ };
@@ -88,6 +94,34 @@ pub trait Keeper {
             (IsOfAllAndSome first events more) }
         ensures closed { idle ≡ false → closed self.new ≡ true };
 
+    /// Saves what the kept events make, in their place, if that is worth it: a start then has less
+    /// to do. The snapshot is what they make, and no event is kept meanwhile. How many blocks were
+    /// saved, `None` if it was not worth it. Whatever is answered, it keeps what it kept; after an
+    /// `Err` it may be closed.
+    fn checkpoint(&mut self, alloc: Global, snapshot: &Snapshot) -> Result<Option<usize>, KeepError>
+        requires made { idle ≡ false → (events : List Change)
+            × holds self.old events × IsOfAll first events (world_of snapshot.now) }
+        ensures held { (events : List Change) → holds self.old events
+            → (idle ≡ false → IsOfAll first events (world_of snapshot.now))
+            → holds self.new events }
+        // A crash at any moment of the call leaves exactly what it keeps.
+        ensures any_moment { (events : List Change) → holds self.old events
+            → (idle ≡ false → IsOfAll first events (world_of snapshot.now))
+            → closed self.old ≡ false
+            → FindsOnly moment found_since self.old self.new (IsOfAll first events) }
+        // If it is not worth it, nothing is done; else it is saved, or refused.
+        ensures rests { due self.old snapshot.now ≡ false
+            → (result ≡ Ok None) × (self.new ≡ self.old) }
+        ensures saves { result ≡ Ok None
+            → (due self.old snapshot.now ≡ false) ⊎ (closed self.old ≡ true) }
+        // Where nothing is kept nothing is saved.
+        ensures needed { idle ≡ true → result ≡ Ok None }
+        ensures open { OnOk result (closed self.new ≡ closed self.old) }
+        ensures closed { closed self.old ≡ true → self.new ≡ self.old }
+        // It closes for no cause but that writing failed.
+        ensures lost { closed self.new ≡ true
+            → (closed self.old ≡ true) ⊎ (failed self.new ≡ true) };
+
     /// A crash at this moment leaves all that it keeps.
     ghost now: { (k : Self) (events : List Change) (w : World) → holds k events
         → found_since k (moment k) w → IsOfAllAndMore first events w };
@@ -122,6 +156,8 @@ impl Keeper for NoKeeper {
 
     ghost full = { λ k. ⊥ };
 
+    ghost due = { λ k s. false };
+
     ghost moment = { λ k. 0 };
 
     ghost found_since = { λ k t w. ⊥ };
@@ -135,6 +171,14 @@ impl Keeper for NoKeeper {
     }
 
     fn close(&mut self) {}
+
+    fn checkpoint(
+        &mut self,
+        _alloc: Global,
+        _snapshot: &Snapshot,
+    ) -> Result<Option<usize>, KeepError> {
+        Ok(None)
+    }
 
     ghost now = { λ k events w held none. absurd none };
 

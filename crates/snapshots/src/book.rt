@@ -1,6 +1,6 @@
 //! What keeps the events of a store and publishes them.
 
-ghost use Rattle.std.specs.Prelude.{◌≡◌, [], false, IfErr, OnErr, OnOk};
+ghost use Rattle.std.specs.Prelude.{◌≡◌, [], false, true, IfErr, None, OnErr, OnOk, Ok};
 ghost use Rattle.std.specs.Arc.{arc_value};
 ghost use Rattle.snapshots.specs.Marks.{accepted, list_of};
 ghost use Rattle.snapshots.specs.Grows.{Shows};
@@ -10,10 +10,11 @@ ghost use Rattle.snapshots.specs.Replays.{IsAfter};
 use crate::group::Group;
 use crate::naming::Naming;
 use crate::prefix::LogPrefix;
-use crate::press::{Press, publish_group, taken};
+use crate::press::{Press, checkpoint, publish_group, taken};
 use crate::tip::Tip;
 use head::CommitError;
-use keeper::{Keeper, NoKeeper};
+use keeper::{KeepError, Keeper, NoKeeper};
+use std::alloc::Global;
 use std::marker::Model;
 use std::sync::{Mutex, MutexGuard, Wait};
 
@@ -104,6 +105,17 @@ impl<J: Naming, R: Wait + Drop, K: Keeper + Drop> Book<J, R, K> {
             &mut self.keeper,
             group,
         )
+    }
+}
+
+impl<J: Naming, R: Wait + Drop, K: Keeper + Drop> Book<J, R, K> {
+    /// Saves what is published in the place of the events that made it, if its keeper finds that
+    /// worth it. What is kept and what is published stays the same, whatever is answered.
+    pub fn checkpoint(&mut self, alloc: Global) -> Result<Option<usize>, KeepError>
+        ensures same { self.new ≡ self.old }
+        ensures needed { K.idle ≡ true → result ≡ Ok None }
+    {
+        checkpoint(alloc, &self.press, &mut self.keeper)
     }
 }
 

@@ -1,6 +1,7 @@
 //! Committers, which publish events.
 
-ghost use Rattle.std.specs.Prelude.{◌≡◌, false, Some, is_none, IsTrue, IfOk, IfErr, OnErr};
+ghost use Rattle.std.specs.Prelude.{◌≡◌, false, true, None, Ok, Some, is_none, IsTrue, IfOk, IfErr};
+ghost use Rattle.std.specs.Prelude.{OnErr};
 ghost use Rattle.snapshots.specs.Marks.{tried_of};
 ghost use Rattle.snapshots.specs.Tips.{IsFailure};
 ghost use Rattle.labels.specs.Contents.{is_time};
@@ -20,7 +21,7 @@ use crate::receipt::Receipt;
 use crate::seat::Seat;
 use crate::tip::Tip;
 use head::{CommitError, Event, RowBatch};
-use keeper::{Keeper, NoKeeper};
+use keeper::{KeepError, Keeper, NoKeeper};
 use matchers::Matcher;
 use std::alloc::Global;
 use std::sync::{Condvar, Mutex, MutexGuard, Wait};
@@ -249,5 +250,14 @@ impl<J: Naming, R: Wait + Drop, K: Keeper + Drop> Committer<J, R, K> {
             Ok(receipt) => Ok(receipt),
             Err((_event, refusal)) => Err(refusal),
         }
+    }
+
+    /// Saves what is published in the place of the events that made it, if its keeper finds that
+    /// worth it: a start then has less to do. How many blocks were saved, `None` if it was not
+    /// worth it. No reader sees a difference. Meanwhile no event is published, and queries go on.
+    pub fn checkpoint(&self, rt: &impl Wait) -> Result<Option<usize>, KeepError>
+        ensures needed { K.idle ≡ true → result ≡ Ok None }
+    {
+        self.book.lock(rt).checkpoint(self.alloc)
     }
 }

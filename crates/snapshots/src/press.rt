@@ -1,11 +1,13 @@
 //! What publishes versions.
 
 ghost use Rattle.std.specs.Prelude.{◌≡◌, ◌++◌, List, MatchBool, false, IfErr, MatchResult};
+ghost use Rattle.std.specs.Prelude.{None, Ok, true};
 ghost use Rattle.std.specs.Arc.{arc_value};
-ghost use Rattle.keeper.specs.Finding.{FindsOnly, IsOfAllAndMore, IsOfAllAndSome};
+ghost use Rattle.keeper.specs.Finding.{FindsOnly, IsOfAll, IsOfAllAndMore, IsOfAllAndSome};
 ghost use Rattle.snapshots.specs.Marks.{accepted, list_of};
 ghost use Rattle.snapshots.specs.Grows.{Shows, MayFollow};
-ghost use Rattle.snapshots.specs.Keeping.{kept_of, IsGroup, IsHindered, IsOfKeeping};
+ghost use Rattle.snapshots.specs.Keeping.{kept_of, IsGroup, IsHindered, IsOfAllKept};
+ghost use Rattle.snapshots.specs.Keeping.{IsOfKeeping};
 ghost use Rattle.snapshots.specs.Replays.{events_in};
 ghost use Rattle.snapshots.specs.declared.entry.Entry.{Entry as Listed};
 
@@ -17,8 +19,9 @@ use crate::prefix::LogPrefix;
 use crate::tip::Tip;
 use crate::version::{Grows, Sees, Version};
 use head::CommitError;
-use keeper::Keeper;
+use keeper::{KeepError, Keeper};
 use left_right::writer::Writer;
+use std::alloc::Global;
 use std::sync::{Mutex, MutexGuard, Wait};
 
 /// The writer of the versions of a store.
@@ -39,6 +42,29 @@ pub fn publish<J: Naming, R: Wait>(rt: &R, mut press: Press<J>, next: Version) -
         return (press, false);
     };
     (press, true)
+}
+
+/// Saves what is published in the place of the events that made it, if its keeper finds that worth
+/// it. What is kept stays, and what is published too.
+pub fn checkpoint<J: Naming, K: Keeper>(
+    alloc: Global,
+    press: &Press<J>,
+    keeper: &mut K,
+) -> Result<Option<usize>, KeepError>
+    requires kept { (entries : List Listed) × K.holds keeper.old (kept_of J.before entries)
+        × IsOfAllKept K.idle K.first J.before entries press.now.desk.shown.value.parts }
+    ensures held { (entries : List Listed) → K.holds keeper.old (kept_of J.before entries)
+        → IsOfAllKept K.idle K.first J.before entries press.now.desk.shown.value.parts
+        → K.holds keeper.new (kept_of J.before entries) }
+    // After a crash at any moment of the call a start finds the world of all that was published.
+    ensures any_moment { (entries : List Listed) → K.holds keeper.old (kept_of J.before entries)
+        → IsOfAllKept K.idle K.first J.before entries press.now.desk.shown.value.parts
+        → K.closed keeper.old ≡ false
+        → FindsOnly K.moment K.found_since keeper.old keeper.new
+        (IsOfAll K.first (kept_of J.before entries)) }
+    ensures needed { K.idle ≡ true → result ≡ Ok None }
+{
+    keeper.checkpoint(alloc, press.published().snapshot())
 }
 
 /// The guard that is held, or else the lock is taken.
