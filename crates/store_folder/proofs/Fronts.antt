@@ -1,97 +1,33 @@
--- The blocks that events leave in front.
-use Rattle.std.proofs.Common.{◌≡◌, ◌≤◌, ◌+◌, ◌<◌, ⊎_elim, ℕ, suc, Bool, true, false, List}
-use Rattle.std.proofs.Common.{[], ◌∷◌, ◌++◌, Option, length, take, refl, sym, ap, subst, subst₂, ◌∙◌}
-use Rattle.std.proofs.Common.{append_assoc, arith}
-use Rattle.std.proofs.lemmas.List.{append-nil}
-use Rattle.std.proofs.lemmas.List.Folds.{list_any_more}
-use Rattle.std.specs.Prelude.{◌||◌, slice_index_or}
+-- The blocks that a head names, and those in memory.
+use Rattle.std.proofs.Common.{◌≡◌, ◌≤◌, inl, inr, ℕ, zero, suc, Bool, true, false, List, [], ◌∷◌}
+use Rattle.std.proofs.Common.{Option, Ok, length, take, refl, sym, ap, subst, subst₂, ◌∙◌, arith}
 use Rattle.data_folder.specs.declared.journal_file.JournalFile.{JournalFile}
-use Rattle.data_folder.specs.Folders.{Left}
-use Rattle.head.specs.Heads.{BlockPart, SnapshotParts}
-use Rattle.head.specs.Kept.{KeepsBlocks}
-use Rattle.head.specs.Worlds.{Event, World, batch, deletion, cut}
+use Rattle.data_folder.specs.Folders.{Left, MayLeaveOf}
+use Rattle.head.specs.Heads.{BlockPart, SnapshotParts, world_of}
+use Rattle.head.specs.Worlds.{Event, World, replayed}
 use Rattle.head_record.specs.Saved.{Place}
-use Rattle.store_folder.specs.Holding.{AreAt, HoldsAt}
-use Rattle.store_folder.specs.Kinds.{has_deletion, is_deletion}
+use Rattle.store_folder.specs.Holding.{AreAt, HoldsAt, HoldsLike, HoldsOrLost}
+use Rattle.store_folder.specs.Holding.{HoldsStore}
+use Rattle.store_folder.specs.KeeperLaws.{now_found}
 use Rattle.store_folder.specs.Saving.{MaySave}
-use Rattle.store_folder.specs.Starting.{BeginsWith, GoesOn}
 use Rattle.store_folder.specs.Writing.{AreLike}
-
-pub all_in_front : (blocks : List BlockPart) → BeginsWith blocks blocks
-all_in_front blocks = ([], sym (append-nil blocks))
-
-in_front_of : (a b c : List BlockPart) → BeginsWith a b → BeginsWith b c → BeginsWith a c
-in_front_of a b c h i = (
-  h.0 ++ i.0,
-  i.1 ∙ (ap (λ (x : List BlockPart). x ++ i.0) h.1 ∙ append_assoc a h.0 i.0),
-)
-
-is_none : {A : Type 0} → true ≡ false → A
-is_none e = absurd cc
-
-one_step : (e : Event) (s : SnapshotParts) (blocks : List BlockPart) → is_deletion e ≡ false
-    → KeepsBlocks e s blocks → BeginsWith s.blocks blocks
-one_step (batch xs) s blocks none k = ([], k ∙ sym (append-nil s.blocks))
-one_step (deletion ms from to) s blocks none k = is_none none
-one_step (cut t) s blocks none k =
-    ⊎_elim (λ same. ([], same ∙ sym (append-nil s.blocks))) (λ more. (more.0 ∷ [], more.1)) k
-
-none_before : (a b : Bool) → (a || b) ≡ false → a ≡ false
-none_before false b e = refl
-none_before true b e = is_none e
-
-none_here : (a b : Bool) → (a || b) ≡ false → b ≡ false
-none_here false b e = e
-none_here true b e = is_none e
-
--- one event more
-pub next_in_front : (events : List Event) (at : ℕ) (event : Event) (first : List BlockPart)
-    (s : SnapshotParts) (blocks : List BlockPart) → at < length events
-    → event ≡ slice_index_or events at event
-    → (has_deletion (take at events) ≡ false → BeginsWith first s.blocks)
-    → KeepsBlocks event s blocks → has_deletion (take (at + 1) events) ≡ false
-    → BeginsWith first blocks
-next_in_front events at event first s blocks within is before k none =
-    let both : (has_deletion (take at events) || is_deletion event) ≡ false =
-    ap (λ (e : Event). has_deletion (take at events) || is_deletion e) is
-    ∙ (sym (list_any_more is_deletion events at event within) ∙ none) in
-    in_front_of first s.blocks blocks (before (none_before _ _ both))
-    (one_step event s blocks (none_here _ _ both) k)
-
--- a store that goes on may save its snapshot
 
 like_all : (blocks : List BlockPart) → AreLike blocks blocks
 like_all [] = tt
 like_all (b ∷ blocks) = (record { min = refl; max = refl; points = refl }, like_all blocks)
 
-take_front : (a b : List BlockPart) → take (length a) (a ++ b) ≡ a
-take_front [] b = refl
-take_front (x ∷ a) b = ap (λ (xs : List BlockPart). x ∷ xs) (take_front a b)
+like_taken : (n : ℕ) (a b : List BlockPart) → AreLike a b → AreLike (take n a) (take n b)
+like_taken zero a b l = tt
+like_taken (suc n) [] [] l = tt
+like_taken (suc n) [] (y ∷ b) l = absurd l
+like_taken (suc n) (x ∷ a) [] l = absurd l
+like_taken (suc n) (x ∷ a) (y ∷ b) l = (l.0, like_taken n a b l.1)
 
-front_like : (parts blocks : List BlockPart) → BeginsWith parts blocks
-    → AreLike (take (length parts) blocks) (take (length parts) parts)
-front_like parts blocks h =
-    subst (λ (xs : List BlockPart). AreLike (take (length parts) xs) (take (length parts) parts))
-    (sym h.1)
-    (subst₂ AreLike (sym (take_front parts h.0))
-    (sym (take_front_all parts)) (like_all parts))
-  where
-    take_front_all : (a : List BlockPart) → take (length a) a ≡ a
-    take_front_all a = ap (λ (xs : List BlockPart). take (length a) xs) (sym (append-nil a)) ∙ take_front a []
-
-counted : (shows_at : Bool) (same count : ℕ) (parts blocks : List BlockPart) (places : List Place)
-    → (shows_at ≡ true → same ≡ 0) → (shows_at ≡ false → same ≡ count)
-    → count ≡ length places → length places ≡ length parts
-    → (shows_at ≡ false → BeginsWith parts blocks)
-    → (same ≤ length places) × AreLike (take same blocks) (take same parts)
-counted true same count parts blocks places none all is long front =
-    let e : same ≡ 0 = none refl in
-    rw e (omega arith, tt)
-counted false same count parts blocks places none all is long front =
-    let e : same ≡ length parts = all refl ∙ (is ∙ long) in (
-      omega (arith, e, long),
-      rw e (front_like parts blocks (front refl)),
-    )
+length_like : (a b : List BlockPart) → AreLike a b → length a ≡ length b
+length_like [] [] l = refl
+length_like [] (y ∷ b) l = absurd l
+length_like (x ∷ a) [] l = absurd l
+length_like (x ∷ a) (y ∷ b) l = ap suc (length_like a b l.1)
 
 module _ {F : Type 0} (shows : F → List ℕ → Option (List ℕ) → Type 0)
     (kept : F → List ℕ → ℕ → Type 0) (sound : F → Bool) (moment : F → ℕ)
@@ -103,22 +39,106 @@ module _ {F : Type 0} (shows : F → List ℕ → Option (List ℕ) → Type 0)
   as_many (p ∷ places) [] f at = absurd at
   as_many (p ∷ places) (b ∷ parts) f at = ap suc (as_many places parts f at.1)
 
+  abbrev Like : World → JournalFile F → ℕ → Bool → List Event → List Place → List BlockPart → Type 0
+  Like first m len closed events places blocks =
+      HoldsLike shows kept sound moment left_since first m len closed events places blocks
+
+  -- while the journal is open
+  pub open_like : (first : World) (m : JournalFile F) (len : ℕ) (closed : Bool)
+      (events : List Event) (places : List Place) (blocks : List BlockPart)
+      → HoldsOrLost shows kept sound moment left_since first m len closed events places blocks
+      → closed ≡ false → Like first m len closed events places blocks
+  open_like first m len closed events places blocks (inl h) opened = h
+  open_like first m len closed events places blocks (inr lost) opened =
+      absurd (let a : true ≡ false = sym lost.is_closed ∙ opened in cc)
+
+  -- the blocks that were found, and shares of them
+  pub resumed_like : (first : World) (m : JournalFile F) (len : ℕ) (closed : Bool)
+      (events : List Event) (places : List Place) (parts : List BlockPart) (copied : List Place)
+      (shares : List BlockPart) → copied ≡ places → shares ≡ parts
+      → HoldsAt shows kept sound moment left_since first m len closed events places parts
+      → Like first m len closed events copied shares
+  resumed_like first m len closed events places parts copied shares where_ same at = (
+    at.0,
+    at.1 ∙ sym where_,
+    subst₂ AreLike (sym same) (sym at.2) (like_all parts),
+  )
+
+  -- a snapshot may be saved, of which these blocks are the first
   pub may_save : (first : World) (m : JournalFile F) (len : ℕ) (closed : Bool)
-      (events : List Event) (places held : List Place) (parts : List BlockPart) (s : SnapshotParts)
-      (same count : ℕ)
-      → GoesOn shows kept sound moment left_since first m len closed events places parts s
-      → held ≡ places → count ≡ length held → (has_deletion events ≡ true → same ≡ 0)
-      → (has_deletion events ≡ false → same ≡ count)
-      → MaySave shows kept sound moment left_since first m len closed events s held parts same
-  may_save first m len closed events places held parts s same count g is counts none all =
-      let at : HoldsAt shows kept sound moment left_since first m len closed events held parts =
-      subst (λ (ps : List Place).
-      HoldsAt shows kept sound moment left_since first m len closed events ps parts) (sym is)
-      g.holds in
-      let long : length held ≡ length parts =
-      ap (λ (ps : List Place). length ps) (sym at.1)
-      ∙ (as_many at.0.saved.places at.0.parts m.folder at.0.blocks
-      ∙ ap (λ (bs : List BlockPart). length bs) at.2) in
-      let both =
-      counted (has_deletion events) same count parts s.blocks held none all counts long g.front in
-      record { holds = at; world = g.world; few = both.0; front = both.1 }
+      (events : List Event) (places held : List Place) (blocks shown others : List BlockPart)
+      (s : SnapshotParts) (same : ℕ) (h : Like first m len closed events places blocks)
+      → replayed first events ≡ Ok (world_of s) → held ≡ places → shown ≡ s.blocks
+      → others ≡ blocks → same ≤ length others → take same shown ≡ take same others
+      → MaySave shows kept sound moment left_since first m len closed events s held h.0.parts same
+  may_save first m len closed events places held blocks shown others s same h world is snaps mine few
+      front =
+      let long : length held ≡ length blocks =
+      ap (λ (ps : List Place). length ps) (is ∙ sym h.1)
+      ∙ (as_many h.0.saved.places h.0.parts m.folder h.0.blocks
+      ∙ sym (length_like blocks h.0.parts h.2)) in
+      let count : length others ≡ length blocks = ap (λ (bs : List BlockPart). length bs) mine in
+      let begins : take same s.blocks ≡ take same blocks =
+      ap (λ (bs : List BlockPart). take same bs) (sym snaps)
+      ∙ (front ∙ ap (λ (bs : List BlockPart). take same bs) mine) in
+      record {
+        holds = (h.0, h.1 ∙ sym is, refl);
+        world = world;
+        few = omega (arith, few, long, count);
+        front = subst (λ (bs : List BlockPart). AreLike bs (take same h.0.parts)) (sym begins)
+            (like_taken same blocks h.0.parts h.2);
+      }
+
+  -- what is held after a new head
+  pub saved_like : (first : World) (m : JournalFile F) (len : ℕ) (closed : Bool)
+      (events : List Event) (places now : List Place) (made blocks shares : List BlockPart)
+      → HoldsAt shows kept sound moment left_since first m len closed events places made
+      → AreLike blocks made → now ≡ places → shares ≡ blocks
+      → Like first m len closed events now shares
+  saved_like first m len closed events places now made blocks shares at like is same = (
+    at.0,
+    at.1 ∙ sym is,
+    subst₂ AreLike (sym same) (sym at.2) like,
+  )
+
+  -- where it failed and goes on
+  pub still_like : (first : World) (old m : JournalFile F) (was len : ℕ) (shut closed : Bool)
+      (events : List Event) (places now : List Place) (blocks : List BlockPart)
+      (h : Like first old was shut events places blocks)
+      → HoldsAt shows kept sound moment left_since first m len closed events now h.0.parts
+      → now ≡ places → Like first m len closed events places blocks
+  still_like first old m was len shut closed events places now blocks h at is = (
+    at.0,
+    at.1 ∙ is,
+    subst (λ (bs : List BlockPart). AreLike blocks bs) (sym at.2) h.2,
+  )
+
+module _ {F : Type 0} (shows : F → List ℕ → Option (List ℕ) → Type 0)
+    (kept : F → List ℕ → ℕ → Type 0) (sound : F → Bool) (moment : F → ℕ)
+    (left_since : F → ℕ → Left → Type 0)
+    (only_now : (f : F) (name : List ℕ) (x : Option (List ℕ)) (n : ℕ) (left : Left) → shows f name x
+    → kept f name n → left_since f (moment f) left → MayLeaveOf n x (left name)) where
+  -- a roll has failed: the journal goes on, or it is lost
+  pub failed_like : (first : World) (old mid new : JournalFile F) (was mid_len len : ℕ)
+      (shut mid_closed closed : Bool) (events : List Event) (places held : List Place)
+      (blocks : List BlockPart)
+      (h : HoldsLike shows kept sound moment left_since first old was shut events places blocks)
+      → closed ≡ mid_closed
+      → (mid_closed ≡ false
+      → HoldsAt shows kept sound moment left_since first mid mid_len mid_closed events held h.0.parts)
+      → (mid_closed ≡ false
+      → HoldsAt shows kept sound moment left_since first mid mid_len mid_closed events held h.0.parts
+      → HoldsAt shows kept sound moment left_since first new len closed events held h.0.parts)
+      → HoldsStore shows kept sound moment left_since first new len closed events → held ≡ places
+      → HoldsOrLost shows kept sound moment left_since first new len closed events places blocks
+  failed_like first old mid new was mid_len len shut true closed events places held blocks h same goes
+      stays holds is =
+      inr (record {
+        is_closed = same;
+        finds = λ w had. now_found shows kept sound moment left_since only_now first new len closed
+            events w holds had;
+      })
+  failed_like first old mid new was mid_len len shut false closed events places held blocks h same
+      goes stays holds is =
+      inl (still_like shows kept sound moment left_since first old new was len shut closed events
+      places held blocks h (stays refl (goes refl)) is)

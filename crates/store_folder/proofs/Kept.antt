@@ -9,11 +9,12 @@ use Rattle.data_folder.specs.JournalLaws.{StaysBeside}
 use Rattle.event_journal.specs.Holding.{Holds, StandsAndSome}
 use Rattle.head.specs.Heads.{BlockPart, world_of}
 use Rattle.head.specs.Worlds.{Event, World, replayed}
-use Rattle.head_record.specs.Saved.{Saved}
+use Rattle.head_record.specs.Saved.{Place, Saved}
 use Rattle.head_record.specs.Spelling.{head_texts, IsSaved}
 use Rattle.journal.specs.Media.{LeavesOnly}
 use Rattle.keeper.specs.Finding.{IsOfAllAndSome}
-use Rattle.store_folder.specs.Holding.{AreAt, FoundSince, HoldsAfterHead, KeptLast}
+use Rattle.store_folder.specs.Holding.{AreAt, FoundSince, HoldsAfterHead, HoldsLike, KeptLast}
+use Rattle.store_folder.specs.Holding.{LastLike}
 use Rattle.store_folder.specs.KeeperLaws.{regrouped}
 use Rattle.store_folder.specs.States.{StartsWith, started}
 use Rattle.store_folder.specs.StoreLaws.{blocks_left, blocks_stay, found_store}
@@ -36,7 +37,7 @@ module _ {F : Type 0} (shows : F → List ℕ → Option (List ℕ) → Type 0)
       HoldsAfterHead shows kept sound moment left_since first m len closed events
 
   -- after a call that kept events more
-  pub store_more : (first : World) (old new : JournalFile F) (len more_len : ℕ)
+  store_more : (first : World) (old new : JournalFile F) (len more_len : ℕ)
       (was closed : Bool) (events more : List Event) (h : HoldsAll first old len was events)
       → StaysBeside shows kept moment left_since old.folder new.folder
       → HoldsHere (head_texts h.saved) new more_len closed (h.late ++ more)
@@ -55,7 +56,7 @@ module _ {F : Type 0} (shows : F → List ℕ → Option (List ℕ) → Type 0)
   }
 
   -- after a call that kept nothing
-  pub store_stays : (first : World) (old new : JournalFile F) (len new_len : ℕ)
+  store_stays : (first : World) (old new : JournalFile F) (len new_len : ℕ)
       (was closed : Bool) (events : List Event) (h : HoldsAll first old len was events)
       → StaysBeside shows kept moment left_since old.folder new.folder
       → HoldsHere (head_texts h.saved) new new_len closed h.late
@@ -73,7 +74,7 @@ module _ {F : Type 0} (shows : F → List ℕ → Option (List ℕ) → Type 0)
         beside.same beside.durable;
   }
 
-  pub last_kept : (first : World) (old new : JournalFile F) (len more_len : ℕ)
+  last_kept : (first : World) (old new : JournalFile F) (len more_len : ℕ)
       (was closed : Bool) (events more : List Event) (h : HoldsAll first old len was events)
       → StaysBeside shows kept moment left_since old.folder new.folder
       → HoldsHere (head_texts h.saved) new more_len closed (h.late ++ more)
@@ -92,7 +93,7 @@ module _ {F : Type 0} (shows : F → List ℕ → Option (List ℕ) → Type 0)
   }
 
   -- the events that were kept last are given up
-  pub given_up : (first : World) (old new : JournalFile F) (len new_len : ℕ) (was closed : Bool)
+  given_up : (first : World) (old new : JournalFile F) (len new_len : ℕ) (was closed : Bool)
       (events more : List Event)
       (h : KeptLast shows kept sound moment left_since first old len was events more)
       → StaysBeside shows kept moment left_since old.folder new.folder
@@ -110,6 +111,54 @@ module _ {F : Type 0} (shows : F → List ℕ → Option (List ℕ) → Type 0)
     blocks = blocks_stay shows kept h.saved.places h.parts old.folder new.folder h.blocks
         beside.same beside.durable;
   }
+
+  -- the same with the blocks that the head names
+
+  abbrev Like : World → JournalFile F → ℕ → Bool → List Event → List Place → List BlockPart → Type 0
+  Like first m len closed events places blocks =
+      HoldsLike shows kept sound moment left_since first m len closed events places blocks
+
+  pub like_more : (first : World) (old new : JournalFile F) (len more_len : ℕ)
+      (was closed : Bool) (events more : List Event) (places : List Place)
+      (blocks : List BlockPart) (h : Like first old len was events places blocks)
+      → StaysBeside shows kept moment left_since old.folder new.folder
+      → HoldsHere (head_texts h.0.saved) new more_len closed (h.0.late ++ more)
+      → Like first new more_len closed (events ++ more) places blocks
+  unfolding store_more
+  like_more first old new len more_len was closed events more places blocks h beside j =
+      (store_more first old new len more_len was closed events more h.0 beside j, h.1, h.2)
+
+  pub like_stays : (first : World) (old new : JournalFile F) (len new_len : ℕ)
+      (was closed : Bool) (events : List Event) (places : List Place) (blocks : List BlockPart)
+      (h : Like first old len was events places blocks)
+      → StaysBeside shows kept moment left_since old.folder new.folder
+      → HoldsHere (head_texts h.0.saved) new new_len closed h.0.late
+      → Like first new new_len closed events places blocks
+  unfolding store_stays
+  like_stays first old new len new_len was closed events places blocks h beside j =
+      (store_stays first old new len new_len was closed events h.0 beside j, h.1, h.2)
+
+  pub like_last : (first : World) (old new : JournalFile F) (len more_len : ℕ)
+      (was closed : Bool) (events more : List Event) (places : List Place)
+      (blocks : List BlockPart) (h : Like first old len was events places blocks)
+      → StaysBeside shows kept moment left_since old.folder new.folder
+      → HoldsHere (head_texts h.0.saved) new more_len closed (h.0.late ++ more)
+      → LastLike shows kept sound moment left_since first new more_len closed events more places
+      blocks
+  unfolding last_kept
+  like_last first old new len more_len was closed events more places blocks h beside j =
+      (last_kept first old new len more_len was closed events more h.0 beside j, h.1, h.2)
+
+  pub like_given_up : (first : World) (old new : JournalFile F) (len new_len : ℕ)
+      (was closed : Bool) (events more : List Event) (places : List Place)
+      (blocks : List BlockPart)
+      (h : LastLike shows kept sound moment left_since first old len was events more places blocks)
+      → StaysBeside shows kept moment left_since old.folder new.folder
+      → HoldsHere (head_texts h.0.saved) new new_len closed h.0.late
+      → Like first new new_len closed events places blocks
+  unfolding given_up
+  like_given_up first old new len new_len was closed events more places blocks h beside j =
+      (given_up first old new len new_len was closed events more h.0 beside j, h.1, h.2)
 
   -- what a start finds of what is left at a moment of a call
 

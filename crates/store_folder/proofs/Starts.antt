@@ -32,14 +32,14 @@ use Rattle.keeper.specs.Finding.{IsOfAll, IsOfAllAndSome}
 use Rattle.store_folder.specs.declared.error.StartError.{StartError}
 use Rattle.store_folder.specs.declared.journals.FoundJournal.{FoundJournal}
 use Rattle.store_folder.specs.Finding.{IsFoundStore}
-use Rattle.store_folder.specs.Holding.{FoundSince, HoldsAfterHead, HoldsAt}
-use Rattle.store_folder.specs.Kinds.{has_deletion}
-use Rattle.store_folder.specs.Starting.{BeginsWith, DeniesStart, GoesOn, IsNoneOrNothing}
+use Rattle.store_folder.specs.Holding.{FoundSince, HoldsAfterHead, HoldsAt, HoldsLike}
+use Rattle.store_folder.specs.Starting.{DeniesStart, GoesOn, IsNoneOrNothing}
 use Rattle.store_folder.specs.Starting.{IsRefusedEvent}
 use Rattle.store_folder.specs.Starting.{StartFinds}
 use Rattle.store_folder.specs.Starting.{nothing_saved}
 use Rattle.store_folder.specs.States.{HasWorld, started}
 use Rattle.store_folder.specs.StoreLaws.{blocks_left, blocks_stay, found_store, whole_left}
+use Rattle.store_folder.specs.Writing.{AreLike}
 use Rattle.store_folder.proofs.Kept.{store_finds}
 
 -- the snapshot of a head and blocks, and the events after it
@@ -62,18 +62,6 @@ goes_on saved parts floor head events given s (Ok x) is floors heads same h =
     (subst (λ (y : SnapshotParts). replayed (world_of y) given ≡ Ok (world_of x))
     (is_started saved parts floor head s is floors heads) h)
 goes_on saved parts floor head events given s (Err e) is floors heads same h = tt
-
--- its first blocks are these, unless there is a deletion
-pub goes_on_in_front : (saved : Saved) (parts : List BlockPart) (floor : ℤ)
-    (head : List HeadSeries) (events given : List Event) (s : SnapshotParts)
-    (r : Result SnapshotParts StartError)
-    → s ≡ resumed parts floor head → floor ≡ saved.floor → head ≡ saved.head → given ≡ events
-    → IfOk r (λ x. has_deletion given ≡ false → BeginsWith s.blocks x.blocks)
-    → IfOk r (λ x. has_deletion events ≡ false → BeginsWith parts x.blocks)
-goes_on_in_front saved parts floor head events given s (Ok x) is floors heads same h =
-    λ none. subst (λ (bs : List BlockPart). BeginsWith bs x.blocks)
-    (ap (λ (y : SnapshotParts). y.blocks) is) (h (ap has_deletion same ∙ none))
-goes_on_in_front saved parts floor head events given s (Err e) is floors heads same h = tt
 
 denies_event : (saved : Saved) (parts : List BlockPart) (events : List Event) (e : StartError)
     → IsRefusedEvent (world_of (started saved parts)) events e → DeniesStart saved parts events e
@@ -294,17 +282,20 @@ module _ {F : Type 0} (shows : F → List ℕ → Option (List ℕ) → Type 0)
 
   -- a store that begins goes on
   pub begun_goes_on : (first : World) (m : JournalFile F) (len : ℕ) (closed : Bool)
-      (events : List Event) (head : Saved) (s : SnapshotParts) → first ≡ world_of (opening_of [])
-      → s ≡ opening_of [] → events ≡ [] → head ≡ nothing_saved → closed ≡ false
+      (events : List Event) (places : List Place) (blocks : List BlockPart) (s : SnapshotParts)
+      → first ≡ world_of (opening_of []) → s ≡ opening_of [] → events ≡ [] → places ≡ []
+      → blocks ≡ [] → closed ≡ false
       → HoldsAt shows kept sound moment left_since first m len closed [] [] []
-      → GoesOn shows kept sound moment left_since first m len closed events head.places [] s
-  begun_goes_on first m len closed events head s begins is none nothing opened at =
-      let whole : GoesOn shows kept sound moment left_since first m len closed [] [] [] s = record {
-        world = ap fine (begins ∙ ap world_of (sym is));
-        holds = at;
+      → GoesOn shows kept sound moment left_since first m len closed events places blocks s
+  begun_goes_on first m len closed events places blocks s begins is none nowhere nothing opened at =
+      record {
+        world = ap (λ (es : List Event). replayed first es) none
+            ∙ ap fine (begins ∙ ap world_of (sym is));
+        holds = subst₂ (λ (ps : List Place) (bs : List BlockPart).
+            HoldsLike shows kept sound moment left_since first m len closed events ps bs)
+            (sym nowhere) (sym nothing)
+            (subst (λ (es : List Event).
+            HoldsLike shows kept sound moment left_since first m len closed es [] []) (sym none)
+            (at.0, at.1, subst (λ (bs : List BlockPart). AreLike [] bs) (sym at.2) tt));
         is_open = opened;
-        front = λ none. ([], ap (λ (x : SnapshotParts). x.blocks) is);
-      } in
-      subst₂ (λ (es : List Event) (ps : List Place).
-      GoesOn shows kept sound moment left_since first m len closed es ps [] s) (sym none)
-      (ap (λ (h : Saved). h.places) (sym nothing)) whole
+      }

@@ -12,6 +12,7 @@ use Rattle.head_record.specs.Spelling.{head_texts, IsSaved}
 use Rattle.keeper.specs.Finding.{IsOfAllAndMore}
 use Rattle.store_folder.specs.Blocks.{BlockFiles, SpellBlock, named_files}
 use Rattle.store_folder.specs.States.{StartsWith, started}
+use Rattle.store_folder.specs.Writing.{AreLike}
 
 -- the folder has the files of the block at each place, for good
 abbrev pub AreAt : {F : Type 0} → (F → List ℕ → Option (List ℕ) → Type 0)
@@ -90,4 +91,28 @@ abbrev pub HoldsStore : {F : Type 0} → (F → List ℕ → Option (List ℕ) �
     → JournalFile F → ℕ → Bool → List Event → Type 0
 HoldsStore shows kept sound moment left_since first m len closed events =
     HoldsAfterHead shows kept sound moment left_since first m len closed events
+    ⊎ IsLost moment left_since first m closed events
+
+-- the folder keeps these events, after a head that names blocks like these at these places
+abbrev pub HoldsLike : {F : Type 0} → (F → List ℕ → Option (List ℕ) → Type 0)
+    → (F → List ℕ → ℕ → Type 0) → (F → Bool) → (F → ℕ) → (F → ℕ → Left → Type 0) → World
+    → JournalFile F → ℕ → Bool → List Event → List Place → List BlockPart → Type 0
+HoldsLike shows kept sound moment left_since first m len closed events places blocks =
+    (h : HoldsAfterHead shows kept sound moment left_since first m len closed events)
+    × (h.saved.places ≡ places) × AreLike blocks h.parts
+
+-- the same, and then events that were kept last
+abbrev pub LastLike : {F : Type 0} → (F → List ℕ → Option (List ℕ) → Type 0)
+    → (F → List ℕ → ℕ → Type 0) → (F → Bool) → (F → ℕ) → (F → ℕ → Left → Type 0) → World
+    → JournalFile F → ℕ → Bool → List Event → List Event → List Place → List BlockPart → Type 0
+LastLike shows kept sound moment left_since first m len closed events more places blocks =
+    (h : KeptLast shows kept sound moment left_since first m len closed events more)
+    × (h.saved.places ≡ places) × AreLike blocks h.parts
+
+-- it does, or a start finds the world of these events and nothing more is taken
+abbrev pub HoldsOrLost : {F : Type 0} → (F → List ℕ → Option (List ℕ) → Type 0)
+    → (F → List ℕ → ℕ → Type 0) → (F → Bool) → (F → ℕ) → (F → ℕ → Left → Type 0) → World
+    → JournalFile F → ℕ → Bool → List Event → List Place → List BlockPart → Type 0
+HoldsOrLost shows kept sound moment left_since first m len closed events places blocks =
+    HoldsLike shows kept sound moment left_since first m len closed events places blocks
     ⊎ IsLost moment left_since first m closed events

@@ -6,12 +6,14 @@ use Rattle.data_folder.specs.Folders.{Left, MayLeaveOf}
 use Rattle.data_folder.specs.JournalFile.{journal_name}
 use Rattle.data_folder.specs.JournalLaws.{left_now}
 use Rattle.event_journal.specs.Holding.{contents_with}
+use Rattle.head.specs.Heads.{BlockPart}
 use Rattle.head.specs.Worlds.{Event, World, replayed}
+use Rattle.head_record.specs.Saved.{Place}
 use Rattle.head_record.specs.Spelling.{head_texts}
 use Rattle.journal.specs.Records.{file_of}
 use Rattle.journal.proofs.Keeping.{at_rest}
 use Rattle.keeper.specs.Finding.{IsOfAll, IsOfAllAndMore}
-use Rattle.store_folder.specs.Holding.{FoundSince, HoldsAfterHead, HoldsStore}
+use Rattle.store_folder.specs.Holding.{FoundSince, HoldsAfterHead, HoldsOrLost, HoldsStore}
 use Rattle.store_folder.specs.StoreLaws.{blocks_left, found_store}
 
 -- the early events, those after the head, and more
@@ -72,6 +74,14 @@ module _ {F : Type 0} (shows : F → List ℕ → Option (List ℕ) → Type 0)
         each = h.journal.each;
         recovers = at_rest contents bytes k.each front;
       }) had.2)
+
+  -- whatever blocks it names
+  pub as_store : (first : World) (m : JournalFile F) (len : ℕ) (closed : Bool)
+      (events : List Event) (places : List Place) (blocks : List BlockPart)
+      → HoldsOrLost shows kept sound moment left_since first m len closed events places blocks
+      → HoldsStore shows kept sound moment left_since first m len closed events
+  as_store first m len closed events places blocks (inl h) = inl h.0
+  as_store first m len closed events places blocks (inr lost) = inr lost
 
   pub now_found : (first : World) (m : JournalFile F) (len : ℕ) (closed : Bool)
       (events : List Event) (w : World)

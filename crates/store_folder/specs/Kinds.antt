@@ -3,20 +3,11 @@ use Rattle.std.specs.Prelude.{Bool, true, false, List}
 use Rattle.std.specs.List.{list_any}
 use Rattle.head.specs.Worlds.{Event, batch, deletion, cut}
 
-abbrev pub is_deletion : Event → Bool
-is_deletion (batch xs) = false
-is_deletion (deletion ms from to) = true
-is_deletion (cut t) = false
-
 abbrev pub is_cut : Event → Bool
 is_cut (batch xs) = false
 is_cut (deletion ms from to) = false
 is_cut (cut t) = true
 
--- whether one of the events is a deletion
-abbrev pub has_deletion : List Event → Bool
-has_deletion events = list_any is_deletion events
-
--- whether one of them is a cut
+-- whether one of the events is a cut
 abbrev pub has_cut : List Event → Bool
 has_cut events = list_any is_cut events

@@ -15,4 +15,5 @@ pub mod Starting
 pub mod States
 pub mod StoreLaws
 pub mod Sweeps
+pub mod Terms
 pub mod Writing

@@ -16,8 +16,8 @@ use Rattle.store_folder.specs.declared.error.StartCause.TheVariants.{Refused}
 use Rattle.store_folder.specs.declared.error.StartError.{StartError}
 use Rattle.store_folder.specs.declared.error.StartError.TheVariants as errors
 use Rattle.store_folder.specs.Codes.{cause_of}
-use Rattle.store_folder.specs.Holding.{FoundSince, HoldsAt}
-use Rattle.store_folder.specs.Kinds.{has_cut, has_deletion}
+use Rattle.store_folder.specs.Holding.{FoundSince, HoldsLike}
+use Rattle.store_folder.specs.Kinds.{has_cut}
 use Rattle.store_folder.specs.States.{IsState, started}
 
 -- why a snapshot is not made of a head, its blocks and the events after it
@@ -39,22 +39,16 @@ pub record IsRefusedEvent (w : World) (events : List Event) (e : StartError) : T
 abbrev pub IsNoRefusal : StartError → Type 0
 IsNoRefusal e = cause_of e ≡ Refused → ⊥
 
--- blocks, and perhaps more behind them
-abbrev pub BeginsWith : List BlockPart → List BlockPart → Type 0
-BeginsWith front blocks = (more : List BlockPart) × (blocks ≡ front ++ more)
-
 -- A store goes on: these events since the first world make the snapshot, and they are held, after a
--- head that names these blocks at these places. Where none of them is a deletion, these are the
--- first blocks of the snapshot.
+-- head that names blocks like these at these places.
 pub record GoesOn {F : Type 0} (shows : F → List ℕ → Option (List ℕ) → Type 0)
     (kept : F → List ℕ → ℕ → Type 0) (sound : F → Bool) (moment : F → ℕ)
     (left_since : F → ℕ → Left → Type 0) (first : World) (m : JournalFile F) (len : ℕ)
-    (closed : Bool) (events : List Event) (places : List Place) (parts : List BlockPart)
+    (closed : Bool) (events : List Event) (places : List Place) (blocks : List BlockPart)
     (s : SnapshotParts) : Type 0 where
   pub world : replayed first events ≡ Ok (world_of s)
-  pub holds : HoldsAt shows kept sound moment left_since first m len closed events places parts
+  pub holds : HoldsLike shows kept sound moment left_since first m len closed events places blocks
   pub is_open : closed ≡ false
-  pub front : has_deletion events ≡ false → BeginsWith parts s.blocks
 
 -- whether it is worth saving what these events make, which stand in a journal of so many bytes:
 -- there are some, and one of them is a cut or the journal has more bytes than this

@@ -1,41 +1,36 @@
 //! The events of a store, kept in its folder.
 
-ghost use Rattle.head.specs.Worlds.{World};
-
-use data_folder::{Folder, JournalFile};
-use event_journal::EventJournal;
+use crate::checkpoint::kept_error;
+use crate::store_journal::{Beginning, StoreJournal};
+use crate::terms::RollTerms;
+use block::Block;
+use data_folder::Folder;
+use head::Snapshot;
+use head_record::BlockPlace;
 use keeper::{KeepError, Keeper, keep_error};
-use std::marker::{Brand, PhantomData};
-
-/// The world before all events of a store.
-pub trait Beginning {
-    /// This world.
-    ghost first: { World };
-}
-
-impl Beginning for Brand {
-    ghost use Rattle.std.specs.Prelude.{[]};
-    ghost use Rattle.head.specs.Blocks.{opening_of};
-    ghost use Rattle.head.specs.Heads.{world_of};
-
-    ghost first = { world_of (opening_of []) };
-}
+use std::alloc::Global;
 
 /// Keeps the events of a store in the journal of its folder, beside the blocks that the journal's
-/// head names.
+/// head names. When the journal has grown long, or the store has other blocks, it is begun anew.
 #[derive(Drop)]
 pub struct StoreKeeper<N: Beginning, F: Folder + Drop> {
     /// The journal.
-    pub events: EventJournal<JournalFile<F>>,
-    /// Whose first world it is.
-    pub of: PhantomData<N>,
+    pub store: StoreJournal<N, F>,
+    /// Where the blocks lie that the journal's head names.
+    pub places: Vec<BlockPlace>,
+    /// These blocks, in memory.
+    pub blocks: Vec<Block>,
+    /// When the journal is begun anew.
+    pub terms: RollTerms,
 }
 
 impl<N: Beginning, F: Folder + Drop> Keeper for StoreKeeper<N, F> {
-    ghost use Rattle.store_folder.specs.Holding.{FoundSince, HoldsStore, KeptLast};
-    ghost use Rattle.std.specs.Prelude.{◌<◌, ◌^◌, false};
+    ghost use Rattle.store_folder.specs.Holding.{FoundSince, HoldsOrLost, LastLike};
+    ghost use Rattle.std.specs.Prelude.{◌<◌, ◌^◌, false, length, map};
+    ghost use Rattle.head.specs.Blocks.{part_in};
+    ghost use Rattle.store_folder.specs.Terms.{are_met};
     ghost use Rattle.event_journal.specs.KeeperLaws.{not_idle};
-    ghost use Rattle.store_folder.specs.KeeperLaws.{now_found, settled_found};
+    ghost use Rattle.store_folder.specs.KeeperLaws.{as_store, now_found, settled_found};
 
     ghost first = { N.first };
 
@@ -43,47 +38,78 @@ impl<N: Beginning, F: Folder + Drop> Keeper for StoreKeeper<N, F> {
 
     ghost any = { λ idle k events. not_idle idle };
 
-    ghost holds = { λ k events. HoldsStore F.shows F.kept F.sound F.moment F.left_since N.first
-        k.events.journal.medium k.events.journal.len k.events.journal.closed events };
+    ghost holds = { λ k events. HoldsOrLost F.shows F.kept F.sound F.moment F.left_since N.first
+        k.store.events.journal.medium k.store.events.journal.len k.store.events.journal.closed
+        events k.places.items (map part_in k.blocks.items) };
 
-    ghost kept_last = { λ k events more. KeptLast F.shows F.kept F.sound F.moment F.left_since
-        N.first k.events.journal.medium k.events.journal.len k.events.journal.closed events more };
+    ghost kept_last = { λ k events more. LastLike F.shows F.kept F.sound F.moment F.left_since
+        N.first k.store.events.journal.medium k.store.events.journal.len
+        k.store.events.journal.closed events more k.places.items
+        (map part_in k.blocks.items) };
 
-    ghost closed = { λ k. k.events.journal.closed };
+    ghost closed = { λ k. k.store.events.journal.closed };
 
-    ghost failed = { λ k. F.failed k.events.journal.medium.folder };
+    ghost failed = { λ k. F.failed k.store.events.journal.medium.folder };
 
-    ghost full = { λ k. 2 ^ 62 < k.events.journal.len };
+    ghost full = { λ k. 2 ^ 62 < k.store.events.journal.len };
 
-    ghost moment = { λ k. F.moment k.events.journal.medium.folder };
+    ghost due = { λ k s. are_met k.terms k.store.events.journal.len (length s.blocks) };
 
-    ghost found_since = { λ k t w. FoundSince F.left_since k.events.journal.medium.folder t w };
+    ghost moment = { λ k. F.moment k.store.events.journal.medium.folder };
+
+    ghost found_since = { λ k t w.
+        FoundSince F.left_since k.store.events.journal.medium.folder t w };
 
     fn is_idle() -> bool {
         false
     }
 
     fn keep(&mut self, records: &[u8]) -> Result<(), KeepError> {
-        if self.events.journal.closed {
+        if self.store.events.journal.closed {
             return Err(KeepError::Closed);
         }
-        match self.events.append(records) {
+        match self.store.events.append(records) {
             Ok(()) => Ok(()),
             Err(error) => Err(keep_error(error)),
         }
     }
 
     fn close(&mut self) {
-        self.events.close();
+        self.store.events.close();
+    }
+
+    fn checkpoint(
+        &mut self,
+        alloc: Global,
+        snapshot: &Snapshot,
+    ) -> Result<Option<usize>, KeepError> {
+        if self.store.events.journal.closed {
+            return Ok(None);
+        }
+        let blocks = snapshot.blocks().len();
+        if !self.terms.are_met(self.store.len(), blocks) {
+            return Ok(None);
+        }
+        match self.roll(alloc, snapshot) {
+            Ok(count) => Ok(Some(count)),
+            Err(fault) => Err(kept_error(fault)),
+        }
     }
 
     ghost now = { λ k events w held had. now_found F.shows F.kept F.sound F.moment F.left_since
         (λ f name x n left shown kept since. F.only_now f name x n left shown kept since) N.first
-        k.events.journal.medium k.events.journal.len k.events.journal.closed events w held had };
+        k.store.events.journal.medium k.store.events.journal.len k.store.events.journal.closed
+        events w (as_store F.shows F.kept F.sound F.moment F.left_since
+        (λ f name x n left shown kept since. F.only_now f name x n left shown kept since) N.first
+        k.store.events.journal.medium k.store.events.journal.len k.store.events.journal.closed
+        events k.places.items (map part_in k.blocks.items) held) had };
 
     ghost settled = { λ k events w held opened had. settled_found F.shows F.kept F.sound F.moment
         F.left_since
         (λ f name x n left shown kept since. F.only_now f name x n left shown kept since) N.first
-        k.events.journal.medium k.events.journal.len k.events.journal.closed events w held opened
-        had };
+        k.store.events.journal.medium k.store.events.journal.len k.store.events.journal.closed
+        events w (as_store F.shows F.kept F.sound F.moment F.left_since
+        (λ f name x n left shown kept since. F.only_now f name x n left shown kept since) N.first
+        k.store.events.journal.medium k.store.events.journal.len k.store.events.journal.closed
+        events k.places.items (map part_in k.blocks.items) held) opened had };
 }

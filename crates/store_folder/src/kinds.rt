@@ -1,18 +1,9 @@
 //! Which kinds of events are among some.
 
 ghost use Rattle.std.specs.Prelude.{◌≡◌};
-ghost use Rattle.store_folder.specs.Kinds.{has_cut, has_deletion, is_cut, is_deletion};
+ghost use Rattle.store_folder.specs.Kinds.{has_cut, is_cut};
 
 use head::{Event, EventView};
-
-fn is_deletion(event: &Event) -> bool
-    ensures { result ≡ is_deletion event.now }
-{
-    match event.view() {
-        EventView::Deletion(_, _, _) => true,
-        EventView::Batch(_) | EventView::Cut(_) => false,
-    }
-}
 
 fn is_cut(event: &Event) -> bool
     ensures { result ≡ is_cut event.now }
@@ -21,18 +12,6 @@ fn is_cut(event: &Event) -> bool
         EventView::Cut(_) => true,
         EventView::Batch(_) | EventView::Deletion(_, _, _) => false,
     }
-}
-
-/// Whether one of these events is a deletion.
-pub fn has_deletion(events: &[Event]) -> bool
-    ensures { result ≡ has_deletion events.now }
-{
-    for event in events {
-        if is_deletion(event) {
-            return true;
-        }
-    }
-    false
 }
 
 /// Whether one of these events is a cut.

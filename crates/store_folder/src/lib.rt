@@ -3,9 +3,10 @@
 //! A store is one journal and the files of the blocks that its head names: `IsState`, in
 //! `specs/States.antt`. [`open_store`] gives what a folder has of one, and [`resume_store`] goes on
 //! with it; [`begin_store`] begins one. A [`StoreKeeper`] keeps the events of a running store there.
-//! [`StartedStore::roll`] writes the blocks that the folder has not, begins the journal anew with a
-//! head that names them ([`StoreKeeper::save`]), and removes what is no longer the store's
-//! ([`StoreKeeper::sweep_blocks`]).
+//! [`StoreKeeper::roll`] writes the blocks that the folder has not, begins the journal anew with a
+//! head that names them ([`StoreJournal::save`]), and removes what is no longer the store's
+//! ([`StoreJournal::sweep_blocks`]); it does so at a start and while the store runs, when
+//! [`RollTerms`] are met.
 //!
 //! [`read_journal`] gives the head and the events of a journal's file, or the first fault, `J1` to
 //! `J14`; [`read_blocks`] gives the blocks at places, and [`open_block`] the block that files
@@ -16,6 +17,7 @@
 #![tactic(auto)]
 
 mod blocks;
+mod checkpoint;
 mod codes;
 mod error;
 mod heads;
@@ -30,7 +32,9 @@ mod rolling;
 mod saving;
 mod started;
 mod starting;
+mod store_journal;
 mod sweeping;
+mod terms;
 mod writing;
 
 pub use blocks::{BlockBytes, open_block, read_blocks};
@@ -38,9 +42,11 @@ pub use error::{
     BlockFault, ReadError, RollFault, StartCause, StartError, UnreadBlock, WriteFault,
 };
 pub use journals::{FoundJournal, read_journal};
-pub use keeping::{Beginning, StoreKeeper};
-pub use kinds::{has_cut, has_deletion};
+pub use keeping::StoreKeeper;
+pub use kinds::has_cut;
 pub use laws::{one_world, rewritten_blocks};
 pub use plain::{begins_plain, read_plain};
 pub use reading::{FoundStore, open_store, read_store};
 pub use starting::{StartedStore, begin_store, resume_store};
+pub use store_journal::{Beginning, StoreJournal};
+pub use terms::RollTerms;

@@ -1,13 +1,13 @@
 //! Blocks that are no longer the store's.
 
-ghost use Rattle.std.specs.Prelude.{◌≡◌, List, false};
+ghost use Rattle.std.specs.Prelude.{◌≡◌, List, false, true};
 ghost use Rattle.head.specs.Heads.{BlockPart};
 ghost use Rattle.head.specs.Worlds.{Event as Change};
 ghost use Rattle.store_folder.specs.Holding.{HoldsAt, HoldsStore};
 ghost use Rattle.store_folder.specs.Starting.{StartFinds};
 
 use crate::error::BlockFault;
-use crate::keeping::{Beginning, StoreKeeper};
+use crate::store_journal::{Beginning, StoreJournal};
 use crate::sweeping::file_names;
 use data_folder::{Folder, NEXT, list_names, sweep};
 use head_record::BlockPlace;
@@ -59,7 +59,7 @@ fn litter_names(
     Ok(names)
 }
 
-impl<N: Beginning, F: Folder + Drop> StoreKeeper<N, F> {
+impl<N: Beginning, F: Folder + Drop> StoreJournal<N, F> {
     /// Removes what blocks at other places than these have left behind: the files of a block in
     /// each folder of `blocks` with the name of a number that none of the places has, and then this
     /// folder, unless something else stands in it; and a next journal beside the journal. The
@@ -95,7 +95,7 @@ impl<N: Beginning, F: Folder + Drop> StoreKeeper<N, F> {
         sweep_apart(alloc, &mut self.events.journal.medium.folder, places)
     }
 
-    /// Removes what a roll that failed has left behind, as [`StoreKeeper::sweep_blocks`] does, if
+    /// Removes what a roll that failed has left behind, as [`StoreJournal::sweep_blocks`] does, if
     /// the journal goes on.
     pub(crate) fn sweep_after(&mut self, alloc: Global, places: &[BlockPlace])
         requires { self.old.events.journal.closed ≡ false → (events : List Change)
@@ -103,6 +103,15 @@ impl<N: Beginning, F: Folder + Drop> StoreKeeper<N, F> {
             N.first self.old.events.journal.medium self.old.events.journal.len
             self.old.events.journal.closed events places.now parts }
         ensures closed { self.new.events.journal.closed ≡ self.old.events.journal.closed }
+        ensures rests { self.old.events.journal.closed ≡ true → self.new ≡ self.old }
+        ensures at { self.old.events.journal.closed ≡ false → (events : List Change)
+            → (parts : List BlockPart)
+            → HoldsAt F.shows F.kept F.sound F.moment F.left_since N.first
+            self.old.events.journal.medium self.old.events.journal.len
+            self.old.events.journal.closed events places.now parts
+            → HoldsAt F.shows F.kept F.sound F.moment F.left_since N.first
+            self.new.events.journal.medium self.new.events.journal.len
+            self.new.events.journal.closed events places.now parts }
         // What was held is held.
         ensures held { (events : List Change) (parts : List BlockPart)
             → (self.old.events.journal.closed ≡ false

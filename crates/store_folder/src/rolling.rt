@@ -1,6 +1,6 @@
 //! A journal that begins with a new head.
 
-ghost use Rattle.std.specs.Prelude.{◌≡◌, List, [], false, true, Err, IfErr, OnErr, OnOk, length};
+ghost use Rattle.std.specs.Prelude.{◌≡◌, ◌⊎◌, List, [], false, true, Err, IfErr, OnErr, OnOk, length};
 ghost use Rattle.event_journal.specs.Holding.{contents_with};
 ghost use Rattle.head.specs.Heads.{BlockPart};
 ghost use Rattle.head.specs.Worlds.{Event as Change};
@@ -13,12 +13,12 @@ ghost use Rattle.store_folder.specs.Starting.{StartFinds};
 
 use crate::error::RollFault;
 use crate::heads::head_journal;
-use crate::keeping::{Beginning, StoreKeeper};
+use crate::store_journal::{Beginning, StoreJournal};
 use data_folder::{Folder, RollError, roll};
 use head_record::HeadRecord;
 use std::alloc::Global;
 
-impl<N: Beginning, F: Folder + Drop> StoreKeeper<N, F> {
+impl<N: Beginning, F: Folder + Drop> StoreJournal<N, F> {
     /// Begins the journal anew with this head, which says the world of all events so far. The files
     /// of its blocks lie in the folder. No event may be kept meanwhile.
     ///
@@ -68,6 +68,10 @@ impl<N: Beginning, F: Folder + Drop> StoreKeeper<N, F> {
             ≡ length (file_of (contents_with (head_texts head.now) []))) }
         ensures goes_on { IfErr result (λ e. (e ≡ RollFault.Folder RollError.Lost → ⊥)
             → self.old.events.journal.closed ≡ false → self.new.events.journal.closed ≡ false) }
+        // It is closed for no cause but that writing failed.
+        ensures lost { self.new.events.journal.closed ≡ true
+            → (self.old.events.journal.closed ≡ true)
+            ⊎ (F.failed self.new.events.journal.medium.folder ≡ true) }
         ensures closed { self.old.events.journal.closed ≡ true
             → (result ≡ Err (RollFault.Folder RollError.Closed)) × (self.new ≡ self.old) }
     {

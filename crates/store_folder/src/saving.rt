@@ -1,6 +1,6 @@
 //! A snapshot that is saved in the place of the events that made it.
 
-ghost use Rattle.std.specs.Prelude.{◌≡◌, ◌≤◌, ◌-◌, ◌++◌, List, Err, false, true, drop, length};
+ghost use Rattle.std.specs.Prelude.{◌≡◌, ◌⊎◌, ◌≤◌, ◌-◌, ◌++◌, List, Err, false, true, drop, length};
 ghost use Rattle.std.specs.Prelude.{[], IfErr, IfOk, OnErr, OnOk, take};
 ghost use Rattle.data_folder.specs.Sweeping.{KeepsStore};
 ghost use Rattle.event_journal.specs.Holding.{contents_with};
@@ -16,7 +16,7 @@ ghost use Rattle.store_folder.specs.Sweeps.{names_at};
 ghost use Rattle.store_folder.specs.Writing.{AreLike, AreRewritten, places_from};
 
 use crate::error::RollFault;
-use crate::keeping::{Beginning, StoreKeeper};
+use crate::store_journal::{Beginning, StoreJournal};
 use crate::sweeping::file_names;
 use crate::writing::write_blocks;
 use data_folder::{Folder, RollError};
@@ -78,20 +78,13 @@ fn write_saved<F: Folder>(
     Ok(HeadRecord::new(snapshot.floor(), places, series))
 }
 
-impl<N: Beginning, F: Folder + Drop> StoreKeeper<N, F> {
-    /// How many bytes the journal has: it may be begun anew when they are many.
-    pub fn journal_len(&self) -> usize
-        ensures { result ≡ self.now.events.journal.len }
-    {
-        self.events.journal.len
-    }
-
+impl<N: Beginning, F: Folder + Drop> StoreJournal<N, F> {
     /// Saves a snapshot of the world of all events so far, and begins the journal anew with it. The
     /// blocks that the journal's head names lie at the held places; the first `same` of them are
     /// the snapshot's, and the snapshot's other blocks are written anew, in folders of the numbers
     /// from `next` on, of which none is in use. No event may be kept meanwhile. The places of the
     /// snapshot's blocks, which the head then names; what is at others is litter
-    /// ([`StoreKeeper::sweep_blocks`]).
+    /// ([`StoreJournal::sweep_blocks`]).
     ///
     /// Where it fails the journal goes on as it was, unless the fault is `Folder(Lost)`: then it is
     /// closed.
@@ -150,6 +143,10 @@ impl<N: Beginning, F: Folder + Drop> StoreKeeper<N, F> {
             ≡ length (file_of (contents_with (head_texts (save snapshot.now places.items)) []))) }
         ensures goes_on { IfErr result (λ e. (e ≡ RollFault.Folder RollError.Lost → ⊥)
             → self.old.events.journal.closed ≡ false → self.new.events.journal.closed ≡ false) }
+        // It is closed for no cause but that writing failed.
+        ensures lost { self.new.events.journal.closed ≡ true
+            → (self.old.events.journal.closed ≡ true)
+            ⊎ (F.failed self.new.events.journal.medium.folder ≡ true) }
         ensures closed { self.old.events.journal.closed ≡ true
             → (result ≡ Err (RollFault.Folder RollError.Closed)) × (self.new ≡ self.old) }
     {

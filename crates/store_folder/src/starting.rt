@@ -1,7 +1,7 @@
 //! How a store goes on, and how one begins.
 
 ghost use Rattle.std.specs.Prelude.{◌≡◌, ◌⊎◌, List, [], None, Ok, IfOk, IfErr, MatchResult};
-ghost use Rattle.std.specs.Prelude.{false, map, true};
+ghost use Rattle.std.specs.Prelude.{false, length, map, true};
 ghost use Rattle.data_folder.specs.Folders.{LeavesOnly};
 ghost use Rattle.data_folder.specs.JournalFile.{journal_name};
 ghost use Rattle.head.specs.Blocks.{opening_of, part_in};
@@ -11,25 +11,28 @@ ghost use Rattle.journal.specs.declared.error.JournalError.TheVariants.{Memory a
 ghost use Rattle.store_folder.specs.Codes.{cause_of};
 ghost use Rattle.store_folder.specs.Finding.{IsFoundStore};
 ghost use Rattle.store_folder.specs.Holding.{HoldsAt, HoldsStore};
-ghost use Rattle.store_folder.specs.Kinds.{has_deletion};
-ghost use Rattle.store_folder.specs.Starting.{BeginsWith, DeniesStart, GoesOn};
+ghost use Rattle.store_folder.specs.Starting.{DeniesStart, GoesOn};
 ghost use Rattle.store_folder.specs.Starting.{IsNoneOrNothing, IsNoRefusal, IsRefusedEvent};
 ghost use Rattle.store_folder.specs.Starting.{StartFinds, nothing_saved};
 ghost use Rattle.store_folder.specs.Refusals.{IsRefusal};
 ghost use Rattle.store_folder.specs.States.{HasWorld, started};
+ghost use Rattle.store_folder.specs.Terms.{begun_len};
 ghost use Rattle.store_folder.specs.declared.error.ReadError.TheVariants.{Journal as Records};
 ghost use Rattle.store_folder.specs.declared.error.StartCause.TheVariants.{Refused};
 ghost use Rattle.store_folder.specs.declared.error.StartError.TheVariants.{Journal};
 
+use crate::checkpoint::share_blocks;
 use crate::error::{ReadError, StartError};
 use crate::heads::head_journal;
 use crate::journals::FoundJournal;
-use crate::keeping::{Beginning, StoreKeeper};
+use crate::keeping::StoreKeeper;
 use crate::reading::FoundStore;
+use crate::store_journal::{Beginning, StoreJournal};
+use crate::terms::RollTerms;
 use block::Block;
 use data_folder::{Folder, JournalFile, begin};
 use event_journal::EventJournal;
-use head::{Event, RefusedEvent, Snapshot, apply};
+use head::{Event, RefusedEvent, ResumeError, Snapshot, apply};
 use head_record::HeadRecord;
 use journal::{JournalError, MediumError};
 use labels::MIN_TIME;
@@ -47,12 +50,9 @@ pub struct StartedStore<N: Beginning, F: Folder + Drop> {
     pub journal: FoundJournal,
 }
 
-/// The snapshot after events, as `head::replay` gives it. Where none of them is a deletion, its
-/// first blocks are those of the snapshot before.
+/// The snapshot after events, as `head::replay` gives it.
 fn after_events(alloc: Global, snapshot: Snapshot, events: &[Event]) -> Result<Snapshot, StartError>
     ensures ok { IfOk result (λ s. replayed (world_of snapshot) events.now ≡ Ok (world_of s)) }
-    ensures front { IfOk result (λ s. has_deletion events.now ≡ false
-        → BeginsWith snapshot.blocks s.blocks) }
     ensures refused { IfErr result (λ e. IsRefusedEvent (world_of snapshot) events.now e) }
 {
     let mut at = snapshot;
@@ -73,14 +73,24 @@ fn snapshot_of(
 ) -> Result<Snapshot, StartError>
     ensures world { IfOk result (λ s. HasWorld journal.now.head (map part_in blocks.items)
         journal.now.events.items (world_of s)) }
-    ensures front { IfOk result (λ s. has_deletion journal.now.events.items ≡ false
-        → BeginsWith (map part_in blocks.items) s.blocks) }
     ensures refused { IfErr result (λ e. DeniesStart journal.now.head (map part_in blocks.items)
         journal.now.events.items e) }
 {
     match Snapshot::resumed(alloc, blocks, journal.head.floor(), journal.head.series()) {
         Ok(snapshot) => after_events(alloc, snapshot, &journal.events),
         Err(error) => Err(StartError::Head(error)),
+    }
+}
+
+/// How many bytes a journal that was found had when it was begun: all of them if it has no event;
+/// else that is not known, and 0.
+fn begun_len(journal: &FoundJournal) -> usize
+    ensures { result ≡ begun_len journal.now.events.items journal.now.len }
+{
+    if journal.events.is_empty() {
+        journal.len
+    } else {
+        0
     }
 }
 
@@ -98,10 +108,10 @@ pub(crate) fn nothing(alloc: Global) -> HeadRecord
     HeadRecord::new(MIN_TIME, Vec::new(alloc), Vec::new(alloc))
 }
 
-impl<N: Beginning, F: Folder + Drop> StoreKeeper<N, F> {
+impl<N: Beginning, F: Folder + Drop> StoreJournal<N, F> {
     /// Begins the journal of a folder that has none: no blocks, no series, and no events. An `Err`
     /// gives the folder back: a start finds no journal in it, or this one.
-    pub fn create(alloc: Global, folder: F) -> Result<StoreKeeper<N, F>, (StartError, F)>
+    pub fn create(alloc: Global, folder: F) -> Result<StoreJournal<N, F>, (StartError, F)>
         requires sound { F.sound folder ≡ true }
         requires none { F.shows folder journal_name None × F.kept folder journal_name 0 }
         requires first { N.first ≡ world_of (opening_of []) }
@@ -122,7 +132,7 @@ impl<N: Beginning, F: Folder + Drop> StoreKeeper<N, F> {
             Err(_) => return Err((no_memory(), folder)),
         };
         match begin(folder, &text) {
-            Ok(journal) => Ok(StoreKeeper {
+            Ok(journal) => Ok(StoreJournal {
                 events: EventJournal { journal },
                 of: PhantomData,
             }),
@@ -132,7 +142,7 @@ impl<N: Beginning, F: Folder + Drop> StoreKeeper<N, F> {
 
     /// Goes on after the events of a journal, whose torn end is cut off. An `Err` gives the folder
     /// back where that fails.
-    fn resume(folder: F, journal: &FoundJournal) -> Result<StoreKeeper<N, F>, (MediumError, F)>
+    fn resume(folder: F, journal: &FoundJournal) -> Result<StoreJournal<N, F>, (MediumError, F)>
         requires found { (parts : List BlockPart)
             × IsFoundStore F.shows F.kept journal.now parts folder }
         requires sound { F.sound folder ≡ true }
@@ -152,7 +162,7 @@ impl<N: Beginning, F: Folder + Drop> StoreKeeper<N, F> {
             journal.now.events.items) }
     {
         match EventJournal::resume(JournalFile { folder }, journal.len) {
-            Ok(events) => Ok(StoreKeeper {
+            Ok(events) => Ok(StoreJournal {
                 events,
                 of: PhantomData,
             }),
@@ -161,19 +171,23 @@ impl<N: Beginning, F: Folder + Drop> StoreKeeper<N, F> {
     }
 }
 
-/// Begins the store of a folder that has none. An `Err` gives the folder back.
+/// Begins the store of a folder that has none; its journal is begun anew after so many bytes. An
+/// `Err` gives the folder back.
 pub fn begin_store<N: Beginning, F: Folder + Drop>(
     alloc: Global,
     folder: F,
+    most: u64,
 ) -> Result<StartedStore<N, F>, (StartError, F)>
     requires sound { F.sound folder ≡ true }
     requires none { F.shows folder journal_name None × F.kept folder journal_name 0 }
     // The world before all events is that of a store that has nothing.
     requires first { N.first ≡ world_of (opening_of []) }
     ensures begun { IfOk result (λ x. GoesOn F.shows F.kept F.sound F.moment F.left_since
-        N.first x.keeper.events.journal.medium x.keeper.events.journal.len
-        x.keeper.events.journal.closed x.journal.events.items x.journal.head.places []
-        x.snapshot) }
+        N.first x.keeper.store.events.journal.medium x.keeper.store.events.journal.len
+        x.keeper.store.events.journal.closed x.journal.events.items x.keeper.places.items
+        (map part_in x.keeper.blocks.items) x.snapshot) }
+    ensures terms { IfOk result (λ x.
+        x.keeper.terms ≡ record { most = most; len = 0; blocks = 0 }) }
     ensures events { IfOk result (λ x. x.journal.events.items ≡ []) }
     ensures refused { IfErr result (λ e. IsNoRefusal e.0) }
 {
@@ -181,13 +195,19 @@ pub fn begin_store<N: Beginning, F: Folder + Drop>(
         Ok(snapshot) => snapshot,
         Err(_) => return Err((no_memory(), folder)),
     };
-    match StoreKeeper::create(alloc, folder) {
-        Ok(keeper) => {
+    match StoreJournal::create(alloc, folder) {
+        Ok(store) => {
             let journal = FoundJournal {
                 head: nothing(alloc),
                 events: Vec::new(alloc),
-                len: keeper.journal_len(),
+                len: store.len(),
                 torn: 0,
+            };
+            let keeper = StoreKeeper {
+                store,
+                places: Vec::new(alloc),
+                blocks: Vec::new(alloc),
+                terms: RollTerms::new(most, 0, 0),
             };
             Ok(StartedStore {
                 snapshot,
@@ -202,11 +222,12 @@ pub fn begin_store<N: Beginning, F: Folder + Drop>(
 /// Goes on with the store that a folder has: its snapshot, and what keeps the events to come. The
 /// torn end of the journal is cut off, after all else was accepted; nothing else in the folder
 /// changes. `J17` if no snapshot has what the head and the blocks say, `J18` if an event is
-/// refused. An `Err` gives the folder back.
+/// refused. The journal is begun anew after so many bytes. An `Err` gives the folder back.
 pub fn resume_store<N: Beginning, F: Folder + Drop>(
     alloc: Global,
     folder: F,
     found: FoundStore,
+    most: u64,
 ) -> Result<StartedStore<N, F>, (StartError, F)>
     requires sound { F.sound folder ≡ true }
     requires found { IsFoundStore F.shows F.kept found.journal (map part_in found.blocks.items)
@@ -218,28 +239,45 @@ pub fn resume_store<N: Beginning, F: Folder + Drop>(
     // and they are held.
     ensures journal { IfOk result (λ x. x.journal ≡ found.journal) }
     ensures resumed { IfOk result (λ x. GoesOn F.shows F.kept F.sound F.moment F.left_since
-        N.first x.keeper.events.journal.medium x.keeper.events.journal.len
-        x.keeper.events.journal.closed x.journal.events.items x.journal.head.places
-        (map part_in found.blocks.items) x.snapshot) }
+        N.first x.keeper.store.events.journal.medium x.keeper.store.events.journal.len
+        x.keeper.store.events.journal.closed x.journal.events.items x.keeper.places.items
+        (map part_in x.keeper.blocks.items) x.snapshot) }
+    ensures terms { IfOk result (λ x. x.keeper.terms ≡ record {
+      most = most;
+      len = begun_len found.journal.events.items found.journal.len;
+      blocks = length found.blocks.items;
+    }) }
     ensures refused { IfErr result (λ e. (e.0 ≡ StartError.Medium)
         ⊎ DeniesStart found.journal.head (map part_in found.blocks.items)
         found.journal.events.items e.0) }
     ensures told { IfErr result (λ e. cause_of e.0 ≡ Refused → IsRefusal e.0) }
     // After a crash at any moment of the call, a start finds the same world.
     ensures any_moment { MatchResult result
-        (λ x. StartFinds F.moment F.left_since folder x.keeper.events.journal.medium.folder
-        N.first found.journal.events.items)
+        (λ x. StartFinds F.moment F.left_since folder
+        x.keeper.store.events.journal.medium.folder N.first found.journal.events.items)
         (λ e. StartFinds F.moment F.left_since folder e.1 N.first found.journal.events.items) }
 {
     let FoundStore { journal, blocks } = found;
+    let terms = RollTerms::new(most, begun_len(&journal), blocks.len());
+    let Ok(shares) = share_blocks(alloc, &blocks) else {
+        return Err((StartError::Head(ResumeError::Memory), folder));
+    };
+    let Ok(places) = Vec::from_slice(alloc, journal.head.places()) else {
+        return Err((StartError::Head(ResumeError::Memory), folder));
+    };
     let snapshot = match snapshot_of(alloc, &journal, blocks) {
         Ok(snapshot) => snapshot,
         Err(error) => return Err((error, folder)),
     };
-    match StoreKeeper::resume(folder, &journal) {
-        Ok(keeper) => Ok(StartedStore {
+    match StoreJournal::resume(folder, &journal) {
+        Ok(store) => Ok(StartedStore {
             snapshot,
-            keeper,
+            keeper: StoreKeeper {
+                store,
+                places,
+                blocks: shares,
+                terms,
+            },
             journal,
         }),
         Err((_, folder)) => Err((StartError::Medium, folder)),

@@ -3,29 +3,18 @@ use Rattle.std.proofs.lemmas.List.{take_all}
 use Rattle.head.specs.Heads.{world_of}
 use Rattle.head.specs.Worlds.{replayed}
 use Rattle.head.proofs.Replays.{replayed_more, refuses_at}
-use Rattle.store_folder.specs.Kinds.{has_deletion}
-use Rattle.store_folder.proofs.Fronts.{all_in_front, next_in_front}
 use Rattle.store_folder.proofs.starting.after_events.Goals as goal
 
 pub loop-place-init : goal.loop-place-init
-loop-place-init c = record {
-  world = refl;
-  front = λ none. all_in_front c.args.snapshot.blocks;
-}
+loop-place-init c = refl
 
 pub loop-place-preserved : goal.loop-place-preserved
 loop-place-preserved c =
     let l = c.loop-place in
     let events = c.args.events.now in
     let within : l.place < length events = omega (arith, c.loop-place-test.true) in
-    record {
-      world = replayed_more (world_of c.args.snapshot) (world_of l.at) (world_of c.in-Ok.next)
-          events l.place c.index-events-place.result within c.index-events-place.is
-          l.invariant.world c.in-Ok.ensures.ok;
-      front = λ none. next_in_front events l.place c.index-events-place.result
-          c.args.snapshot.blocks l.at c.in-Ok.next.blocks within c.index-events-place.is
-          l.invariant.front c.in-Ok.ensures.kept none;
-    }
+    replayed_more (world_of c.args.snapshot) (world_of l.at) (world_of c.in-Ok.next) events l.place
+    c.index-events-place.result within c.index-events-place.is l.invariant c.in-Ok.ensures.ok
 
 pub returns-in-Err-clause-refused : goal.returns-in-Err-clause-refused
 returns-in-Err-clause-refused c =
@@ -35,7 +24,7 @@ returns-in-Err-clause-refused c =
       is = refl;
       there = refuses_at (world_of c.args.snapshot) (world_of l.at) c.args.events.now l.place
           c.index-events-place.result c.in-Err.error (omega (arith, c.loop-place-test.true))
-          c.index-events-place.is l.invariant.world c.in-Err.ensures.refused;
+          c.index-events-place.is l.invariant c.in-Err.ensures.refused;
     }
 
 pub returns-clause-ok : goal.returns-clause-ok
@@ -43,11 +32,4 @@ returns-clause-ok c =
     let l = c.loop-place in
     ap (replayed (world_of c.args.snapshot))
     (sym (take_all l.place c.args.events.now (omega (arith, c.loop-place-test.false))))
-    ∙ l.invariant.world
-
-pub returns-clause-front : goal.returns-clause-front
-returns-clause-front c none =
-    let l = c.loop-place in
-    l.invariant.front
-    (ap has_deletion
-    (take_all l.place c.args.events.now (omega (arith, c.loop-place-test.false))) ∙ none)
+    ∙ l.invariant

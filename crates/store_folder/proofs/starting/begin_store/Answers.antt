@@ -1,14 +1,17 @@
-use Rattle.std.proofs.Common.{◌≡◌, [], rules}
-use Rattle.head.specs.Blocks.{opening_of}
+use Rattle.std.proofs.Common.{◌≡◌, List, [], ap, map, rules}
+use Rattle.block.specs.Blocks.{Shown}
+use Rattle.head.specs.Blocks.{opening_of, part_in}
 use Rattle.store_folder.proofs.Starts.{begun_goes_on}
 use Rattle.store_folder.proofs.starting.begin_store.Goals as goal
 
 pub returns-in-Ok-create-clause-begun : goal.returns-in-Ok-create-clause-begun
 returns-in-Ok-create-clause-begun g c =
     let f = g.F.Folder in
-    let j = c.in-Ok-create.keeper.events.journal in
+    let j = c.in-Ok-create.store.events.journal in
     let opened : c.in-Ok.snapshot ≡ opening_of [] = search rules in
     begun_goes_on f.shows f.kept f.sound f.moment f.left_since g.met.F.Folder.only_now
-    g.met.F.Folder.earlier g.N.Beginning.first j.medium j.len j.closed c.new-in-Ok-create.result.items
-    c.nothing.result c.in-Ok.snapshot c.requires.first opened c.new-in-Ok-create.ensures.items
-    c.nothing.ensures c.in-Ok-create.ensures.open c.in-Ok-create.ensures.places
+    g.met.F.Folder.earlier g.N.Beginning.first j.medium j.len j.closed _ _ _ c.in-Ok.snapshot
+    c.requires.first opened c.new-in-Ok-create.ensures.items
+    c.new-in-Ok-create-2.ensures.items
+    (ap (λ (bs : List Shown). map part_in bs) c.new-in-Ok-create-3.ensures.items)
+    c.in-Ok-create.ensures.open c.in-Ok-create.ensures.places

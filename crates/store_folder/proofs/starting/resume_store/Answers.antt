@@ -1,9 +1,11 @@
-use Rattle.std.proofs.Common.{◌≡◌, inl, inr, map, refl, subst, sym}
+use Rattle.std.proofs.Common.{◌≡◌, ◌∙◌, List, ap, inl, inr, map, refl, subst, sym}
+use Rattle.block.specs.Blocks.{Shown}
 use Rattle.std.specs.Prelude.{Ok}
 use Rattle.head.specs.Blocks.{part_in}
 use Rattle.head.specs.Heads.{world_of}
 use Rattle.head.specs.Worlds.{World, replayed}
 use Rattle.store_folder.proofs.Refusals.{found_refused, no_refusal}
+use Rattle.store_folder.proofs.Fronts.{resumed_like}
 use Rattle.store_folder.proofs.Starts.{stays_found}
 use Rattle.store_folder.proofs.starting.resume_store.Goals as goal
 
@@ -11,15 +13,22 @@ pub resume-requires-clause-found : goal.resume-requires-clause-found
 resume-requires-clause-found g c = (map part_in c.args.found.blocks.items, c.requires.found)
 
 pub returns-in-Ok-resume-clause-resumed : goal.returns-in-Ok-resume-clause-resumed
-returns-in-Ok-resume-clause-resumed g c = record {
-  world = subst (λ (w : World).
-      replayed w c.args.found.journal.events.items ≡ Ok (world_of c.in-Ok.snapshot))
-      (sym c.requires.first) c.in-Ok.ensures.world;
-  holds = c.in-Ok-resume.ensures.holds (map part_in c.args.found.blocks.items) c.requires.found
-      c.requires.first;
-  is_open = c.in-Ok-resume.ensures.open;
-  front = c.in-Ok.ensures.front;
-}
+returns-in-Ok-resume-clause-resumed g c =
+    let f = g.F.Folder in
+    let parts = map part_in c.args.found.blocks.items in
+    let j = c.in-Ok-resume.store.events.journal in
+    record {
+      world = subst (λ (w : World).
+          replayed w c.args.found.journal.events.items ≡ Ok (world_of c.in-Ok-snapshot_of.snapshot))
+          (sym c.requires.first) c.in-Ok-snapshot_of.ensures.world;
+      holds = resumed_like f.shows f.kept f.sound f.moment f.left_since g.N.Beginning.first
+          j.medium j.len j.closed c.args.found.journal.events.items
+          c.args.found.journal.head.places parts _ _
+          (c.in-Ok-from_slice.ensures.items ∙ c.places.ensures)
+          (c.in-Ok.ensures ∙ ap (λ (bs : List Shown). map part_in bs) c.deref.ensures.value)
+          (c.in-Ok-resume.ensures.holds parts c.requires.found c.requires.first);
+      is_open = c.in-Ok-resume.ensures.open;
+    }
 
 pub returns-in-Ok-resume-clause-any_moment : goal.returns-in-Ok-resume-clause-any_moment
 returns-in-Ok-resume-clause-any_moment g c =
@@ -52,3 +61,19 @@ pub returns-in-Err-resume-clause-any_moment : goal.returns-in-Err-resume-clause-
 returns-in-Err-resume-clause-any_moment g c =
     c.in-Err-resume.ensures.any_moment (map part_in c.args.found.blocks.items) c.requires.found
     c.requires.first
+
+-- no memory was left
+
+pub returns-in_default-clause-any_moment : goal.returns-in_default-clause-any_moment
+returns-in_default-clause-any_moment g c =
+    let f = g.F.Folder in
+    stays_found f.shows f.kept f.sound f.moment f.left_since g.met.F.Folder.only_now
+    g.N.Beginning.first c.args.folder c.args.found.journal (map part_in c.args.found.blocks.items)
+    c.requires.found c.requires.first
+
+pub returns-in_default-from_slice-clause-any_moment : goal.returns-in_default-from_slice-clause-any_moment
+returns-in_default-from_slice-clause-any_moment g c =
+    let f = g.F.Folder in
+    stays_found f.shows f.kept f.sound f.moment f.left_since g.met.F.Folder.only_now
+    g.N.Beginning.first c.args.folder c.args.found.journal (map part_in c.args.found.blocks.items)
+    c.requires.found c.requires.first

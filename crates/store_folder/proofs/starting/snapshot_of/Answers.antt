@@ -1,6 +1,6 @@
 use Rattle.std.proofs.Common.{map, rules}
 use Rattle.head.specs.Blocks.{part_in}
-use Rattle.store_folder.proofs.Starts.{denied, does_not_go_on, goes_on, goes_on_in_front}
+use Rattle.store_folder.proofs.Starts.{denied, does_not_go_on, goes_on}
 use Rattle.store_folder.proofs.starting.snapshot_of.Goals as goal
 
 pub returns-in-Ok-clause-world : goal.returns-in-Ok-clause-world
@@ -19,9 +19,3 @@ pub returns-in-Err-clause-refused : goal.returns-in-Err-clause-refused
 returns-in-Err-clause-refused c =
     denied c.args.journal.now.head (map part_in c.args.blocks.items) _ _ c.in-Err.error
     c.in-Err.ensures.refused (search rules) c.series.ensures
-
-pub returns-in-Ok-clause-front : goal.returns-in-Ok-clause-front
-returns-in-Ok-clause-front c =
-    goes_on_in_front c.args.journal.now.head (map part_in c.args.blocks.items) _ _
-    c.args.journal.now.events.items _ c.in-Ok.snapshot c.after_events.result c.in-Ok.ensures.made
-    (search rules) c.series.ensures c.deref.ensures.value c.after_events.ensures.front

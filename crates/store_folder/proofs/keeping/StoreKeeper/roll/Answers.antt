@@ -1,170 +1,189 @@
-use Rattle.std.proofs.Common.{◌≡◌, true, false, [], inl, subst, sym, ◌∙◌}
-use Rattle.event_journal.specs.Holding.{contents_with}
-use Rattle.head_record.specs.Spelling.{head_texts}
-use Rattle.journal.specs.Group.{IsJournalText}
-use Rattle.store_folder.specs.KeeperLaws.{open_head}
-use Rattle.store_folder.proofs.Rolls.{apart_both, files_of_both, goes_on, keeps_now, not_rolled}
-use Rattle.store_folder.proofs.Rolls.{roll_finds}
-use Rattle.store_folder.proofs.Rolls.{rolled, same_head, stays_so, there_both}
+use Rattle.std.proofs.Common.{List, ap, inl, map, refl, sym, ◌∙◌}
+use Rattle.block.specs.Blocks.{Shown}
+use Rattle.head.specs.Blocks.{part_in}
+use Rattle.store_folder.specs.KeeperLaws.{as_store}
+use Rattle.store_folder.proofs.Fronts.{failed_like, may_save, open_like, saved_like}
+use Rattle.store_folder.proofs.Rolls.{finds_on, stays_so}
 use Rattle.store_folder.proofs.keeping.StoreKeeper.roll.Goals as goal
 
-pub roll-requires-clause-kept : goal.roll-requires-clause-kept
-roll-requires-clause-kept g c opened =
+pub save-requires : goal.save-requires
+save-requires g c opened =
     let f = g.F.Folder in
     let met = g.met.F.Folder in
-    let old = c.args.self.now.events.journal in
-    let r = c.requires in
-    let h =
-    open_head f.shows f.kept f.sound f.moment f.left_since met.only_now g.N.Beginning.first old.medium
-    old.len old.closed r.0 r.2.holds c.if-self.false in (
-      contents_with (head_texts h.saved) h.late,
-      keeps_now f.shows f.kept f.sound f.moment f.left_since met.only_now met.earlier
-          g.N.Beginning.first old.medium old.len old.closed r.0 h c.if-self.false,
-    )
+    let self = c.args.self.now in
+    let j = self.store.events.journal in
+    let first = g.N.Beginning.first in
+    let blocks = map part_in self.blocks.items in
+    let events = c.requires.0 in
+    let held = c.requires.1 in
+    let world = c.requires.2 in
+    let like = open_like f.shows f.kept f.sound f.moment f.left_since first j.medium j.len j.closed
+    events self.places.items blocks held c.if-self.false in
+    let may = may_save f.shows f.kept f.sound f.moment f.left_since first j.medium j.len j.closed
+    events self.places.items c.deref-3.result.now blocks (map part_in c.blocks-3.result.now)
+    (map part_in c.deref.result.now) c.args.snapshot.now c.same_blocks-same.result like world
+    c.deref-3.ensures.value c.blocks-3.ensures
+    (ap (λ (bs : List Shown). map part_in bs) c.deref.ensures.value) c.same_blocks-same.ensures.few
+    c.same_blocks-same.ensures.same in
+    (events, like.0.parts, may)
 
-pub roll-requires-clause-whole : goal.roll-requires-clause-whole
-roll-requires-clause-whole g c =
-    let new = contents_with (head_texts c.args.head.now) [] in
-    (new, subst (IsJournalText new) (sym c.deref.ensures.value) c.in-Ok.ensures.text)
-
-pub returns-in-Ok-roll-clause-places : goal.returns-in-Ok-roll-clause-places
-returns-in-Ok-roll-clause-places g c events parts m =
+pub sweep_blocks-requires-clause-held : goal.sweep_blocks-requires-clause-held
+sweep_blocks-requires-clause-held g c =
     let f = g.F.Folder in
     let met = g.met.F.Folder in
-    let old = c.args.self.now.events.journal in
-    let made = c.roll.new.journal in
-    let new = contents_with (head_texts c.args.head.now) [] in
-    rolled f.shows f.kept f.sound f.moment f.left_since met.only_now met.earlier
-    g.N.Beginning.first old.medium made.medium old.len made.len old.closed made.closed
-    c.args.head.now parts events m c.in-Ok.ensures.saved
-    (c.in-Ok-roll.ensures.ok new
-    (subst (IsJournalText new) (sym c.deref.ensures.value) c.in-Ok.ensures.text))
-    c.in-Ok-roll.ensures.files
+    let self = c.args.self.now in
+    let j = self.store.events.journal in
+    let first = g.N.Beginning.first in
+    let blocks = map part_in self.blocks.items in
+    let events = c.requires.0 in
+    let held = c.requires.1 in
+    let world = c.requires.2 in
+    let like = open_like f.shows f.kept f.sound f.moment f.left_since first j.medium j.len j.closed
+    events self.places.items blocks held c.if-self.false in
+    let may = may_save f.shows f.kept f.sound f.moment f.left_since first j.medium j.len j.closed
+    events self.places.items c.deref-3.result.now blocks (map part_in c.blocks-3.result.now)
+    (map part_in c.deref.result.now) c.args.snapshot.now c.same_blocks-same.result like world
+    c.deref-3.ensures.value c.blocks-3.ensures
+    (ap (λ (bs : List Shown). map part_in bs) c.deref.ensures.value) c.same_blocks-same.ensures.few
+    c.same_blocks-same.ensures.same in
+    let placed = c.in-Ok-save.ensures.places events like.0.parts may in
+    let at = placed.2 in
+    (events, placed.0, (at.0, at.1 ∙ sym c.deref-in-Ok-save.ensures.value, at.2))
 
-pub returns-in-Ok-roll-clause-len : goal.returns-in-Ok-roll-clause-len
-returns-in-Ok-roll-clause-len g c =
-    let new = contents_with (head_texts c.args.head.now) [] in
-    let k =
-    c.in-Ok-roll.ensures.ok new
-    (subst (IsJournalText new) (sym c.deref.ensures.value) c.in-Ok.ensures.text) in
-    k.counted
-
-pub returns-clause-goes_on : goal.returns-clause-goes_on
-returns-clause-goes_on g c unless opened =
-    let f = g.F.Folder in
-    let made = c.roll.new.journal in
-    goes_on c.roll.result c.in-Err-roll.error c.args.self.now.events.journal.closed made.closed
-    (f.failed made.medium.folder) c.in-Err-roll.is c.roll.ensures.closed
-    c.roll.ensures.not_written unless opened
-
-pub returns-in-Ok-roll-clause-held : goal.returns-in-Ok-roll-clause-held
-returns-in-Ok-roll-clause-held g c events parts m =
-    let h = returns-in-Ok-roll-clause-places g c events parts m in inl h.0
-
-pub returns-in-Ok-roll-clause-any_moment : goal.returns-in-Ok-roll-clause-any_moment
-returns-in-Ok-roll-clause-any_moment g c events parts m opened =
+pub sweep_after-requires : goal.sweep_after-requires
+sweep_after-requires g c opened =
     let f = g.F.Folder in
     let met = g.met.F.Folder in
-    let old = c.args.self.now.events.journal in
-    let made = c.roll.new.journal in
-    let saved = c.args.head.now in
-    let new = contents_with (head_texts saved) [] in
-    let h =
-    open_head f.shows f.kept f.sound f.moment f.left_since met.only_now g.N.Beginning.first old.medium
-    old.len old.closed events m.holds opened in
-    roll_finds f.shows f.kept f.sound f.moment f.left_since met.only_now met.earlier
-    g.N.Beginning.first old.medium made.medium old.len old.closed saved parts events h m
-    c.in-Ok.ensures.saved
-    (c.in-Ok-roll.ensures.any_moment (contents_with (head_texts h.saved) h.late) new
-    (files_of_both f.shows f.kept h.saved.places saved.places h.parts parts old.medium.folder
-    h.blocks m.blocks)
-    (keeps_now f.shows f.kept f.sound f.moment f.left_since met.only_now met.earlier
-    g.N.Beginning.first old.medium old.len old.closed events h opened)
-    (subst (IsJournalText new) (sym c.deref.ensures.value) c.in-Ok.ensures.text)
-    (apart_both f.shows f.kept h.saved.places saved.places h.parts parts old.medium.folder h.blocks
-    m.blocks)
-    (there_both f.shows f.kept h.saved.places saved.places h.parts parts old.medium.folder h.blocks
-    m.blocks))
+    let self = c.args.self.now in
+    let j = self.store.events.journal in
+    let first = g.N.Beginning.first in
+    let blocks = map part_in self.blocks.items in
+    let events = c.requires.0 in
+    let held = c.requires.1 in
+    let world = c.requires.2 in
+    let like = open_like f.shows f.kept f.sound f.moment f.left_since first j.medium j.len j.closed
+    events self.places.items blocks held c.if-self.false in
+    let may = may_save f.shows f.kept f.sound f.moment f.left_since first j.medium j.len j.closed
+    events self.places.items c.deref-3.result.now blocks (map part_in c.blocks-3.result.now)
+    (map part_in c.deref.result.now) c.args.snapshot.now c.same_blocks-same.result like world
+    c.deref-3.ensures.value c.blocks-3.ensures
+    (ap (λ (bs : List Shown). map part_in bs) c.deref.ensures.value) c.same_blocks-same.ensures.few
+    c.same_blocks-same.ensures.same in
+    let at = c.in-Err.ensures.err events like.0.parts may opened in
+    (events, like.0.parts, (at.0, at.1 ∙ (c.deref-3.ensures.value ∙ sym c.deref-in-Err.ensures.value), at.2))
 
-pub returns-clause-any_moment : goal.returns-clause-any_moment
-returns-clause-any_moment g c events parts m opened =
+pub returns-in-Ok-save-clause-held : goal.returns-in-Ok-save-clause-held
+returns-in-Ok-save-clause-held g c events held world =
     let f = g.F.Folder in
     let met = g.met.F.Folder in
-    let old = c.args.self.now.events.journal in
-    let made = c.roll.new.journal in
-    let saved = c.args.head.now in
-    let new = contents_with (head_texts saved) [] in
-    let h =
-    open_head f.shows f.kept f.sound f.moment f.left_since met.only_now g.N.Beginning.first old.medium
-    old.len old.closed events m.holds opened in
-    roll_finds f.shows f.kept f.sound f.moment f.left_since met.only_now met.earlier
-    g.N.Beginning.first old.medium made.medium old.len old.closed saved parts events h m
-    c.in-Ok.ensures.saved
-    (c.in-Err-roll.ensures.any_moment (contents_with (head_texts h.saved) h.late) new
-    (files_of_both f.shows f.kept h.saved.places saved.places h.parts parts old.medium.folder
-    h.blocks m.blocks)
-    (keeps_now f.shows f.kept f.sound f.moment f.left_since met.only_now met.earlier
-    g.N.Beginning.first old.medium old.len old.closed events h opened)
-    (subst (IsJournalText new) (sym c.deref.ensures.value) c.in-Ok.ensures.text)
-    (apart_both f.shows f.kept h.saved.places saved.places h.parts parts old.medium.folder h.blocks
-    m.blocks)
-    (there_both f.shows f.kept h.saved.places saved.places h.parts parts old.medium.folder h.blocks
-    m.blocks))
+    let self = c.args.self.now in
+    let j = self.store.events.journal in
+    let first = g.N.Beginning.first in
+    let blocks = map part_in self.blocks.items in
+    let like = open_like f.shows f.kept f.sound f.moment f.left_since first j.medium j.len j.closed
+    events self.places.items blocks held c.if-self.false in
+    let may = may_save f.shows f.kept f.sound f.moment f.left_since first j.medium j.len j.closed
+    events self.places.items c.deref-3.result.now blocks (map part_in c.blocks-3.result.now)
+    (map part_in c.deref.result.now) c.args.snapshot.now c.same_blocks-same.result like world
+    c.deref-3.ensures.value c.blocks-3.ensures
+    (ap (λ (bs : List Shown). map part_in bs) c.deref.ensures.value) c.same_blocks-same.ensures.few
+    c.same_blocks-same.ensures.same in
+    let placed = c.in-Ok-save.ensures.places events like.0.parts may in
+    let at = placed.2 in
+    let swept = c.sweep_blocks.ensures.held events placed.0
+    (at.0, at.1 ∙ sym c.deref-in-Ok-save.ensures.value, at.2) in
+    let now = c.sweep_blocks.new.self.events.journal in
+    inl (saved_like f.shows f.kept f.sound f.moment f.left_since first now.medium now.len now.closed
+    events c.deref-in-Ok-save.result.now c.in-Ok-save.places.items placed.0 c.args.snapshot.now.blocks
+    (map part_in c.in-Ok.blocks.items) swept placed.1 (sym c.deref-in-Ok-save.ensures.value)
+    (c.in-Ok.ensures ∙ c.blocks-2.ensures))
 
-pub returns-clause-held : goal.returns-clause-held
-returns-clause-held g c events parts m =
+pub returns-in-Ok-save-clause-any_moment : goal.returns-in-Ok-save-clause-any_moment
+returns-in-Ok-save-clause-any_moment g c events held world opened =
     let f = g.F.Folder in
     let met = g.met.F.Folder in
-    let old = c.args.self.now.events.journal in
-    let made = c.roll.new.journal in
-    let opened = c.if-self.false in
-    let h =
-    open_head f.shows f.kept f.sound f.moment f.left_since met.only_now g.N.Beginning.first old.medium
-    old.len old.closed events m.holds opened in
-    not_rolled f.shows f.kept f.sound f.moment f.left_since met.only_now met.earlier
-    g.N.Beginning.first old.medium made.medium old.len made.len old.closed made.closed events h
-    (c.in-Err-roll.ensures.err (contents_with (head_texts h.saved) h.late)
-    (keeps_now f.shows f.kept f.sound f.moment f.left_since met.only_now met.earlier
-    g.N.Beginning.first old.medium old.len old.closed events h opened))
-    c.in-Err-roll.ensures.files (returns-clause-any_moment g c events parts m opened)
-
-pub returns-clause-err : goal.returns-clause-err
-returns-clause-err g c events places parts at goes_on =
-    let f = g.F.Folder in
-    let met = g.met.F.Folder in
-    let old = c.args.self.now.events.journal in
-    let made = c.roll.new.journal in
-    let h = at.0 in
-    same_head f.shows f.kept f.sound f.moment f.left_since met.only_now met.earlier
-    g.N.Beginning.first old.medium made.medium old.len made.len old.closed made.closed events places
-    parts at
-    (c.in-Err-roll.ensures.err (contents_with (head_texts h.saved) h.late)
-    (keeps_now f.shows f.kept f.sound f.moment f.left_since met.only_now met.earlier
-    g.N.Beginning.first old.medium old.len old.closed events h c.if-self.false) goes_on)
-    c.in-Err-roll.ensures.files
-
--- where nothing was done
-
-pub returns-then-self-clause-err : goal.returns-then-self-clause-err
-returns-then-self-clause-err g c events places parts at goes_on = at
-
-pub returns-in-Err-clause-err : goal.returns-in-Err-clause-err
-returns-in-Err-clause-err g c events places parts at goes_on = at
-
-pub returns-then-self-clause-held : goal.returns-then-self-clause-held
-returns-then-self-clause-held g c events parts m = m.holds
-
-pub returns-then-self-clause-any_moment : goal.returns-then-self-clause-any_moment
-returns-then-self-clause-any_moment g c events parts m opened =
-    absurd (let a : true ≡ false = sym c.if-self.true ∙ opened in cc)
+    let self = c.args.self.now in
+    let j = self.store.events.journal in
+    let first = g.N.Beginning.first in
+    let blocks = map part_in self.blocks.items in
+    let like = open_like f.shows f.kept f.sound f.moment f.left_since first j.medium j.len j.closed
+    events self.places.items blocks held c.if-self.false in
+    let may = may_save f.shows f.kept f.sound f.moment f.left_since first j.medium j.len j.closed
+    events self.places.items c.deref-3.result.now blocks (map part_in c.blocks-3.result.now)
+    (map part_in c.deref.result.now) c.args.snapshot.now c.same_blocks-same.result like world
+    c.deref-3.ensures.value c.blocks-3.ensures
+    (ap (λ (bs : List Shown). map part_in bs) c.deref.ensures.value) c.same_blocks-same.ensures.few
+    c.same_blocks-same.ensures.same in
+    let placed = c.in-Ok-save.ensures.places events like.0.parts may in
+    let at = placed.2 in
+    finds_on f.moment f.left_since first events j.medium.folder
+    c.save.new.self.events.journal.medium.folder
+    c.sweep_blocks.new.self.events.journal.medium.folder
+    (c.in-Ok-save.ensures.any_moment events like.0.parts may opened)
+    (c.sweep_blocks.ensures.any_moment events placed.0
+    (at.0, at.1 ∙ sym c.deref-in-Ok-save.ensures.value, at.2))
 
 pub returns-in-Err-clause-held : goal.returns-in-Err-clause-held
-returns-in-Err-clause-held g c events parts m = m.holds
-
-pub returns-in-Err-clause-any_moment : goal.returns-in-Err-clause-any_moment
-returns-in-Err-clause-any_moment g c events parts m opened =
+returns-in-Err-clause-held g c events held world =
     let f = g.F.Folder in
     let met = g.met.F.Folder in
-    let old = c.args.self.now.events.journal in
+    let self = c.args.self.now in
+    let j = self.store.events.journal in
+    let first = g.N.Beginning.first in
+    let blocks = map part_in self.blocks.items in
+    let like = open_like f.shows f.kept f.sound f.moment f.left_since first j.medium j.len j.closed
+    events self.places.items blocks held c.if-self.false in
+    let may = may_save f.shows f.kept f.sound f.moment f.left_since first j.medium j.len j.closed
+    events self.places.items c.deref-3.result.now blocks (map part_in c.blocks-3.result.now)
+    (map part_in c.deref.result.now) c.args.snapshot.now c.same_blocks-same.result like world
+    c.deref-3.ensures.value c.blocks-3.ensures
+    (ap (λ (bs : List Shown). map part_in bs) c.deref.ensures.value) c.same_blocks-same.ensures.few
+    c.same_blocks-same.ensures.same in
+    let parts = like.0.parts in
+    let mid = c.save.new.self.events.journal in
+    let now = c.sweep_after.new.self.events.journal in
+    let there = c.deref-3.ensures.value ∙ sym c.deref-in-Err.ensures.value in
+    failed_like f.shows f.kept f.sound f.moment f.left_since met.only_now first j.medium mid.medium
+    now.medium j.len mid.len now.len j.closed mid.closed now.closed events self.places.items
+    c.deref-in-Err.result.now blocks like c.sweep_after.ensures.closed
+    (λ opened. (let at = c.in-Err.ensures.err events parts may opened in (at.0, at.1 ∙ there, at.2)))
+    (λ opened at. c.sweep_after.ensures.at opened events parts at)
+    (c.sweep_after.ensures.held events parts
+    (λ opened. (let at = c.in-Err.ensures.err events parts may opened in (at.0, at.1 ∙ there, at.2)))
+    (c.in-Err.ensures.held events parts may))
+    c.deref-in-Err.ensures.value
+
+pub returns-in-Err-clause-any_moment : goal.returns-in-Err-clause-any_moment
+returns-in-Err-clause-any_moment g c events held world opened =
+    let f = g.F.Folder in
+    let met = g.met.F.Folder in
+    let self = c.args.self.now in
+    let j = self.store.events.journal in
+    let first = g.N.Beginning.first in
+    let blocks = map part_in self.blocks.items in
+    let like = open_like f.shows f.kept f.sound f.moment f.left_since first j.medium j.len j.closed
+    events self.places.items blocks held c.if-self.false in
+    let may = may_save f.shows f.kept f.sound f.moment f.left_since first j.medium j.len j.closed
+    events self.places.items c.deref-3.result.now blocks (map part_in c.blocks-3.result.now)
+    (map part_in c.deref.result.now) c.args.snapshot.now c.same_blocks-same.result like world
+    c.deref-3.ensures.value c.blocks-3.ensures
+    (ap (λ (bs : List Shown). map part_in bs) c.deref.ensures.value) c.same_blocks-same.ensures.few
+    c.same_blocks-same.ensures.same in
+    let parts = like.0.parts in
+    let there = c.deref-3.ensures.value ∙ sym c.deref-in-Err.ensures.value in
+    c.sweep_after.ensures.any_moment events parts j.medium.folder
+    (λ goes. (let at = c.in-Err.ensures.err events parts may goes in (at.0, at.1 ∙ there, at.2)))
+    (c.in-Err.ensures.any_moment events parts may opened)
+
+-- no memory was left
+
+pub returns-in_default-clause-any_moment : goal.returns-in_default-clause-any_moment
+returns-in_default-clause-any_moment g c events held world opened =
+    let f = g.F.Folder in
+    let met = g.met.F.Folder in
+    let self = c.args.self.now in
+    let j = self.store.events.journal in
     stays_so f.shows f.kept f.sound f.moment f.left_since met.only_now met.earlier
-    g.N.Beginning.first old.medium old.len old.closed events m.holds opened
+    g.N.Beginning.first j.medium j.len j.closed events
+    (as_store f.shows f.kept f.sound f.moment f.left_since met.only_now g.N.Beginning.first j.medium
+    j.len j.closed events self.places.items (map part_in self.blocks.items) held) opened

@@ -1,21 +1,26 @@
-use Rattle.std.proofs.Common.{inl}
+use Rattle.std.proofs.Common.{inl, map}
+use Rattle.head.specs.Blocks.{part_in}
 use Rattle.head_record.specs.Spelling.{head_texts}
-use Rattle.store_folder.proofs.Kept.{given_up, store_finds}
+use Rattle.store_folder.proofs.Kept.{like_given_up, store_finds}
 use Rattle.store_folder.proofs.keeping.StoreKeeperKeeper.close.Goals as goal
 
 pub returns-clause-held : goal.returns-clause-held
-returns-clause-held g c events more h =
+returns-clause-held g c events more last =
+    let h = last.0 in
     let f = g.F.Folder in
-    let old = c.args.self.now.events.journal in
+    let old = c.args.self.now.store.events.journal in
     let new = c.close.new.self.journal in
-    inl (given_up f.shows f.kept f.sound f.moment f.left_since g.met.F.Folder.only_now
-    g.N.Beginning.first old.medium new.medium old.len new.len old.closed new.closed events more h
-    c.close.ensures.beside (c.close.ensures.held (head_texts h.saved) h.late more h.journal))
+    let k = c.args.self.now in
+    inl (like_given_up f.shows f.kept f.sound f.moment f.left_since g.met.F.Folder.only_now
+    g.N.Beginning.first old.medium new.medium old.len new.len old.closed new.closed events more
+    k.places.items (map part_in k.blocks.items) last c.close.ensures.beside
+    (c.close.ensures.held (head_texts h.saved) h.late more h.journal))
 
 pub returns-clause-any_moment : goal.returns-clause-any_moment
-returns-clause-any_moment g c events more h =
+returns-clause-any_moment g c events more last =
+    let h = last.0 in
     let f = g.F.Folder in
-    let old = c.args.self.now.events.journal in
+    let old = c.args.self.now.store.events.journal in
     let new = c.close.new.self.journal in
     let found = store_finds f.shows f.kept f.sound f.moment f.left_since g.met.F.Folder.only_now
     g.N.Beginning.first old.medium new.medium h.saved h.parts h.early h.late events more h.all

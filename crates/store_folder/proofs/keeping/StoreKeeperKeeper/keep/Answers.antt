@@ -1,6 +1,7 @@
-use Rattle.std.proofs.Common.{◌≡◌, true, false, inl, sym, ◌∙◌}
-use Rattle.store_folder.specs.KeeperLaws.{open_head}
-use Rattle.store_folder.proofs.Kept.{last_kept, store_finds, store_more, store_stays}
+use Rattle.std.proofs.Common.{◌≡◌, true, false, inl, map, sym, ◌∙◌}
+use Rattle.head.specs.Blocks.{part_in}
+use Rattle.store_folder.proofs.Fronts.{open_like}
+use Rattle.store_folder.proofs.Kept.{like_last, like_more, like_stays, store_finds}
 use Rattle.event_journal.proofs.Keepers.{told_closed, told_failed, told_full}
 use Rattle.head_record.specs.Spelling.{head_texts}
 use Rattle.store_folder.proofs.keeping.StoreKeeperKeeper.keep.Goals as goal
@@ -8,57 +9,64 @@ use Rattle.store_folder.proofs.keeping.StoreKeeperKeeper.keep.Goals as goal
 pub append-requires-clause-held : goal.append-requires-clause-held
 append-requires-clause-held g c =
     let f = g.F.Folder in
-    let old = c.args.self.now.events.journal in
-    let h =
-    open_head f.shows f.kept f.sound f.moment f.left_since g.met.F.Folder.only_now
-    g.N.Beginning.first old.medium old.len old.closed c.requires.held.0 c.requires.held.1
-    c.if-self.false in
+    let k = c.args.self.now in
+    let old = k.store.events.journal in
+    let h = (open_like f.shows f.kept f.sound f.moment f.left_since g.N.Beginning.first old.medium
+    old.len old.closed c.requires.held.0 k.places.items (map part_in k.blocks.items)
+    c.requires.held.1 c.if-self.false).0 in
     (head_texts h.saved, h.late, h.journal)
 
 pub returns-in-Ok-clause-ok : goal.returns-in-Ok-clause-ok
 returns-in-Ok-clause-ok g c events more held s =
     let f = g.F.Folder in
-    let old = c.args.self.now.events.journal in
+    let k = c.args.self.now in
+    let old = k.store.events.journal in
     let new = c.append.new.self.journal in
-    let h =
-    open_head f.shows f.kept f.sound f.moment f.left_since g.met.F.Folder.only_now
-    g.N.Beginning.first old.medium old.len old.closed events held c.if-self.false in
-    inl (store_more f.shows f.kept f.sound f.moment f.left_since g.met.F.Folder.only_now
-    g.N.Beginning.first old.medium new.medium old.len new.len old.closed new.closed events more h
-    c.in-Ok.ensures.beside (c.in-Ok.ensures.ok (head_texts h.saved) h.late more h.journal s))
+    let like = open_like f.shows f.kept f.sound f.moment f.left_since g.N.Beginning.first old.medium
+    old.len old.closed events k.places.items (map part_in k.blocks.items) held c.if-self.false in
+    let h = like.0 in
+    inl (like_more f.shows f.kept f.sound f.moment f.left_since g.met.F.Folder.only_now
+    g.N.Beginning.first old.medium new.medium old.len new.len old.closed new.closed events more
+    k.places.items (map part_in k.blocks.items) like c.in-Ok.ensures.beside
+    (c.in-Ok.ensures.ok (head_texts h.saved) h.late more h.journal s))
 
 pub returns-in-Err-clause-err : goal.returns-in-Err-clause-err
 returns-in-Err-clause-err g c events held =
     let f = g.F.Folder in
-    let old = c.args.self.now.events.journal in
+    let k = c.args.self.now in
+    let old = k.store.events.journal in
     let new = c.append.new.self.journal in
-    let h =
-    open_head f.shows f.kept f.sound f.moment f.left_since g.met.F.Folder.only_now
-    g.N.Beginning.first old.medium old.len old.closed events held c.if-self.false in
-    inl (store_stays f.shows f.kept f.sound f.moment f.left_since g.met.F.Folder.only_now
-    g.N.Beginning.first old.medium new.medium old.len new.len old.closed new.closed events h
-    c.in-Err.ensures.beside (c.in-Err.ensures.err (head_texts h.saved) h.late h.journal))
+    let like = open_like f.shows f.kept f.sound f.moment f.left_since g.N.Beginning.first old.medium
+    old.len old.closed events k.places.items (map part_in k.blocks.items) held c.if-self.false in
+    let h = like.0 in
+    inl (like_stays f.shows f.kept f.sound f.moment f.left_since g.met.F.Folder.only_now
+    g.N.Beginning.first old.medium new.medium old.len new.len old.closed new.closed events
+    k.places.items (map part_in k.blocks.items) like c.in-Err.ensures.beside
+    (c.in-Err.ensures.err (head_texts h.saved) h.late h.journal))
 
 pub returns-in-Ok-clause-last : goal.returns-in-Ok-clause-last
 returns-in-Ok-clause-last g c events more held s =
     let f = g.F.Folder in
-    let old = c.args.self.now.events.journal in
+    let k = c.args.self.now in
+    let old = k.store.events.journal in
     let new = c.append.new.self.journal in
-    let h =
-    open_head f.shows f.kept f.sound f.moment f.left_since g.met.F.Folder.only_now
-    g.N.Beginning.first old.medium old.len old.closed events held c.if-self.false in
-    last_kept f.shows f.kept f.sound f.moment f.left_since g.met.F.Folder.only_now
-    g.N.Beginning.first old.medium new.medium old.len new.len old.closed new.closed events more h
-    c.in-Ok.ensures.beside (c.in-Ok.ensures.ok (head_texts h.saved) h.late more h.journal s)
+    let like = open_like f.shows f.kept f.sound f.moment f.left_since g.N.Beginning.first old.medium
+    old.len old.closed events k.places.items (map part_in k.blocks.items) held c.if-self.false in
+    let h = like.0 in
+    like_last f.shows f.kept f.sound f.moment f.left_since g.met.F.Folder.only_now
+    g.N.Beginning.first old.medium new.medium old.len new.len old.closed new.closed events more
+    k.places.items (map part_in k.blocks.items) like c.in-Ok.ensures.beside
+    (c.in-Ok.ensures.ok (head_texts h.saved) h.late more h.journal s)
 
 pub returns-in-Ok-clause-any_moment : goal.returns-in-Ok-clause-any_moment
 returns-in-Ok-clause-any_moment g c events more held s opened =
     let f = g.F.Folder in
-    let old = c.args.self.now.events.journal in
+    let k = c.args.self.now in
+    let old = k.store.events.journal in
     let new = c.append.new.self.journal in
-    let h =
-    open_head f.shows f.kept f.sound f.moment f.left_since g.met.F.Folder.only_now
-    g.N.Beginning.first old.medium old.len old.closed events held c.if-self.false in
+    let like = open_like f.shows f.kept f.sound f.moment f.left_since g.N.Beginning.first old.medium
+    old.len old.closed events k.places.items (map part_in k.blocks.items) held c.if-self.false in
+    let h = like.0 in
     let found = store_finds f.shows f.kept f.sound f.moment f.left_since g.met.F.Folder.only_now
     g.N.Beginning.first old.medium new.medium h.saved h.parts h.early h.late events more h.all
     h.head h.begins h.blocks c.in-Ok.ensures.beside
@@ -68,11 +76,12 @@ returns-in-Ok-clause-any_moment g c events more held s opened =
 pub returns-in-Err-clause-any_moment : goal.returns-in-Err-clause-any_moment
 returns-in-Err-clause-any_moment g c events more held s opened =
     let f = g.F.Folder in
-    let old = c.args.self.now.events.journal in
+    let k = c.args.self.now in
+    let old = k.store.events.journal in
     let new = c.append.new.self.journal in
-    let h =
-    open_head f.shows f.kept f.sound f.moment f.left_since g.met.F.Folder.only_now
-    g.N.Beginning.first old.medium old.len old.closed events held c.if-self.false in
+    let like = open_like f.shows f.kept f.sound f.moment f.left_since g.N.Beginning.first old.medium
+    old.len old.closed events k.places.items (map part_in k.blocks.items) held c.if-self.false in
+    let h = like.0 in
     let found = store_finds f.shows f.kept f.sound f.moment f.left_since g.met.F.Folder.only_now
     g.N.Beginning.first old.medium new.medium h.saved h.parts h.early h.late events more h.all
     h.head h.begins h.blocks c.in-Err.ensures.beside

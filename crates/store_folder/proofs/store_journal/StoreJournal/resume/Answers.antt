@@ -1,7 +1,7 @@
 use Rattle.std.proofs.Common.{refl}
 use Rattle.head_record.specs.Spelling.{head_texts}
 use Rattle.store_folder.proofs.Starts.{events_found, holds_found, resume_finds}
-use Rattle.store_folder.proofs.keeping.StoreKeeper.resume.Goals as goal
+use Rattle.store_folder.proofs.store_journal.StoreJournal.resume.Goals as goal
 
 pub resume-requires : goal.resume-requires
 resume-requires g c =

@@ -1,6 +1,6 @@
 use Rattle.std.proofs.Common.{inl}
 use Rattle.store_folder.proofs.Rolls.{finds_on}
-use Rattle.store_folder.proofs.keeping.StoreKeeper.sweep_after.Goals as goal
+use Rattle.store_folder.proofs.store_journal.StoreJournal.sweep_after.Goals as goal
 
 pub sweep_blocks-requires-clause-held : goal.sweep_blocks-requires-clause-held
 sweep_blocks-requires-clause-held g c = c.requires c.if-self.false
@@ -23,3 +23,9 @@ returns-clause-any_moment g c events parts before at found =
     let new = c.sweep_blocks.new.self.events.journal.medium.folder in
     finds_on f.moment f.left_since g.N.Beginning.first events before old new found
     (c.sweep_blocks.ensures.any_moment events parts (at c.if-self.false))
+
+pub returns-clause-at : goal.returns-clause-at
+returns-clause-at g c opened events parts at = c.sweep_blocks.ensures.held events parts at
+
+pub returns-then-self-clause-at : goal.returns-then-self-clause-at
+returns-then-self-clause-at g c opened events parts at = at

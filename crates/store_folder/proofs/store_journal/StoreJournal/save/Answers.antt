@@ -7,7 +7,7 @@ use Rattle.store_folder.specs.Holding.{HoldsAt}
 use Rattle.store_folder.specs.Writing.{places_from}
 use Rattle.store_folder.proofs.Saves.{enough, like_made, may_roll, still_held, writing_finds}
 use Rattle.store_folder.proofs.Rolls.{finds_on}
-use Rattle.store_folder.proofs.keeping.StoreKeeper.save.Goals as goal
+use Rattle.store_folder.proofs.store_journal.StoreJournal.save.Goals as goal
 
 pub write_saved-requires-clause-blocks : goal.write_saved-requires-clause-blocks
 write_saved-requires-clause-blocks g c =

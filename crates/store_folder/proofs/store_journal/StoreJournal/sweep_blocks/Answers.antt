@@ -1,7 +1,7 @@
 use Rattle.std.proofs.Common.{refl}
 use Rattle.store_folder.specs.Sweeps.{names_at}
 use Rattle.store_folder.proofs.Swept.{holds_swept, swept_finds}
-use Rattle.store_folder.proofs.keeping.StoreKeeper.sweep_blocks.Goals as goal
+use Rattle.store_folder.proofs.store_journal.StoreJournal.sweep_blocks.Goals as goal
 
 pub sweep_apart-requires : goal.sweep_apart-requires
 sweep_apart-requires g c =

@@ -5,7 +5,7 @@ use Rattle.head_record.specs.Spelling.{head_texts, IsSaved}
 use Rattle.journal.specs.Group.{IsJournalText}
 use Rattle.store_folder.specs.Starting.{nothing_saved}
 use Rattle.store_folder.proofs.Starts.{holds_nothing, leaves_nothing, none_yet}
-use Rattle.store_folder.proofs.keeping.StoreKeeper.create.Goals as goal
+use Rattle.store_folder.proofs.store_journal.StoreJournal.create.Goals as goal
 
 abbrev of_head : Saved → List (List ℕ)
 of_head head = contents_with (head_texts head) []

@@ -1,0 +1,27 @@
+use Rattle.std.proofs.Common.{map, refl}
+use Rattle.head.specs.Blocks.{part_in}
+use Rattle.store_folder.specs.KeeperLaws.{as_store}
+use Rattle.store_folder.proofs.Rolls.{stays_so}
+use Rattle.store_folder.proofs.keeping.StoreKeeperKeeper.checkpoint.Goals as goal
+
+pub returns-then-not-are_met-clause-any_moment : goal.returns-then-not-are_met-clause-any_moment
+returns-then-not-are_met-clause-any_moment g c events held world opened =
+    let f = g.F.Folder in
+    let met = g.met.F.Folder in
+    let self = c.args.self.now in
+    let j = self.store.events.journal in
+    let found = stays_so f.shows f.kept f.sound f.moment f.left_since met.only_now met.earlier
+    g.N.Beginning.first j.medium j.len j.closed events
+    (as_store f.shows f.kept f.sound f.moment f.left_since met.only_now g.N.Beginning.first j.medium
+    j.len j.closed events self.places.items (map part_in self.blocks.items) held) opened in
+    record { later = found.later; each = found.each; before = found.before }
+
+pub returns-in-Ok-clause-any_moment : goal.returns-in-Ok-clause-any_moment
+returns-in-Ok-clause-any_moment g c events held world opened =
+    let found = c.in-Ok.ensures.any_moment events held (world refl) opened in
+    record { later = found.later; each = found.each; before = found.before }
+
+pub returns-in-Err-clause-any_moment : goal.returns-in-Err-clause-any_moment
+returns-in-Err-clause-any_moment g c events held world opened =
+    let found = c.in-Err.ensures.any_moment events held (world refl) opened in
+    record { later = found.later; each = found.each; before = found.before }

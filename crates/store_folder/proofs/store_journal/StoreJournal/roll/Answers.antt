@@ -1,0 +1,170 @@
+use Rattle.std.proofs.Common.{◌≡◌, true, false, [], inl, subst, sym, ◌∙◌}
+use Rattle.event_journal.specs.Holding.{contents_with}
+use Rattle.head_record.specs.Spelling.{head_texts}
+use Rattle.journal.specs.Group.{IsJournalText}
+use Rattle.store_folder.specs.KeeperLaws.{open_head}
+use Rattle.store_folder.proofs.Rolls.{apart_both, files_of_both, goes_on, keeps_now, not_rolled}
+use Rattle.store_folder.proofs.Rolls.{roll_finds}
+use Rattle.store_folder.proofs.Rolls.{rolled, same_head, stays_so, there_both}
+use Rattle.store_folder.proofs.store_journal.StoreJournal.roll.Goals as goal
+
+pub roll-requires-clause-kept : goal.roll-requires-clause-kept
+roll-requires-clause-kept g c opened =
+    let f = g.F.Folder in
+    let met = g.met.F.Folder in
+    let old = c.args.self.now.events.journal in
+    let r = c.requires in
+    let h =
+    open_head f.shows f.kept f.sound f.moment f.left_since met.only_now g.N.Beginning.first old.medium
+    old.len old.closed r.0 r.2.holds c.if-self.false in (
+      contents_with (head_texts h.saved) h.late,
+      keeps_now f.shows f.kept f.sound f.moment f.left_since met.only_now met.earlier
+          g.N.Beginning.first old.medium old.len old.closed r.0 h c.if-self.false,
+    )
+
+pub roll-requires-clause-whole : goal.roll-requires-clause-whole
+roll-requires-clause-whole g c =
+    let new = contents_with (head_texts c.args.head.now) [] in
+    (new, subst (IsJournalText new) (sym c.deref.ensures.value) c.in-Ok.ensures.text)
+
+pub returns-in-Ok-roll-clause-places : goal.returns-in-Ok-roll-clause-places
+returns-in-Ok-roll-clause-places g c events parts m =
+    let f = g.F.Folder in
+    let met = g.met.F.Folder in
+    let old = c.args.self.now.events.journal in
+    let made = c.roll.new.journal in
+    let new = contents_with (head_texts c.args.head.now) [] in
+    rolled f.shows f.kept f.sound f.moment f.left_since met.only_now met.earlier
+    g.N.Beginning.first old.medium made.medium old.len made.len old.closed made.closed
+    c.args.head.now parts events m c.in-Ok.ensures.saved
+    (c.in-Ok-roll.ensures.ok new
+    (subst (IsJournalText new) (sym c.deref.ensures.value) c.in-Ok.ensures.text))
+    c.in-Ok-roll.ensures.files
+
+pub returns-in-Ok-roll-clause-len : goal.returns-in-Ok-roll-clause-len
+returns-in-Ok-roll-clause-len g c =
+    let new = contents_with (head_texts c.args.head.now) [] in
+    let k =
+    c.in-Ok-roll.ensures.ok new
+    (subst (IsJournalText new) (sym c.deref.ensures.value) c.in-Ok.ensures.text) in
+    k.counted
+
+pub returns-clause-goes_on : goal.returns-clause-goes_on
+returns-clause-goes_on g c unless opened =
+    let f = g.F.Folder in
+    let made = c.roll.new.journal in
+    goes_on c.roll.result c.in-Err-roll.error c.args.self.now.events.journal.closed made.closed
+    (f.failed made.medium.folder) c.in-Err-roll.is c.roll.ensures.closed
+    c.roll.ensures.not_written unless opened
+
+pub returns-in-Ok-roll-clause-held : goal.returns-in-Ok-roll-clause-held
+returns-in-Ok-roll-clause-held g c events parts m =
+    let h = returns-in-Ok-roll-clause-places g c events parts m in inl h.0
+
+pub returns-in-Ok-roll-clause-any_moment : goal.returns-in-Ok-roll-clause-any_moment
+returns-in-Ok-roll-clause-any_moment g c events parts m opened =
+    let f = g.F.Folder in
+    let met = g.met.F.Folder in
+    let old = c.args.self.now.events.journal in
+    let made = c.roll.new.journal in
+    let saved = c.args.head.now in
+    let new = contents_with (head_texts saved) [] in
+    let h =
+    open_head f.shows f.kept f.sound f.moment f.left_since met.only_now g.N.Beginning.first old.medium
+    old.len old.closed events m.holds opened in
+    roll_finds f.shows f.kept f.sound f.moment f.left_since met.only_now met.earlier
+    g.N.Beginning.first old.medium made.medium old.len old.closed saved parts events h m
+    c.in-Ok.ensures.saved
+    (c.in-Ok-roll.ensures.any_moment (contents_with (head_texts h.saved) h.late) new
+    (files_of_both f.shows f.kept h.saved.places saved.places h.parts parts old.medium.folder
+    h.blocks m.blocks)
+    (keeps_now f.shows f.kept f.sound f.moment f.left_since met.only_now met.earlier
+    g.N.Beginning.first old.medium old.len old.closed events h opened)
+    (subst (IsJournalText new) (sym c.deref.ensures.value) c.in-Ok.ensures.text)
+    (apart_both f.shows f.kept h.saved.places saved.places h.parts parts old.medium.folder h.blocks
+    m.blocks)
+    (there_both f.shows f.kept h.saved.places saved.places h.parts parts old.medium.folder h.blocks
+    m.blocks))
+
+pub returns-clause-any_moment : goal.returns-clause-any_moment
+returns-clause-any_moment g c events parts m opened =
+    let f = g.F.Folder in
+    let met = g.met.F.Folder in
+    let old = c.args.self.now.events.journal in
+    let made = c.roll.new.journal in
+    let saved = c.args.head.now in
+    let new = contents_with (head_texts saved) [] in
+    let h =
+    open_head f.shows f.kept f.sound f.moment f.left_since met.only_now g.N.Beginning.first old.medium
+    old.len old.closed events m.holds opened in
+    roll_finds f.shows f.kept f.sound f.moment f.left_since met.only_now met.earlier
+    g.N.Beginning.first old.medium made.medium old.len old.closed saved parts events h m
+    c.in-Ok.ensures.saved
+    (c.in-Err-roll.ensures.any_moment (contents_with (head_texts h.saved) h.late) new
+    (files_of_both f.shows f.kept h.saved.places saved.places h.parts parts old.medium.folder
+    h.blocks m.blocks)
+    (keeps_now f.shows f.kept f.sound f.moment f.left_since met.only_now met.earlier
+    g.N.Beginning.first old.medium old.len old.closed events h opened)
+    (subst (IsJournalText new) (sym c.deref.ensures.value) c.in-Ok.ensures.text)
+    (apart_both f.shows f.kept h.saved.places saved.places h.parts parts old.medium.folder h.blocks
+    m.blocks)
+    (there_both f.shows f.kept h.saved.places saved.places h.parts parts old.medium.folder h.blocks
+    m.blocks))
+
+pub returns-clause-held : goal.returns-clause-held
+returns-clause-held g c events parts m =
+    let f = g.F.Folder in
+    let met = g.met.F.Folder in
+    let old = c.args.self.now.events.journal in
+    let made = c.roll.new.journal in
+    let opened = c.if-self.false in
+    let h =
+    open_head f.shows f.kept f.sound f.moment f.left_since met.only_now g.N.Beginning.first old.medium
+    old.len old.closed events m.holds opened in
+    not_rolled f.shows f.kept f.sound f.moment f.left_since met.only_now met.earlier
+    g.N.Beginning.first old.medium made.medium old.len made.len old.closed made.closed events h
+    (c.in-Err-roll.ensures.err (contents_with (head_texts h.saved) h.late)
+    (keeps_now f.shows f.kept f.sound f.moment f.left_since met.only_now met.earlier
+    g.N.Beginning.first old.medium old.len old.closed events h opened))
+    c.in-Err-roll.ensures.files (returns-clause-any_moment g c events parts m opened)
+
+pub returns-clause-err : goal.returns-clause-err
+returns-clause-err g c events places parts at goes_on =
+    let f = g.F.Folder in
+    let met = g.met.F.Folder in
+    let old = c.args.self.now.events.journal in
+    let made = c.roll.new.journal in
+    let h = at.0 in
+    same_head f.shows f.kept f.sound f.moment f.left_since met.only_now met.earlier
+    g.N.Beginning.first old.medium made.medium old.len made.len old.closed made.closed events places
+    parts at
+    (c.in-Err-roll.ensures.err (contents_with (head_texts h.saved) h.late)
+    (keeps_now f.shows f.kept f.sound f.moment f.left_since met.only_now met.earlier
+    g.N.Beginning.first old.medium old.len old.closed events h c.if-self.false) goes_on)
+    c.in-Err-roll.ensures.files
+
+-- where nothing was done
+
+pub returns-then-self-clause-err : goal.returns-then-self-clause-err
+returns-then-self-clause-err g c events places parts at goes_on = at
+
+pub returns-in-Err-clause-err : goal.returns-in-Err-clause-err
+returns-in-Err-clause-err g c events places parts at goes_on = at
+
+pub returns-then-self-clause-held : goal.returns-then-self-clause-held
+returns-then-self-clause-held g c events parts m = m.holds
+
+pub returns-then-self-clause-any_moment : goal.returns-then-self-clause-any_moment
+returns-then-self-clause-any_moment g c events parts m opened =
+    absurd (let a : true ≡ false = sym c.if-self.true ∙ opened in cc)
+
+pub returns-in-Err-clause-held : goal.returns-in-Err-clause-held
+returns-in-Err-clause-held g c events parts m = m.holds
+
+pub returns-in-Err-clause-any_moment : goal.returns-in-Err-clause-any_moment
+returns-in-Err-clause-any_moment g c events parts m opened =
+    let f = g.F.Folder in
+    let met = g.met.F.Folder in
+    let old = c.args.self.now.events.journal in
+    stays_so f.shows f.kept f.sound f.moment f.left_since met.only_now met.earlier
+    g.N.Beginning.first old.medium old.len old.closed events m.holds opened

@@ -1,0 +1,148 @@
+//! A store that saves its snapshot in the place of the events that made it.
+
+ghost use Rattle.std.specs.Prelude.{◌≡◌, ◌≤◌, ◌⊎◌, List, Ok, [], false, true, length, map, take};
+ghost use Rattle.std.specs.Prelude.{Err, IfErr, IfOk, OnOk};
+ghost use Rattle.event_journal.specs.Holding.{contents_with};
+ghost use Rattle.head.specs.Blocks.{part_in};
+ghost use Rattle.head.specs.Heads.{world_of};
+ghost use Rattle.head.specs.Worlds.{Event as Change, replayed};
+ghost use Rattle.head_record.specs.Saved.{save};
+ghost use Rattle.head_record.specs.Spelling.{head_texts};
+ghost use Rattle.journal.specs.Records.{file_of};
+ghost use Rattle.store_folder.specs.Holding.{HoldsOrLost};
+ghost use Rattle.store_folder.specs.Starting.{StartFinds};
+
+use crate::error::{RollFault, WriteFault};
+use crate::keeping::StoreKeeper;
+use crate::store_journal::Beginning;
+use block::Block;
+use data_folder::{Folder, RollError};
+use head::Snapshot;
+use head_record::BlockPlace;
+use journal::JournalError;
+use keeper::KeepError;
+use std::alloc::{AllocError, Global};
+
+/// A number above those of the folders of these places.
+fn next_number(places: &[BlockPlace]) -> u64 {
+    let mut next = 1u64;
+    for place in places {
+        next = next.max(place.folder().saturating_add(1));
+    }
+    next
+}
+
+/// The same blocks. They share their files.
+pub(crate) fn share_blocks(alloc: Global, blocks: &[Block]) -> Result<Vec<Block>, AllocError>
+    ensures { IfOk result (λ shares. map part_in shares.items ≡ map part_in blocks.now) }
+{
+    let mut shares = Vec::new(alloc);
+    for block in blocks {
+        shares.push(block.share(alloc)?)?;
+    }
+    Ok(shares)
+}
+
+/// How many of the first blocks are the same in both.
+fn same_blocks(blocks: &[Block], others: &[Block]) -> usize
+    ensures few { result ≤ length (map part_in others.now) }
+    ensures same { take result (map part_in blocks.now) ≡ take result (map part_in others.now) }
+{
+    let most = blocks.len().min(others.len());
+    for at in 0..most {
+        if !blocks[at].is_same(&others[at]) {
+            return at;
+        }
+    }
+    most
+}
+
+/// Why nothing is kept, if a journal is not begun anew for this cause.
+pub(crate) fn kept_error(fault: RollFault) -> KeepError {
+    match fault {
+        RollFault::Memory
+        | RollFault::Text(JournalError::Memory)
+        | RollFault::Block(WriteFault::Memory) => KeepError::Memory,
+        RollFault::Text(_) => KeepError::TooLong,
+        RollFault::Folder(RollError::Lost | RollError::Closed) => KeepError::Closed,
+        RollFault::Folder(RollError::NotWritten) | RollFault::Block(_) => KeepError::Failed,
+    }
+}
+
+impl<N: Beginning, F: Folder + Drop> StoreKeeper<N, F> {
+    /// Saves the snapshot: the files of its blocks are written, as far as they are not the ones
+    /// that lie there, and the journal is begun anew with a head that names them and has what the
+    /// head of the snapshot has. Then what the blocks before left behind is removed. How many
+    /// blocks the head names.
+    ///
+    /// Where it fails the journal goes on as it was, unless the fault is `Folder(Lost)`: then it is
+    /// closed.
+    pub fn roll(&mut self, alloc: Global, snapshot: &Snapshot) -> Result<usize, RollFault>
+        requires { (events : List Change)
+            × HoldsOrLost F.shows F.kept F.sound F.moment F.left_since N.first
+            self.old.store.events.journal.medium self.old.store.events.journal.len
+            self.old.store.events.journal.closed events self.old.places.items
+            (map part_in self.old.blocks.items)
+            × (replayed N.first events ≡ Ok (world_of snapshot.now)) }
+        // The same events are held, whatever the answer.
+        ensures held { (events : List Change)
+            → HoldsOrLost F.shows F.kept F.sound F.moment F.left_since N.first
+            self.old.store.events.journal.medium self.old.store.events.journal.len
+            self.old.store.events.journal.closed events self.old.places.items
+            (map part_in self.old.blocks.items)
+            → replayed N.first events ≡ Ok (world_of snapshot.now)
+            → HoldsOrLost F.shows F.kept F.sound F.moment F.left_since N.first
+            self.new.store.events.journal.medium self.new.store.events.journal.len
+            self.new.store.events.journal.closed events self.new.places.items
+            (map part_in self.new.blocks.items) }
+        // It takes more events, unless it was lost.
+        ensures open { OnOk result (self.new.store.events.journal.closed ≡ false) }
+        ensures goes_on { IfErr result (λ e. (e ≡ RollFault.Folder RollError.Lost → ⊥)
+            → self.old.store.events.journal.closed ≡ false
+            → self.new.store.events.journal.closed ≡ false) }
+        ensures lost { self.new.store.events.journal.closed ≡ true
+            → (self.old.store.events.journal.closed ≡ true)
+            ⊎ (F.failed self.new.store.events.journal.medium.folder ≡ true) }
+        // After `Ok` the journal has what is saved of the snapshot, and nothing more.
+        ensures len { OnOk result (self.new.store.events.journal.len ≡ length (file_of
+            (contents_with (head_texts (save snapshot.now self.new.places.items)) []))) }
+        ensures counted { IfOk result (λ count. count ≡ length snapshot.now.blocks) }
+        // After a crash at any moment of the call, a start finds the world of these events.
+        ensures any_moment { (events : List Change)
+            → HoldsOrLost F.shows F.kept F.sound F.moment F.left_since N.first
+            self.old.store.events.journal.medium self.old.store.events.journal.len
+            self.old.store.events.journal.closed events self.old.places.items
+            (map part_in self.old.blocks.items)
+            → replayed N.first events ≡ Ok (world_of snapshot.now)
+            → self.old.store.events.journal.closed ≡ false
+            → StartFinds F.moment F.left_since self.old.store.events.journal.medium.folder
+            self.new.store.events.journal.medium.folder N.first events }
+        ensures closed { self.old.store.events.journal.closed ≡ true
+            → (result ≡ Err (RollFault.Folder RollError.Closed)) × (self.new ≡ self.old) }
+        ensures terms { self.new.terms.most ≡ self.old.terms.most }
+    {
+        if self.store.events.journal.closed {
+            return Err(RollFault::Folder(RollError::Closed));
+        }
+        let count = snapshot.blocks().len();
+        self.terms.note(self.store.len(), count);
+        let Ok(blocks) = share_blocks(alloc, snapshot.blocks()) else {
+            return Err(RollFault::Memory);
+        };
+        let same = same_blocks(snapshot.blocks(), &self.blocks);
+        let next = next_number(&self.places);
+        match self.store.save(alloc, snapshot, &self.places, same, next) {
+            Ok(places) => {
+                let _ = self.store.sweep_blocks(alloc, &places);
+                self.places = places;
+                self.blocks = blocks;
+                self.terms.note(self.store.len(), count);
+                Ok(count)
+            }
+            Err(fault) => {
+                self.store.sweep_after(alloc, &self.places);
+                Err(fault)
+            }
+        }
+    }
+}
