@@ -1,8 +1,11 @@
 -- What a pass has seen that was told of the two events of the demo, and why the demo is not
 -- answered.
 use Rattle.std.proofs.Common.{◌≡◌, ℕ, List, [], ◌∷◌, ◌++◌, length, length-append, sym, ap, ◌∙◌}
-use Rattle.std.proofs.Common.{subst, arith, lit<, append_assoc}
+use Rattle.std.proofs.Common.{subst, arith, append_assoc}
+use Rattle.std.specs.Prelude.{Result, IfOk, IfErr}
+use Rattle.std.specs.List.{Contains}
 use Rattle.std.proofs.lemmas.List.{append-nil}
+use Rattle.std.proofs.lemmas.Result.{IfOk-weaker, IfErr-weaker}
 use mathlib.Core.List.{IsPrefix}
 use Rattle.labels.specs.Contents.{Content}
 use Rattle.labels.specs.Rows.{AreRows}
@@ -21,7 +24,8 @@ use Rattle.answers.specs.declared.audited.AuditedAnswer.{AuditedAnswer}
 use Rattle.answers.specs.MergedRows.{rows_of}
 use Rattle.answers.proofs.Headlines.{world_content}
 use Rattle.commands.specs.Demo.{first_event, second_event, demo_events}
-use Rattle.commands.specs.DemoAnswer.{IsAnswerAfter, IsCommitFault, IsDemoFault, by_commit}
+use Rattle.commands.specs.DemoAnswer.{IsAnswerAfter, IsCommitFault, IsDemoFault, HasLast}
+use Rattle.commands.specs.DemoAnswer.{by_commit}
 use Rattle.commands.specs.declared.fault.Fault.{Fault}
 
 whole_by : {A : Type 0} (xs ys rest : List A) → xs ++ rest ≡ ys → length rest ≡ 0 → xs ≡ ys
@@ -78,29 +82,35 @@ module _ (opening : SnapshotParts) (query : QueryView) (before after : Known)
   }
 
   pub demo_answered : opening_of [] ≡ opening → IsHeadline opening query before after answer
-      → (first second told : List Entry) (n m : ℕ) → EndsWith first_event n first
-      → EndsWith second_event m second
+      → (first second told : List Entry) → HasLast first_event first
+      → HasLast second_event second
       → IsPrefix first told → IsPrefix told before.told → IsPrefix second before.told
       → length first ≡ 1 → length second ≡ 2 → length after.seen ≡ 2
       → IsAnswerAfter demo_events query answer
-  demo_answered empty h first second told n m ends_first ends_second p q r one two both =
+  demo_answered empty h first second told ends_first ends_second p q r one two both =
       let up = prefix_trans told before.told after.seen q h.told in
-      answer_after empty h (events_seen first second after.seen n m ends_first
-      ends_second one two both
+      answer_after empty h (events_seen first second after.seen ends_first.0 ends_second.0
+      ends_first.1 ends_second.1 one two both
       (prefix_trans first told after.seen p up) (prefix_trans second before.told
       after.seen r h.told))
 
-module _ (opening : SnapshotParts) (empty : opening_of [] ≡ opening) (seat : SeatView)
-    (event : Event) (fault : Fault) (h : IsCommitFault opening seat event fault) where
-  pub first_refused : event ≡ first_event → IsDemoFault fault
-  first_refused is =
-      by_commit seat event (0, lit< tt, sym is)
-      (subst (λ (s : SnapshotParts). IsCommitFault s seat event fault) (sym empty) h)
+-- what the commit of one of the demo's events says
+module _ (event wanted : Event) (same : event ≡ wanted) (result : Result (List Entry) Fault) where
+  pub has_last : (seat : ℕ) → IfOk result (EndsWith event seat) → IfOk result (HasLast wanted)
+  has_last seat =
+      IfOk-weaker result (EndsWith event seat) (HasLast wanted)
+      (λ entries h. (seat, subst (λ (e : Event). EndsWith e seat entries) same h))
 
-  pub second_refused : event ≡ second_event → IsDemoFault fault
-  second_refused is =
-      by_commit seat event (1, lit< tt, sym is)
-      (subst (λ (s : SnapshotParts). IsCommitFault s seat event fault) (sym empty) h)
+  pub was_refused : (opening : SnapshotParts) → opening_of [] ≡ opening → (seat : SeatView)
+      → Contains demo_events wanted
+      → IfErr result (λ fault. IsCommitFault opening seat event fault)
+      → IfErr result (λ fault. IsDemoFault fault)
+  was_refused opening empty seat among =
+      IfErr-weaker result (λ fault. IsCommitFault opening seat event fault)
+      (λ fault. IsDemoFault fault)
+      (λ fault h. by_commit seat event
+      (subst (λ (e : Event). Contains demo_events e) (sym same) among)
+      (subst (λ (s : SnapshotParts). IsCommitFault s seat event fault) (sym empty) h))
 
 -- two items more
 pub two_more : {A : Type 0} (xs ys zs : List A) (x y v w : A) → ys ≡ xs ++ x ∷ [] → x ≡ v → y ≡ w

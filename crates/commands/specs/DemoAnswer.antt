@@ -8,7 +8,8 @@ use Rattle.head.specs.Heads.{SnapshotParts, world_of}
 use Rattle.head.specs.Worlds.{Event, replayed}
 use Rattle.head.specs.declared.error.CommitError.{CommitError}
 use Rattle.head.specs.declared.error.CommitError.TheVariants.{Journal}
-use Rattle.snapshots.specs.Replays.{IsRefusedAfter}
+use Rattle.snapshots.specs.declared.entry.Entry.{Entry}
+use Rattle.snapshots.specs.Replays.{IsRefusedAfter, EndsWith}
 use Rattle.snapshots.specs.Seats.{SeatView}
 use Rattle.snapshots.specs.declared.error.OpenError.TheVariants as store
 use Rattle.snapshots.specs.declared.error.SnapshotError.TheVariants as snapshot
@@ -42,6 +43,10 @@ abbrev pub IsCommitFault : SnapshotParts → SeatView → Event → Fault → Ty
 IsCommitFault opening seat event fault =
     (error : CommitError) × (fault ≡ commit_fault error) × (error ≢ Journal)
     × IsRefusedAfter opening seat error event
+
+-- the list ends with this event, under the number of some seat
+abbrev pub HasLast : Event → List Entry → Type 0
+HasLast event entries = (seat : ℕ) × EndsWith event seat entries
 
 -- why the demo ends before it is done: memory or the writer failed, the store had no room for
 -- another reader, it refused a batch under a seat, or it had no snapshot

@@ -55,7 +55,7 @@ pub struct Serving<'a> {
     pub guard: Option<&'a str>,
     /// The folder in which the store is kept, if it is; then there are no directories.
     pub folder: Option<&'a str>,
-    /// With how many MB of changes its journal is begun anew by a start.
+    /// With how many MB of changes its journal is begun anew.
     pub journal_mb: u64,
 }
 
@@ -172,7 +172,7 @@ const GUARD: &str = "The file with a token that each POST has to bear, readable 
 const DATA: &str = "A folder that keeps each change; it is made if there is none [default: none]";
 
 const JOURNAL_MB: &str =
-    "Above how many MB a start begins the journal of --data anew, 1 to 1048576 [default: 64]";
+    "After how many MB the journal of --data is begun anew, 1 to 1048576 [default: 64]";
 
 const PATH: &str = "A journal, or the folder of --data that it stands in";
 
@@ -213,7 +213,8 @@ before its reply goes out. A start replays them over the blocks in DIR/blocks: s
 `recovered N blocks, N events`, and how many bytes of a torn record it cut off; or `began
 DIR/journal`. If one of these is a cut, or there are some and the journal is longer than
 --journal-mb, the start then writes the blocks to DIR/blocks and begins the journal anew, and tells
-`rolled DIR/journal`.
+`rolled DIR/journal`. The server does so as well when the journal has grown by more than
+--journal-mb, or after a cut by an eighth of it, and tells `rolled the journal`.
 Directories beside --data are a fault of the words. If the server cannot make sure that a change is
 kept, it is refused with H11 (503): no reader of this run sees it, but if the journal closed, the
 next start may find it. What is damaged is refused and left as it is: with J1 to J4 or J8 to J14

@@ -1,8 +1,8 @@
 //! The line of `demo`, and the store that it asks: two seats commit six series to it, in two
 //! batches.
 
-ghost use Rattle.std.specs.Prelude.{◌≡◌, ◌<◌, ◌≤◌, true, [], ◌++◌, ◌∷◌, length, string_bytes};
-ghost use Rattle.std.specs.Prelude.{pos, IsTrue, IfOk, IfErr, OnOk};
+ghost use Rattle.std.specs.Prelude.{◌≡◌, ◌<◌, ◌≤◌, ◌+◌, true, [], ◌++◌, ◌∷◌, length, string_bytes};
+ghost use Rattle.std.specs.Prelude.{vec_len, pos, IsTrue, IfOk, IfErr, OnOk};
 ghost use Rattle.labels.specs.Contents.{is_time};
 ghost use Rattle.labels.specs.Names.{is_name};
 ghost use Rattle.matchers.specs.Queries.{is_query_range};
@@ -12,7 +12,7 @@ ghost use Rattle.snapshots.specs.Replays.{EndsWith};
 ghost use Rattle.commands.specs.Demo.{equal_to, demo_query, series_of, zoned_series, sampled};
 ghost use Rattle.commands.specs.Demo.{first_event, second_event, demo_events};
 ghost use Rattle.commands.specs.DemoAnswer.{IsAnswerAfter, IsCommitFault, IsDemoFault};
-ghost use Rattle.commands.specs.DemoAnswer.{WritesAnswerAfter};
+ghost use Rattle.commands.specs.DemoAnswer.{HasLast, WritesAnswerAfter};
 ghost use Rattle.commands.specs.Selecting.{IsOfMemory, KeepsAt};
 
 use crate::fault::{Fault, Refusal};
@@ -22,7 +22,7 @@ use answers::{AuditedAnswer, ask};
 use head::AppendError;
 use labels::{LabelSet, Sample};
 use matchers::{Matcher, Op, Query};
-use snapshots::{Appender, Committer, Naming, Receipt, Seat, SnapshotError, Store};
+use snapshots::{Appender, Committer, Naming, Pass, Receipt, Seat, SnapshotError, Store};
 use std::alloc::{AllocError, Global};
 use std::io::Write;
 use std::marker::Brand;
@@ -148,6 +148,89 @@ fn commit<J: Naming, R: Wait>(
     }
 }
 
+/// Commits the first batch under a seat.
+fn commit_first<J: Naming, R: Wait>(
+    rt: &R,
+    alloc: Global,
+    committer: &Committer<J, &R>,
+    seat: &mut Seat<J>,
+) -> Result<Receipt<J>, Fault>
+    requires opening { opening_of [] ≡ J.opening }
+    ensures ends { IfOk result (λ r. HasLast first_event r) }
+    ensures err { IfErr result (λ fault. IsDemoFault fault) }
+{
+    let appender = first_batch(alloc)?;
+    commit(rt, committer, seat, appender)
+}
+
+/// Commits the second batch under a seat.
+fn commit_second<J: Naming, R: Wait>(
+    rt: &R,
+    alloc: Global,
+    committer: &Committer<J, &R>,
+    seat: &mut Seat<J>,
+) -> Result<Receipt<J>, Fault>
+    requires opening { opening_of [] ≡ J.opening }
+    ensures ends { IfOk result (λ r. HasLast second_event r) }
+    ensures err { IfErr result (λ fault. IsDemoFault fault) }
+{
+    let appender = second_batch(alloc)?;
+    commit(rt, committer, seat, appender)
+}
+
+/// A pass learns both receipts, and is asked.
+fn answer_told<J: Naming>(
+    alloc: Global,
+    pass: &mut Pass<J>,
+    first: &Receipt<J>,
+    second: &Receipt<J>,
+    query: &Query,
+) -> Result<AuditedAnswer, Fault>
+    requires opening { opening_of [] ≡ J.opening }
+    requires first { HasLast first_event first.now }
+    requires second { HasLast second_event second.now }
+    ensures ok { IfOk result (λ answer. IsAnswerAfter demo_events query.now answer) }
+    ensures err { IfErr result (λ fault. IsDemoFault fault) }
+{
+    pass.learn(first);
+    pass.learn(second);
+    let answer = ask(alloc, pass, query)?;
+    if first.events() == 1 && second.events() == 2 && pass.events() == 2 {
+        return Ok(answer);
+    }
+    Err(Fault::Refused(Refusal::Snapshot(SnapshotError::Unavailable)))
+}
+
+/// Two seats commit a batch each, and a pass that learns both receipts is asked.
+fn answer_by<J: Naming, R: Wait>(
+    rt: &R,
+    alloc: Global,
+    committer: &Committer<J, &R>,
+    pass: &mut Pass<J>,
+    first_seat: &mut Seat<J>,
+    second_seat: &mut Seat<J>,
+    query: &Query,
+) -> Result<AuditedAnswer, Fault>
+    requires opening { opening_of [] ≡ J.opening }
+    ensures ok { IfOk result (λ answer. IsAnswerAfter demo_events query.now answer) }
+    ensures err { IfErr result (λ fault. IsDemoFault fault) }
+{
+    let first = commit_first(rt, alloc, committer, first_seat)?;
+    let second = commit_second(rt, alloc, committer, second_seat)?;
+    answer_told(alloc, pass, &first, &second, query)
+}
+
+/// Takes the last of a list that is not empty.
+fn last_of<T: Drop>(items: &mut Vec<T>) -> T
+    requires { 0 < vec_len items.old }
+    ensures { vec_len items.old ≡ vec_len items.new + 1 }
+{
+    match items.pop() {
+        Some(item) => item,
+        None => unreachable!(),
+    }
+}
+
 /// Two seats of an empty store commit a batch each. A pass learns both receipts, and is asked.
 fn answer_of<J: Naming, R: Wait>(
     rt: &R,
@@ -161,22 +244,18 @@ fn answer_of<J: Naming, R: Wait>(
     ensures err { IfErr result (λ fault. IsDemoFault fault) }
 {
     let (committer, mut passes, mut seats) = store.open::<J, &R>(rt, alloc, Vec::new(alloc), 1, 2)?;
-    let (Some(mut pass), Some(mut second_seat), Some(mut first_seat)) = (
-        passes.pop(),
-        seats.pop(),
-        seats.pop(),
-    ) else {
-        unreachable!()
-    };
-    let first = commit(rt, &committer, &mut first_seat, first_batch(alloc)?)?;
-    let second = commit(rt, &committer, &mut second_seat, second_batch(alloc)?)?;
-    pass.learn(&first);
-    pass.learn(&second);
-    let answer = ask(alloc, &mut pass, query)?;
-    if first.events() == 1 && second.events() == 2 && pass.events() == 2 {
-        return Ok(answer);
-    }
-    Err(Fault::Refused(Refusal::Snapshot(SnapshotError::Unavailable)))
+    let mut pass = last_of(&mut passes);
+    let mut second_seat = last_of(&mut seats);
+    let mut first_seat = last_of(&mut seats);
+    answer_by(
+        rt,
+        alloc,
+        &committer,
+        &mut pass,
+        &mut first_seat,
+        &mut second_seat,
+        query,
+    )
 }
 
 /// The audited answer to `up{job="a"}` from 0 to 100, of a store to which two seats commit a batch

@@ -4,11 +4,11 @@ ghost use Rattle.std.specs.Prelude.{◌≡◌, List, [], None, Ok, true, IfOk, I
 ghost use Rattle.std.specs.List.{All};
 ghost use Rattle.std.specs.Thread.{IsSend, IsSync};
 ghost use Rattle.head.specs.Blocks.{opening_of, part_in};
-ghost use Rattle.head.specs.Heads.{BlockPart, world_of};
+ghost use Rattle.head.specs.Heads.{world_of};
 ghost use Rattle.head.specs.Worlds.{replayed};
 ghost use Rattle.store_folder.specs.Codes.{cause_of};
 ghost use Rattle.store_folder.specs.Finding.{IsFoundStore};
-ghost use Rattle.store_folder.specs.Holding.{HoldsStore};
+ghost use Rattle.store_folder.specs.Holding.{HoldsOrLost};
 ghost use Rattle.store_folder.specs.Starting.{GoesOn};
 ghost use Rattle.store_folder.specs.States.{started};
 ghost use Rattle.server.specs.Shifts.{AreUnder, EachServed};
@@ -195,23 +195,24 @@ fn roll_data<R: Eprint, N: Beginning, H: Folder + Drop>(
     most: u64,
     kept: StartedStore<N, H>,
 ) -> Result<StartedStore<N, H>, Fault>
-    requires { (parts : List BlockPart) × GoesOn H.shows H.kept H.sound H.moment H.left_since
-        N.first kept.keeper.events.journal.medium kept.keeper.events.journal.len
-        kept.keeper.events.journal.closed kept.journal.events.items kept.journal.head.places
-        parts kept.snapshot }
+    requires { GoesOn H.shows H.kept H.sound H.moment H.left_since N.first
+        kept.keeper.store.events.journal.medium kept.keeper.store.events.journal.len
+        kept.keeper.store.events.journal.closed kept.journal.events.items
+        kept.keeper.places.items (map part_in kept.keeper.blocks.items) kept.snapshot }
     ensures journal { IfOk result (λ x. x.journal ≡ kept.journal) }
     ensures world { IfOk result (λ x. replayed N.first x.journal.events.items
         ≡ Ok (world_of x.snapshot)) }
-    ensures held { IfOk result (λ x. HoldsStore H.shows H.kept H.sound H.moment H.left_since
-        N.first x.keeper.events.journal.medium x.keeper.events.journal.len
-        x.keeper.events.journal.closed x.journal.events.items) }
+    ensures held { IfOk result (λ x. HoldsOrLost H.shows H.kept H.sound H.moment H.left_since
+        N.first x.keeper.store.events.journal.medium x.keeper.store.events.journal.len
+        x.keeper.store.events.journal.closed x.journal.events.items x.keeper.places.items
+        (map part_in x.keeper.blocks.items)) }
     ensures err { IfErr result (IsDataFault folder.now) }
 {
     let mut kept = kept;
     if !kept.is_due(most) {
         return Ok(kept);
     }
-    match kept.roll(alloc) {
+    match kept.keeper.roll(alloc, &kept.snapshot) {
         Ok(blocks) => {
             tell_rolled(rt, folder, blocks, kept.snapshot.head().series_count());
             Ok(kept)
@@ -242,17 +243,19 @@ fn begin_data<R: Eprint, N: Beginning, H: Folder + Drop>(
     alloc: Global,
     disk: H,
     folder: &str,
+    most: u64,
 ) -> Result<StartedStore<N, H>, Fault>
     requires read { IsRead H.shows H.kept H.sound disk None }
     requires first { N.first ≡ world_of (opening_of []) }
     ensures world { IfOk result (λ x. replayed N.first x.journal.events.items
         ≡ Ok (world_of x.snapshot)) }
-    ensures held { IfOk result (λ x. HoldsStore H.shows H.kept H.sound H.moment H.left_since
-        N.first x.keeper.events.journal.medium x.keeper.events.journal.len
-        x.keeper.events.journal.closed x.journal.events.items) }
+    ensures held { IfOk result (λ x. HoldsOrLost H.shows H.kept H.sound H.moment H.left_since
+        N.first x.keeper.store.events.journal.medium x.keeper.store.events.journal.len
+        x.keeper.store.events.journal.closed x.journal.events.items x.keeper.places.items
+        (map part_in x.keeper.blocks.items)) }
     ensures err { IfErr result (IsDataFault folder.now) }
 {
-    match begin_store(alloc, disk) {
+    match begin_store(alloc, disk, most) {
         Ok(kept) => {
             tell_begun(rt, folder);
             Ok(kept)
@@ -277,12 +280,13 @@ fn resume_data<R: Eprint, N: Beginning, H: Folder + Drop>(
         ≡ world_of (started found.journal.head (map part_in found.blocks.items)) }
     ensures world { IfOk result (λ x. replayed N.first x.journal.events.items
         ≡ Ok (world_of x.snapshot)) }
-    ensures held { IfOk result (λ x. HoldsStore H.shows H.kept H.sound H.moment H.left_since
-        N.first x.keeper.events.journal.medium x.keeper.events.journal.len
-        x.keeper.events.journal.closed x.journal.events.items) }
+    ensures held { IfOk result (λ x. HoldsOrLost H.shows H.kept H.sound H.moment H.left_since
+        N.first x.keeper.store.events.journal.medium x.keeper.store.events.journal.len
+        x.keeper.store.events.journal.closed x.journal.events.items x.keeper.places.items
+        (map part_in x.keeper.blocks.items)) }
     ensures err { IfErr result (IsDataFault folder.now) }
 {
-    match resume_store(alloc, disk, found) {
+    match resume_store(alloc, disk, found, most) {
         Ok(kept) => {
             tell_recovered(rt, &kept.journal);
             roll_data(rt, alloc, folder, most, kept)
@@ -305,14 +309,15 @@ fn start_data<R: Eprint, N: Beginning, H: Folder + Drop>(
     requires first { N.first ≡ first_of found }
     ensures world { IfOk result (λ x. replayed N.first x.journal.events.items
         ≡ Ok (world_of x.snapshot)) }
-    ensures held { IfOk result (λ x. HoldsStore H.shows H.kept H.sound H.moment H.left_since
-        N.first x.keeper.events.journal.medium x.keeper.events.journal.len
-        x.keeper.events.journal.closed x.journal.events.items) }
+    ensures held { IfOk result (λ x. HoldsOrLost H.shows H.kept H.sound H.moment H.left_since
+        N.first x.keeper.store.events.journal.medium x.keeper.store.events.journal.len
+        x.keeper.store.events.journal.closed x.journal.events.items x.keeper.places.items
+        (map part_in x.keeper.blocks.items)) }
     ensures err { IfErr result (IsDataFault folder.now) }
 {
     match found {
         Some(found) => resume_data(rt, alloc, disk, found, folder, most),
-        None => begin_data(rt, alloc, disk, folder),
+        None => begin_data(rt, alloc, disk, folder, most),
     }
 }
 
@@ -336,9 +341,10 @@ fn start_watched<
     requires first { N.first ≡ first_of found }
     ensures world { IfOk result (λ x. replayed N.first x.journal.events.items
         ≡ Ok (world_of x.snapshot)) }
-    ensures held { IfOk result (λ x. HoldsStore H.shows H.kept H.sound H.moment H.left_since
-        N.first x.keeper.events.journal.medium x.keeper.events.journal.len
-        x.keeper.events.journal.closed x.journal.events.items) }
+    ensures held { IfOk result (λ x. HoldsOrLost H.shows H.kept H.sound H.moment H.left_since
+        N.first x.keeper.store.events.journal.medium x.keeper.store.events.journal.len
+        x.keeper.store.events.journal.closed x.journal.events.items x.keeper.places.items
+        (map part_in x.keeper.blocks.items)) }
     ensures err { IfErr result (IsDataFault folder.now) }
 {
     let process = Process { alloc, files };
@@ -351,9 +357,11 @@ fn start_watched<
             × IsRead H.shows H.kept H.sound disk found × (N.first ≡ first_of found) }
         ensures world { IfOk result (λ x. replayed N.first x.journal.events.items
             ≡ Ok (world_of x.snapshot)) }
-        ensures held { IfOk result (λ x. HoldsStore H.shows H.kept H.sound H.moment
-            H.left_since N.first x.keeper.events.journal.medium x.keeper.events.journal.len
-            x.keeper.events.journal.closed x.journal.events.items) }
+        ensures held { IfOk result (λ x. HoldsOrLost H.shows H.kept H.sound H.moment
+            H.left_since N.first x.keeper.store.events.journal.medium
+            x.keeper.store.events.journal.len x.keeper.store.events.journal.closed
+            x.journal.events.items x.keeper.places.items
+            (map part_in x.keeper.blocks.items)) }
         ensures err { IfErr result (IsDataFault folder.entry.now) }
     {
         let started = start_data(rt, alloc, disk, found, folder, most);
@@ -384,9 +392,10 @@ fn start_beside<
     requires first { N.first ≡ first_of found }
     ensures world { IfOk result (λ x. replayed N.first x.journal.events.items
         ≡ Ok (world_of x.snapshot)) }
-    ensures held { IfOk result (λ x. HoldsStore H.shows H.kept H.sound H.moment H.left_since
-        N.first x.keeper.events.journal.medium x.keeper.events.journal.len
-        x.keeper.events.journal.closed x.journal.events.items) }
+    ensures held { IfOk result (λ x. HoldsOrLost H.shows H.kept H.sound H.moment H.left_since
+        N.first x.keeper.store.events.journal.medium x.keeper.store.events.journal.len
+        x.keeper.store.events.journal.closed x.journal.events.items x.keeper.places.items
+        (map part_in x.keeper.blocks.items)) }
     ensures err { IfErr result (IsDataFault folder.now) }
 {
     match beside {
@@ -418,9 +427,10 @@ fn serve_kept<
 ) -> Result<Vec<Shift<'a>>, Fault>
     requires book { store.seen.book ≡ J.book }
     requires opening { kept.snapshot ≡ J.opening }
-    requires held { HoldsStore H.shows H.kept H.sound H.moment H.left_since N.first
-        kept.keeper.events.journal.medium kept.keeper.events.journal.len
-        kept.keeper.events.journal.closed J.before }
+    requires held { HoldsOrLost H.shows H.kept H.sound H.moment H.left_since N.first
+        kept.keeper.store.events.journal.medium kept.keeper.store.events.journal.len
+        kept.keeper.store.events.journal.closed J.before kept.keeper.places.items
+        (map part_in kept.keeper.blocks.items) }
     requires world { replayed N.first J.before ≡ Ok (world_of J.opening) }
     ensures ok { OnOk result (TellsPort (W.contents out.old) (W.contents out.new)) }
     ensures workers { IfOk result (λ shifts. vec_len shifts ≡ serving.entry.workers) }

@@ -9,13 +9,11 @@ use labels::{MAX_TIME, MIN_TIME, is_time};
 use postings::{Postings, Source};
 use snapshots::{Committer, Naming, Pass, Seat};
 use std::alloc::{AllocError, Global};
-use std::sync::atomic::{AtomicBool, Ordering};
 use std::sync::{Arc, Wait};
-use std::thread::sleep;
-use std::time::{Clock, Duration, Instant};
+use std::time::{Clock, Instant};
 
 /// How long a pause is, in milliseconds: the end of a server is seen after each.
-const PAUSE: u64 = 100;
+pub(crate) const PAUSE: u64 = 100;
 
 /// The greatest number of milliseconds between cuts.
 const MOST: u64 = 4_611_686_018_427_387_903;
@@ -134,7 +132,7 @@ impl<J: Naming> Cutter<J> {
     }
 
     /// Looks whether the store is to be cut, and cuts it: how many pauses there are then.
-    fn look<C: Wait + Drop, K: Keeper + Drop>(
+    pub(crate) fn look<C: Wait + Drop, K: Keeper + Drop>(
         &mut self,
         rt: &(impl Wait + Clock + Eprint),
         alloc: Global,
@@ -147,27 +145,5 @@ impl<J: Naming> Cutter<J> {
             self.cut(rt, committer, at);
         }
         pauses
-    }
-}
-
-/// Looks now and then whether the store is to be cut, and cuts it, until that is over.
-pub(crate) fn cut_while<J: Naming, C: Wait + Drop, K: Keeper + Drop, R: Wait + Clock + Eprint>(
-    rt: &R,
-    alloc: Global,
-    cutter: Cutter<J>,
-    committer: &Committer<J, C, K>,
-    over: &AtomicBool,
-) {
-    let mut cutter = cutter;
-    let mut pauses = 0u64;
-    for _ in 0..u64::MAX {
-        if over.load(Ordering::SeqCst) {
-            return;
-        }
-        if pauses == 0 {
-            pauses = cutter.look(rt, alloc, committer);
-        }
-        pauses = pauses.saturating_sub(1);
-        sleep(rt, Duration::from_millis(PAUSE));
     }
 }

@@ -34,6 +34,7 @@ mod sockets;
 mod standing;
 mod status;
 mod tally;
+mod tending;
 mod worker;
 
 pub use connections::Connections;

@@ -9,11 +9,12 @@ ghost use Rattle.snapshots.specs.Seats.{IsRoom};
 ghost use Rattle.server.specs.Shifts.{AreUnder, EachServed};
 ghost use Rattle.snapshots.specs.declared.error.OpenError.TheVariants.{BadPasses, Limit};
 
-use crate::cutter::{Cutter, cut_while};
+use crate::cutter::Cutter;
 use crate::error::ServeError;
 use crate::sockets::Sockets;
 use crate::standing::{Memory, Watch, report_open};
 use crate::tally::Tally;
+use crate::tending::{is_tended, tend_while};
 use crate::worker::{Shift, work};
 use block::Block;
 use guard::Rules;
@@ -278,8 +279,8 @@ fn run_all<
     all_served(shifts, terms.requests)
 }
 
-/// Serves as [`run_all`] does, and cuts the store beside.
-fn run_cutting<
+/// Serves as [`run_all`] does, and tends the store beside.
+fn run_tended<
     'a,
     J: Naming + Send + Sync,
     C: Wait + Drop + Send + Sync,
@@ -289,7 +290,7 @@ fn run_cutting<
     rt: &R,
     alloc: Global,
     committer: &Committer<J, C, K>,
-    cutter: Cutter<J>,
+    cutter: Option<Cutter<J>>,
     places: Vec<Place<J>>,
     listener: &TcpListener,
     rules: &'a Rules,
@@ -301,7 +302,7 @@ fn run_cutting<
 {
     let over = AtomicBool::new(false);
     let ended = &over;
-    let apart = || cut_while(rt, alloc, cutter, committer, ended);
+    let apart = || tend_while(rt, alloc, cutter, committer, ended);
     let here = || -> Result<Vec<Shift<'_>>, ServeError>
         requires { IsSync R.row }
         ensures all { IfOk result (λ shifts. vec_len shifts ≡ vec_len places) }
@@ -346,12 +347,12 @@ pub fn serve<
         spare: _,
         cutter,
     } = workers;
-    match cutter {
-        Some(cutter) => run_cutting(
-            rt, alloc, &committer, cutter, places, listener, rules, terms,
-        ),
-        None => run_all(rt, alloc, &committer, places, listener, rules, terms),
+    if !is_tended::<J, K>(cutter.as_ref()) {
+        return run_all(rt, alloc, &committer, places, listener, rules, terms);
     }
+    run_tended(
+        rt, alloc, &committer, cutter, places, listener, rules, terms,
+    )
 }
 
 /// What the workers count, and who cuts beside them, if anyone does.
@@ -370,9 +371,9 @@ fn tallies_of<J: Naming>(
     Ok(tallies)
 }
 
-/// Answers the clients of the status port, and cuts the store if there is who does, until that is
+/// Answers the clients of the status port, and tends the store if that is needed, until that is
 /// over.
-fn watch_and_cut<
+fn watch_and_tend<
     J: Naming + Send + Sync,
     C: Wait + Drop + Send + Sync,
     K: Keeper + Drop + Send,
@@ -388,12 +389,12 @@ fn watch_and_cut<
     cutter: Option<Cutter<J>>,
 ) {
     let (pass, tallies, workers) = seen;
-    let Some(cutter) = cutter else {
+    if !is_tended::<J, K>(cutter.as_ref()) {
         return report_open(rt, alloc, watch, over, pass, tallies, workers);
-    };
+    }
     let _ = join(
         rt,
-        || cut_while(rt, alloc, cutter, committer, over),
+        || tend_while(rt, alloc, cutter, committer, over),
         || report_open(rt, alloc, watch, over, pass, tallies, workers),
     );
 }
@@ -431,7 +432,7 @@ pub fn serve_watched<
     let (shared, ended) = (&committer, &over);
     let apart = ||
         requires { IsSync R.row × IsSync M.row }
-    { watch_and_cut(rt, alloc, watch, ended, seen, shared, cutter) };
+    { watch_and_tend(rt, alloc, watch, ended, seen, shared, cutter) };
     let here = || -> Result<Vec<Shift<'_>>, ServeError>
         requires { IsSync R.row }
         ensures all { IfOk result (λ shifts. vec_len shifts ≡ vec_len places) }

@@ -1,0 +1,72 @@
+//! What a server does for its store by itself: cuts, and the saving of what is kept.
+
+use crate::cutter::{Cutter, PAUSE};
+use keeper::{KeepError, Keeper};
+use snapshots::{Committer, Naming};
+use std::alloc::Global;
+use std::sync::Wait;
+use std::sync::atomic::{AtomicBool, Ordering};
+use std::thread::sleep;
+use std::time::{Clock, Duration};
+
+/// Whether a store is tended: it is cut by itself, or what is in it is kept.
+pub(crate) fn is_tended<J: Naming, K: Keeper>(cutter: Option<&Cutter<J>>) -> bool {
+    cutter.is_some() || !K::is_idle()
+}
+
+/// Why a journal was not begun anew, in words.
+fn reason_of(error: KeepError) -> &'static str {
+    match error {
+        KeepError::Memory => "no memory",
+        KeepError::TooLong => "too long",
+        KeepError::Failed => "cannot write",
+        KeepError::Closed => "cannot write, and nothing more is kept",
+    }
+}
+
+/// Has what is kept saved, if that is worth it, and tells what came of it.
+fn save<J: Naming, C: Wait + Drop, K: Keeper + Drop>(
+    rt: &(impl Wait + Eprint),
+    committer: &Committer<J, C, K>,
+) {
+    if K::is_idle() {
+        return;
+    }
+    match committer.checkpoint(rt) {
+        Ok(None) => {}
+        Ok(Some(blocks)) => {
+            let noun = if blocks == 1 { "block" } else { "blocks" };
+            let _ = eprintln!(rt; "rolled the journal: {blocks} {noun}");
+        }
+        Err(error) => {
+            let reason = reason_of(error);
+            let _ = eprintln!(rt; "did not roll the journal: {reason}");
+        }
+    }
+}
+
+/// Looks now and then whether the store is to be cut or saved, and does so, until that is over.
+pub(crate) fn tend_while<J: Naming, C: Wait + Drop, K: Keeper + Drop, R: Wait + Clock + Eprint>(
+    rt: &R,
+    alloc: Global,
+    cutter: Option<Cutter<J>>,
+    committer: &Committer<J, C, K>,
+    over: &AtomicBool,
+) {
+    let mut cutter = cutter;
+    let mut pauses = 0u64;
+    for _ in 0..u64::MAX {
+        if over.load(Ordering::SeqCst) {
+            return;
+        }
+        if pauses == 0 {
+            pauses = match &mut cutter {
+                Some(cutter) => cutter.look(rt, alloc, committer),
+                None => 1,
+            };
+        }
+        save(rt, committer);
+        pauses = pauses.saturating_sub(1);
+        sleep(rt, Duration::from_millis(PAUSE));
+    }
+}
