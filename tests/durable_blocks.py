@@ -180,7 +180,7 @@ def killed(them, looks):
                 looks.at(event.line(), OK, server.tell(event), tell=False)
                 world.apply(event)
             server.end()
-            numbers, said = [4, 5, 6, 7], [recovered(2, blocks=3)]
+            numbers, said = [1, 2, 4, 5], [recovered(2, blocks=3)]
         ended, n, late = 0, 0, 0
         while True:
             n += 1

@@ -12,6 +12,7 @@ from durable_faults import faults  # noqa: E402
 from durable_folders import folders  # noqa: E402
 from durable_house import kill_all  # noqa: E402
 from durable_rounds import rounds  # noqa: E402
+from durable_running import running  # noqa: E402
 
 
 def main():
@@ -29,6 +30,7 @@ def main():
         "events": lambda: events(querier, within("events")),
         "cuts": lambda: cuts(querier, preload, within("cuts"), block),
         "blocks": lambda: blocks(querier, preload, within("blocks")),
+        "running": lambda: running(querier, preload, within("running"), count, seed),
         "damage": lambda: damage(querier, within("damage"), seed),
         "faults": lambda: faults(querier, preload, within("faults")),
         "rounds": lambda: rounds(querier, preload, within("rounds"), count, seed),
