@@ -162,14 +162,14 @@ def failing(them, looks):
 
 def rounds(them, looks, count, seed):
     """One client writes, deletes and cuts, and the server is killed at a random moment."""
-    draw, folder, world = random.Random(f"{seed} running"), them.folder(), World()
-    clock, rolls = 0, 0
-    for _ in range(count):
+    draw, rolls = random.Random(f"{seed} running"), 0
+    for number in range(count):
+        if number % 8 == 0:
+            folder, world, clock = them.folder(), World(), 0
         server = them.start(folder, *WORDS)
         if not looks.that("it starts", server.wait(), server.told, tell=False):
             break
         until, flying = time.monotonic() + draw.uniform(0.05, 1.5), None
-        killer = signal.SIGKILL
         while flying is None:
             way = draw.random()
             if way < 0.9:
@@ -180,7 +180,7 @@ def rounds(them, looks, count, seed):
             else:
                 event = Cut(clock - 5000)
             if time.monotonic() > until:
-                server.process.send_signal(killer)
+                server.process.kill()
             try:
                 looks.at(event.line()[:60], OK, server.tell(event), tell=False)
                 world.apply(event)
