@@ -20,5 +20,5 @@ pub use contents::outputs_hold_contents;
 pub use counts::Counts;
 pub use error::OutputError;
 pub use joining::join;
-pub use output::{Extent, Output, count_samples, write_output};
+pub use output::{Extent, Output, are_within, count_samples, write_output};
 pub use tiles::{Stretch, tile};

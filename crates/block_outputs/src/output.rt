@@ -84,7 +84,9 @@ fn is_each_within(range: Range, rows: &[Row]) -> bool
     rows.iter().all(|row| is_within(range, row))
 }
 
-fn are_within(range: Range, rows: &[Row]) -> bool
+/// Whether a block of a range may have rows: at most 1,048,576, each of as many samples, whose times
+/// lie in the range.
+pub fn are_within(range: Range, rows: &[Row]) -> bool
     ensures { result ≡ are_within range rows.now }
 {
     rows.len() <= MOST && is_each_within(range, rows)

@@ -27,6 +27,8 @@ pub(crate) enum Line<'a> {
     FromPrometheus(Options<'a>, Vec<&'a str>),
     /// Blocks in this directory, out of the blocks in these directories.
     Rewrite(&'a str, Vec<&'a str>),
+    /// The blocks of the store in this folder, joined.
+    Join(&'a str),
     /// What the blocks in these directories have.
     List(Vec<&'a str>),
     /// Blocks out of a text.
@@ -86,6 +88,23 @@ read or write; 4 no memory
 
 Example: blocktool rewrite --into whole mine/0001 mine/0002";
 
+const ABOUT_JOIN: &str =
+    "DIR is the folder of `querier serve --data DIR`, which must not run. What its journal has is saved,
+and the blocks in DIR/blocks are joined into as few as may have their samples: one, or else each
+half of them by itself. Deleted samples are left out. The rows of all are in memory at once.
+
+The joined blocks are written beside those that lie there and synced; then a new journal that names
+them takes the journal's name, and the others are removed. A crash at any moment leaves the store as
+it was, or joined. A line tells what was done:
+  DIR: 63 blocks joined into 1
+
+A DIR is refused as by `querier serve`: J1 to J4, J8 to J18.
+
+Exit status: 0 done; 1 refused, with the reason on standard error; 2 a fault of the words; 3 cannot
+read, write or lock; 4 no memory
+
+Example: blocktool join kept";
+
 const ABOUT_LIST: &str =
     "For each DIR, in the order given, a line is printed, and one for each name of its labels:
   DIR: 10 series 1200 samples, 1700006400000 to 1700008185001, 0 deleted, 20841 bytes
@@ -127,6 +146,13 @@ const DIRECTORIES: Word<'static> = Word {
 
 const REWRITE: [Word<'static>; 2] = [INTO, DIRECTORIES];
 
+const JOIN: [Word<'static>; 1] = [Word {
+    name: "data",
+    value: "DIR",
+    help: "The folder of a store that no server keeps",
+    kind: Kind::Sole,
+}];
+
 const LIST: [Word<'static>; 1] = [DIRECTORIES];
 
 fn from_prometheus<'a>(alloc: Global) -> Result<Command<'a>, AllocError> {
@@ -142,6 +168,11 @@ fn from_prometheus<'a>(alloc: Global) -> Result<Command<'a>, AllocError> {
 fn rewrite<'a>(alloc: Global) -> Result<Command<'a>, AllocError> {
     let about = "Makes blocks of the samples of blocks that are not deleted";
     command_of(alloc, "rewrite", (about, ABOUT_REWRITE), REWRITE.as_slice())
+}
+
+fn join<'a>(alloc: Global) -> Result<Command<'a>, AllocError> {
+    let about = "Joins the blocks of a store that no server keeps";
+    command_of(alloc, "join", (about, ABOUT_JOIN), JOIN.as_slice())
 }
 
 fn list<'a>(alloc: Global) -> Result<Command<'a>, AllocError> {
@@ -176,6 +207,7 @@ fn add<'a>(
 enum Verb {
     FromPrometheus,
     Rewrite,
+    Join,
     List,
     FromOpenMetrics,
     FromRows,
@@ -183,9 +215,10 @@ enum Verb {
 }
 
 /// The commands, in the order of the help.
-const VERBS: [Verb; 6] = [
+const VERBS: [Verb; 7] = [
     Verb::FromPrometheus,
     Verb::Rewrite,
+    Verb::Join,
     Verb::List,
     Verb::FromOpenMetrics,
     Verb::FromRows,
@@ -196,6 +229,7 @@ fn command_for<'a>(alloc: Global, verb: Verb) -> Result<Command<'a>, AllocError>
     match verb {
         Verb::FromPrometheus => from_prometheus(alloc),
         Verb::Rewrite => rewrite(alloc),
+        Verb::Join => join(alloc),
         Verb::List => list(alloc),
         Verb::FromOpenMetrics => from_openmetrics(alloc),
         Verb::FromRows => from_rows(alloc),
@@ -290,6 +324,9 @@ fn line_in<'a>(alloc: Global, found: &ArgMatches<'a>) -> Result<Option<Line<'a>>
     }
     if let Some(found) = found.subcommand_matches("rewrite") {
         return rewrite_in(alloc, found);
+    }
+    if let Some(found) = found.subcommand_matches("join") {
+        return Ok(found.get_str("data").map(Line::Join));
     }
     if let Some(found) = found.subcommand_matches("list") {
         return Ok(Some(Line::List(texts_in(alloc, found, "directories")?)));

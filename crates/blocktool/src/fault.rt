@@ -6,12 +6,14 @@ ghost use Rattle.blocktool.specs.declared.fault.Fault.TheVariants.{Memory};
 use block::BlockError;
 use block_outputs::OutputError;
 use exposition::{Left, Refusal};
+use folder_lock::Holder;
 use imported_values::Reason;
 use prometheus_block::SourceError;
 use std::alloc::{AllocError, AllocFailed};
 use std::error::Error;
 use std::fmt;
 use std::io::{self, Write};
+use store_folder::StartError;
 
 /// Why the program ends before it is done.
 #[derive(Debug, Drop)]
@@ -22,6 +24,10 @@ pub enum Fault {
     Source(String, SourceError),
     /// A block of this project is refused: its directory, and the first check that fails.
     Block(String, BlockError),
+    /// The store in a folder is refused, and the first check that fails.
+    Store(String, StartError),
+    /// Another process has locked this folder.
+    Locked(String, Holder),
     /// The values of the block in this directory have another number of digits.
     Digits(String),
     /// A value is refused.
@@ -72,14 +78,14 @@ impl Fault {
         match self {
             Fault::Source(_, SourceError::Unreadable(_)) => 3,
             Fault::Source(_, _) | Fault::Value { .. } | Fault::TooMany(_) => 1,
-            Fault::Block(_, _) | Fault::Digits(_) => 1,
+            Fault::Block(_, _) | Fault::Store(_, _) | Fault::Digits(_) => 1,
             Fault::TooLarge | Fault::Unordered | Fault::Changed => 1,
             Fault::BadReply | Fault::NoMetric => 1,
             Fault::Text(_, _) | Fault::Other(_, _) => 1,
             Fault::Words(_) => 2,
             Fault::CannotRead(_) | Fault::CannotWrite(_) | Fault::NotEmpty(_) | Fault::NoOutput =>
                 3,
-            Fault::NoInput => 3,
+            Fault::NoInput | Fault::Locked(_, _) => 3,
             Fault::Memory => 4,
         }
     }
@@ -103,6 +109,8 @@ impl fmt::Display for Fault {
             }
             Fault::Source(directory, error) => write!(f, "refused {error} ({directory})"),
             Fault::Block(directory, error) => write!(f, "refused {error} ({directory})"),
+            Fault::Store(data, error) => write!(f, "refused {error} ({data})"),
+            Fault::Locked(data, holder) => write!(f, "cannot lock {data}: {holder}"),
             Fault::Digits(directory) => {
                 write!(f, "refused: values with other digits in {directory}")
             }

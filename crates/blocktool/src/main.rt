@@ -19,6 +19,7 @@ mod from_openmetrics;
 mod from_prometheus;
 mod from_rows;
 mod input;
+mod joining;
 mod laws;
 mod list;
 mod listed;

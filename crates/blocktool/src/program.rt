@@ -5,6 +5,7 @@ use crate::fault::Fault;
 use crate::from_openmetrics::from_openmetrics;
 use crate::from_prometheus::from_prometheus;
 use crate::from_rows::from_rows;
+use crate::joining::join;
 use crate::list::list;
 use crate::rewrite::rewrite;
 use crate::teller::Teller;
@@ -12,11 +13,10 @@ use crate::to_openmetrics::to_openmetrics;
 use clap::error::ErrorKind;
 use std::alloc::Global;
 use std::io::{self, Read, Write};
-use std::rt::Files;
 
-fn execute<R: Files + AllocGlobal + Clone + Drop, I: Read, W: Write, E: Write>(
+fn execute<I: Read, W: Write, E: Write>(
     alloc: Global,
-    rt: &R,
+    rt: &HostRuntime,
     words: &[String],
     input: &mut I,
     out: &mut W,
@@ -29,6 +29,7 @@ fn execute<R: Files + AllocGlobal + Clone + Drop, I: Read, W: Write, E: Write>(
         Ok(Line::Rewrite(into, directories)) => {
             rewrite(alloc, rt, into, directories.as_slice(), out, teller)
         }
+        Ok(Line::Join(data)) => join(alloc, rt, data, out, teller),
         Ok(Line::List(directories)) => list(alloc, rt, directories.as_slice(), out),
         Ok(Line::FromOpenMetrics(options, text_in)) => {
             from_openmetrics(alloc, rt, &options, text_in, input, out, teller)
@@ -62,9 +63,9 @@ pub struct Ending {
 /// be read or written, and 4 for want of memory; a line on the second writer says why. It also
 /// tells what is passed over and, if it is a terminal, what the program is at. The reader is
 /// standard input, which is read only if the words name no file of text.
-pub fn run<R: Files + AllocGlobal + Clone + Drop, I: Read, W: Write, E: Write>(
+pub fn run<I: Read, W: Write, E: Write>(
     alloc: Global,
-    rt: &R,
+    rt: &HostRuntime,
     words: &[String],
     input: &mut I,
     out: &mut W,

@@ -27,6 +27,8 @@ pub(crate) enum Kind {
     Format,
     /// Texts without an option, at least one.
     Many,
+    /// A text without an option, which must be given.
+    Sole,
     /// A text without an option, which may be left out.
     One,
 }
@@ -66,6 +68,7 @@ fn arg_of<'a>(alloc: Global, word: Word<'a>) -> Arg<'a> {
         Kind::Stale => choice(alloc, word, STALES.as_slice()),
         Kind::Format => choice(alloc, word, FORMATS.as_slice()),
         Kind::Many => positional(alloc, word).num_args(1..).required(true),
+        Kind::Sole => positional(alloc, word).required(true),
         Kind::One => positional(alloc, word),
     }
 }

@@ -10,6 +10,7 @@ use Rattle.matchers.specs.declared.error.MatcherError.{MatcherError}
 use Rattle.matchers.specs.declared.error.MatcherError.TheVariants as matcher
 use Rattle.matchers.specs.declared.error.SelectorError.{SelectorError}
 use Rattle.matchers.specs.declared.error.SelectorError.TheVariants as selector
+use Rattle.folder_lock.specs.Holders.{holder_text}
 use Rattle.head.specs.Codes.{commit_code}
 use Rattle.head.specs.declared.error.CommitError.{CommitError}
 use Rattle.head.specs.declared.error.CommitError.TheVariants as commit
@@ -34,8 +35,6 @@ use Rattle.commands.specs.declared.fault.Fault.TheVariants.{Words, Refused, Cann
 use Rattle.commands.specs.declared.fault.Fault.TheVariants.{CannotWriteAt, Locked}
 use Rattle.commands.specs.declared.fault.Fault.TheVariants.{CannotListen, Memory}
 use Rattle.commands.specs.declared.fault.Fault.TheVariants.{NoListener, NoThread}
-use Rattle.commands.specs.declared.fault.Holder.{Holder}
-use Rattle.commands.specs.declared.fault.Holder.TheVariants.{Process, Another}
 use Rattle.commands.specs.declared.fault.Refusal.{Refusal}
 use Rattle.commands.specs.declared.fault.Refusal.TheVariants.{Labels, Matcher, Selector, Query}
 use Rattle.commands.specs.declared.fault.Refusal.TheVariants.{Commit, Block, Open, Snapshot}
@@ -109,11 +108,6 @@ status_of (CannotListen port) = 3
 status_of NoListener = 3
 status_of NoThread = 3
 status_of Memory = 4
-
--- who has locked a folder, for people
-abbrev pub holder_text : Holder → List ℕ
-holder_text (Process number) = codes "process " ++ decimal number ++ codes " has it"
-holder_text Another = codes "another process has it (see the file lock there)"
 
 -- what is told of the fault, for people; the text of the words is `clap`'s own
 abbrev pub fault_text : Fault → Option (List ℕ)

@@ -6,6 +6,7 @@ ghost use Rattle.commands.specs.Faults.{refusal_code, refusal_place, status_of, 
 
 use answers::AskError;
 use block::BlockError;
+use folder_lock::Holder;
 use head::CommitError;
 use labels::LabelError;
 use matchers::{MatcherError, QueryError, SelectorError};
@@ -91,29 +92,6 @@ impl fmt::Display for Refusal {
 }
 
 impl Error for Refusal {}
-
-/// Who has locked a folder.
-#[derive(Clone, Copy, Debug, PartialEq, Eq, Drop)]
-pub enum Holder {
-    /// The process with this number.
-    Process(u64),
-    /// A process whose number is not known.
-    Another,
-}
-
-impl fmt::Display for Holder {
-    ghost use Rattle.std.specs.Prelude.{Some};
-    ghost use Rattle.commands.specs.Faults.{holder_text};
-
-    ghost output = { λ holder. Some (holder_text holder) };
-
-    fn fmt<W: fmt::Write>(&self, f: &mut fmt::Formatter<W>) -> fmt::Result {
-        match self {
-            Holder::Process(number) => write!(f, "process {number} has it"),
-            Holder::Another => write!(f, "another process has it (see the file lock there)"),
-        }
-    }
-}
 
 /// Why the program ends before it is done.
 #[derive(Debug, Drop)]

@@ -52,7 +52,7 @@ mod writing;
 pub use check::Outcome;
 pub use command::{Line, Reading, Selection, Serving, read_line};
 pub use demo::{demo_answer, first_batch, query, second_batch};
-pub use fault::{Fault, Holder, Refusal};
+pub use fault::{Fault, Refusal};
 pub use files::{BlockFiles, FileName, ReadError, ReadFiles, read_block};
 pub use judgement::{Judgement, judge, open};
 pub use opening::{open_blocks, open_store};

@@ -4,21 +4,11 @@ ghost use Rattle.std.specs.Prelude.{◌≡◌, ◌++◌, codes, decimal, string_
 ghost use Rattle.commands.specs.Keeping.{path_in, IsFolderFault};
 ghost use Rattle.commands.specs.Keeping.{IsWriteFault, IsReadFault};
 
-use crate::fault::{Fault, Holder};
-use crate::process::number_in;
+use crate::fault::Fault;
+use folder_lock::{LockError, lock};
 use std::alloc::{AllocError, Global};
-use std::fs::{self, File, OpenOptions, TryLockError};
-use std::io::{self, ErrorKind, Read, Write};
-use std::process;
-
-/// Why a folder is not locked.
-#[derive(Clone, Copy, Debug, PartialEq, Eq, Drop)]
-enum LockError {
-    /// Another process has it.
-    Held(Holder),
-    /// The lock file can't be opened.
-    Failed,
-}
+use std::fs::{self, File};
+use std::io::{self, ErrorKind};
 
 pub(crate) fn path_in(alloc: Global, folder: &str, name: &str) -> Result<String, AllocError>
     ensures { IfOk result (λ path. string_bytes path ≡ path_in folder.now name.now) }
@@ -83,53 +73,12 @@ fn make_folder(host: &HostRuntime, folder: &str) -> io::Result<()> {
     }
 }
 
-/// The process that a lock file names, if it names one.
-fn holder_in(file: &File) -> Holder {
-    let mut text = [0u8; 20];
-    let mut reader = file;
-    if reader.read(&mut text).is_err() {
-        return Holder::Another;
-    }
-    match number_in(&text) {
-        0 => Holder::Another,
-        number => Holder::Process(number),
-    }
-}
-
-/// Names this process in a lock file, for those that find it locked.
-fn name_holder(host: &HostRuntime, file: &mut File) -> io::Result<()> {
-    let number = process::id(host.process());
-    file.set_len(0)?;
-    writeln!(file, "{number}")
-}
-
-fn open_lock(host: &HostRuntime, path: &str) -> io::Result<File> {
-    let mut how = OpenOptions::new();
-    how.read(true).write(true).create(true);
-    how.open(host, path)
-}
-
-/// Locks a file, which is made where none stands, until what is given back is dropped.
-fn lock_file(host: &HostRuntime, path: &str) -> Result<File, LockError> {
-    let Ok(mut file) = open_lock(host, path) else {
-        return Err(LockError::Failed);
-    };
-    match file.try_lock() {
-        Ok(()) => {
-            let _ = name_holder(host, &mut file);
-            Ok(file)
-        }
-        Err(TryLockError::WouldBlock) => Err(LockError::Held(holder_in(&file))),
-        Err(TryLockError::Error(_)) => Err(LockError::Failed),
-    }
-}
-
 /// Locks a folder by the lock file in it.
 fn lock_folder(alloc: Global, host: &HostRuntime, folder: &str) -> Result<File, Fault>
     ensures { IfErr result (IsFolderFault folder.now) }
 {
     let path = path_in(alloc, folder, "lock")?;
-    match lock_file(host, path.as_str()) {
+    match lock(host, path.as_str()) {
         Ok(file) => Ok(file),
         Err(LockError::Held(holder)) => Err(Fault::Locked(folder.to_string(alloc)?, holder)),
         Err(LockError::Failed) => Err(cannot_write(alloc, path.as_str())),

@@ -15,7 +15,7 @@ pub(crate) struct Process<'a, F> {
 }
 
 /// The number that begins a text, of at most 15 digits; 0 where none does.
-pub(crate) fn number_in(text: &[u8]) -> u64 {
+fn number_in(text: &[u8]) -> u64 {
     let mut number = 0u64;
     for digit in text
         .iter()

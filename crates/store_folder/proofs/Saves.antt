@@ -30,7 +30,7 @@ rewritten_like a b w = record {
   points = sym (ap points_of w.rows ∙ same_points (rows_in a.part));
 }
 
-each_like : (a b : List BlockPart) → AreRewritten a b → AreLike a b
+pub each_like : (a b : List BlockPart) → AreRewritten a b → AreLike a b
 each_like [] [] w = tt
 each_like [] (y ∷ b) w = absurd w
 each_like (x ∷ a) [] w = absurd w
@@ -42,7 +42,7 @@ like_joined [] (y ∷ b) c d first second = absurd first
 like_joined (x ∷ a) [] c d first second = absurd first
 like_joined (x ∷ a) (y ∷ b) c d first second = (first.0, like_joined a b c d first.1 second)
 
-have_same : (a b : List BlockPart) → AreLike a b → HaveSame a b
+pub have_same : (a b : List BlockPart) → AreLike a b → HaveSame a b
 have_same [] [] l = tt
 have_same [] (y ∷ b) l = absurd l
 have_same (x ∷ a) [] l = absurd l

@@ -24,7 +24,7 @@ use keeper::KeepError;
 use std::alloc::{AllocError, Global};
 
 /// A number above those of the folders of these places.
-fn next_number(places: &[BlockPlace]) -> u64 {
+pub fn next_number(places: &[BlockPlace]) -> u64 {
     let mut next = 1u64;
     for place in places {
         next = next.max(place.folder().saturating_add(1));

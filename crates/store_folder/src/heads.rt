@@ -11,7 +11,7 @@ use std::alloc::Global;
 
 /// The text of a journal of this head and no events. `J5` if what is saved of a series is longer
 /// than 2^26 bytes.
-pub(crate) fn head_journal(alloc: Global, head: &HeadRecord) -> Result<Vec<u8>, JournalError>
+pub fn head_journal(alloc: Global, head: &HeadRecord) -> Result<Vec<u8>, JournalError>
     ensures text { IfOk result (λ text.
         IsJournalText (contents_with (head_texts head.now) []) text.items) }
     ensures saved { OnOk result (IsSaved head.now) }

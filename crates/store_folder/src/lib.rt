@@ -38,15 +38,19 @@ mod terms;
 mod writing;
 
 pub use blocks::{BlockBytes, open_block, read_blocks};
+pub use checkpoint::next_number;
 pub use error::{
     BlockFault, ReadError, RollFault, StartCause, StartError, UnreadBlock, WriteFault,
 };
+pub use heads::head_journal;
 pub use journals::{FoundJournal, read_journal};
 pub use keeping::StoreKeeper;
 pub use kinds::has_cut;
 pub use laws::{one_world, rewritten_blocks};
+pub use litter::sweep_apart;
 pub use plain::{begins_plain, read_plain};
 pub use reading::{FoundStore, open_store, read_store};
+pub use saving::write_saved;
 pub use starting::{StartedStore, begin_store, resume_store};
 pub use store_journal::{Beginning, StoreJournal};
 pub use terms::RollTerms;

@@ -146,8 +146,9 @@ ghost use Rattle.std.specs.Prelude.{true};
 ghost use Rattle.data_folder.specs.Sweeping.{KeepsStore};
 ghost use Rattle.store_folder.specs.Sweeps.{names_at};
 
-/// The same in a folder. The journal stays, and so do the files of blocks at these places.
-fn sweep_apart<F: Folder>(
+/// Removes what [`StoreJournal::sweep_blocks`] does from a folder of which no journal is open. The
+/// journal stays, and so do the files of blocks at these places.
+pub fn sweep_apart<F: Folder>(
     alloc: Global,
     folder: &mut F,
     places: &[BlockPlace],

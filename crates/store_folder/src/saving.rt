@@ -40,7 +40,7 @@ fn places_of(
 /// Writes the blocks of a snapshot but the first so many, in folders of the numbers from `next` on,
 /// and gives what is saved of it. The files of blocks at the held places stay, of which the first
 /// so many are those of the snapshot's first blocks.
-fn write_saved<F: Folder>(
+pub fn write_saved<F: Folder>(
     alloc: Global,
     folder: &mut F,
     snapshot: &Snapshot,

@@ -142,7 +142,7 @@ impl<N: Beginning, F: Folder + Drop> StoreJournal<N, F> {
 
     /// Goes on after the events of a journal, whose torn end is cut off. An `Err` gives the folder
     /// back where that fails.
-    fn resume(folder: F, journal: &FoundJournal) -> Result<StoreJournal<N, F>, (MediumError, F)>
+    pub fn resume(folder: F, journal: &FoundJournal) -> Result<StoreJournal<N, F>, (MediumError, F)>
         requires found { (parts : List BlockPart)
             × IsFoundStore F.shows F.kept journal.now parts folder }
         requires sound { F.sound folder ≡ true }

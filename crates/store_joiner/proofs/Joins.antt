@@ -1,0 +1,274 @@
+-- A store that begins with its blocks joined.
+use Rattle.std.proofs.Common.{◌≡◌, ◌⊎◌, inl, inr, ⊎_elim, ℕ, ◌≤◌, Bool, true, false, List, [], ◌∷◌}
+use Rattle.std.proofs.Common.{◌++◌, ◌+◌, zero, suc, Option, Some, Result, Ok, refl, sym, ap, subst, ◌∙◌}
+use Rattle.std.proofs.Common.{arith}
+use Rattle.std.specs.Prelude.{Vec, length}
+use Rattle.std.specs.List.{AllByRecursion}
+use Rattle.data_folder.specs.declared.journal_file.JournalFile.{JournalFile}
+use Rattle.data_folder.specs.Folders.{Left, LeavesOnly, MayLeaveOf}
+use Rattle.data_folder.specs.Rolls as rolls
+use Rattle.data_folder.specs.States.{AreThere, IsApart, IsOldOrNew, Named}
+use Rattle.data_folder.specs.Sweeping.{KeepsStore}
+use Rattle.event_journal.specs.Holding.{contents_with}
+use Rattle.head.specs.Heads.{BlockPart, HeadSeries, SnapshotParts, head_part, newest_in, world_of}
+use Rattle.head.specs.Refusals.{Refusal}
+use Rattle.head.specs.Worlds.{Event, World, replayed}
+use Rattle.head_record.specs.Saved.{Place, Saved, save}
+use Rattle.head_record.specs.Spelling.{head_texts, IsSaved}
+use Rattle.journal.specs.Group.{IsJournalText}
+use Rattle.keeper.specs.Finding.{FindsOnly, IsOfAll}
+use Rattle.labels.specs.Contents.{Content}
+use Rattle.labels.specs.Parts.{Part, laid_over, over, rows_in}
+use Rattle.labels.specs.Rows.{points_of}
+use Rattle.store_folder.specs.Holding.{AreAt, FoundSince, HoldsAfterHead, HoldsAt}
+use Rattle.store_folder.specs.KeeperLaws.{settled_found}
+use Rattle.store_folder.specs.Rewriting.{same_world}
+use Rattle.store_folder.specs.Starting.{StartFinds}
+use Rattle.store_folder.specs.StoreLaws.{found_store}
+use Rattle.store_folder.specs.States.{StartsWith, started}
+use Rattle.store_folder.specs.Sweeps.{names_at}
+use Rattle.store_folder.specs.Writing.{AreRewritten, places_from}
+use Rattle.store_folder.proofs.Rolls.{after_head, apart_both, blocks_rolled, files_at, files_of_both}
+use Rattle.store_folder.proofs.Rolls.{keeps_now, lie_at, parted, same_head, stands_in, there_both}
+use Rattle.store_folder.proofs.Saves.{each_like, have_same}
+use Rattle.store_folder.proofs.Swept.{holds_swept, swept_finds}
+use Rattle.store_joiner.specs.Finds.{FindsEither, FindsNow}
+use Rattle.store_joiner.specs.Joins.{HoldSame, parts_in, with_blocks}
+
+-- the world of no events is the first
+
+abbrev fine : World → Result World Refusal
+fine w = Ok w
+
+is_first : (first w : World) → IsOfAll first [] w → w ≡ first
+is_first first w e = cc
+
+-- the world of joined blocks
+
+over_joined : (c : Content) (xs : List BlockPart) (rest : List Part)
+    → over c (parts_in xs ++ rest) ≡ over (over c (parts_in xs)) rest
+over_joined c [] rest = refl
+over_joined c (x ∷ xs) rest = over_joined (laid_over (points_of (rows_in x.part)) c) xs rest
+
+abbrev world_from : Content → SnapshotParts → ℕ → World
+world_from content s n =
+    record { content = content; newest = newest_in s.head; floor = s.floor; blocks = n }
+
+pub joined_world : (s : SnapshotParts) (blocks : List BlockPart) → HoldSame s.blocks blocks
+    → world_of (record s { blocks = blocks }) ≡ with_blocks (length blocks) (world_of s)
+unfolding world_of
+joined_world s blocks same =
+    ap (λ (c : Content). world_from c s (length blocks))
+    (over_joined [] blocks (head_part s.head ∷ [])
+    ∙ ap (λ (c : Content). over c (head_part s.head ∷ [])) (sym (same [] tt))
+    ∙ sym (over_joined [] s.blocks (head_part s.head ∷ [])))
+
+-- how many places there are
+pub counted : (first n : ℕ) → length (places_from first n) ≡ n
+counted first zero = refl
+counted first (suc n) = ap suc (counted (first + 1) n)
+
+-- what a start finds, one call after another
+
+module _ {F : Type 0} (moment : F → ℕ) (left_since : F → ℕ → Left → Type 0) where
+  abbrev pub Finds : F → F → (World → Type 0) → Type 0
+  Finds old new P =
+      FindsOnly moment (λ (f : F) (t : ℕ) (v : World). FoundSince left_since f t v) old new P
+
+  pub finds_after : (a b c : F) (P : World → Type 0) → Finds a b P → Finds b c P → Finds a c P
+  finds_after a b c P one two = record {
+    later = omega (arith, one.later, two.later);
+    each = λ w had. ⊎_elim (λ past. one.each w past) (λ now. now)
+        (two.before (moment a) w one.later had);
+    before = λ t w le had. ⊎_elim (λ past. one.before t w le past) (λ now. inr now)
+        (two.before t w (omega (arith, le, one.later)) had);
+  }
+
+  -- where a start finds the first world
+  pub finds_first : (old new : F) (first : World) (n : ℕ)
+      → StartFinds moment left_since old new first []
+      → FindsEither moment left_since old new first n
+  finds_first old new first n f = record {
+    later = f.later;
+    each = λ w had. inl (is_first first w (f.each w had));
+    before = λ t w le had. ⊎_elim (λ past. inl past) (λ now. inr (inl (is_first first w now)))
+        (f.before t w le had);
+  }
+
+  -- where it finds the other
+  pub finds_joined : (old new : F) (first : World) (n : ℕ)
+      → StartFinds moment left_since old new (with_blocks n first) []
+      → FindsEither moment left_since old new first n
+  finds_joined old new first n f = record {
+    later = f.later;
+    each = λ w had. inr (is_first (with_blocks n first) w (f.each w had));
+    before = λ t w le had. ⊎_elim (λ past. inl past)
+        (λ now. inr (inr (is_first (with_blocks n first) w now))) (f.before t w le had);
+  }
+
+module _ {F : Type 0} (shows : F → List ℕ → Option (List ℕ) → Type 0)
+    (kept : F → List ℕ → ℕ → Type 0) (sound : F → Bool) (moment : F → ℕ)
+    (left_since : F → ℕ → Left → Type 0)
+    (only_now : (f : F) (name : List ℕ) (x : Option (List ℕ)) (n : ℕ) (left : Left) → shows f name x
+    → kept f name n → left_since f (moment f) left → MayLeaveOf n x (left name))
+    (earlier : (f : F) (t u : ℕ) (left : Left) → t ≤ u → u ≤ moment f → left_since f u left
+    → left_since f t left) where
+  abbrev At : World → JournalFile F → ℕ → Bool → List Place → List BlockPart → Type 0
+  At first m len closed places parts =
+      HoldsAt shows kept sound moment left_since first m len closed [] places parts
+
+  -- a store at rest
+  pub now_at : (first : World) (m : JournalFile F) (len : ℕ) (closed : Bool) (places : List Place)
+      (parts : List BlockPart) → At first m len closed places parts → closed ≡ false
+      → FindsNow moment left_since m.folder first
+  now_at first m len closed places parts at opened w had =
+      is_first first w
+      (settled_found shows kept sound moment left_since only_now first m len closed [] w (inl at.0)
+      opened had)
+
+  -- the head that is to be
+  pub record IsNext (first next : World) (m : JournalFile F) (saved : Saved)
+      (made : List BlockPart) : Type 0 where
+    pub head : IsSaved saved
+    pub world : next ≡ world_of (started saved made)
+    pub blocks : AreAt shows kept saved.places made m.folder
+
+  finds_one : (first next w : World) (old : JournalFile F) (len : ℕ) (was : Bool) (n : ℕ)
+      (saved : Saved) (made : List BlockPart) (left : Left)
+      (h : HoldsAfterHead shows kept sound moment left_since first old len was [])
+      (m : IsNext first next old saved made) → next ≡ with_blocks n first
+      → IsOldOrNew
+      (files_of_both shows kept h.saved.places saved.places h.parts made old.folder h.blocks m.blocks)
+      (contents_with (head_texts h.saved) h.late) (contents_with (head_texts saved) []) left
+      → StartsWith left w → (w ≡ first) ⊎ (w ≡ with_blocks n first)
+  finds_one first next w old len was n saved made left h m named is found =
+      let split =
+      parted (λ (file : Named). left file.0 ≡ Some file.1)
+      (files_at shows kept h.saved.places h.parts old.folder h.blocks)
+      (files_at shows kept saved.places made old.folder m.blocks) is.files in
+      ⊎_elim
+      (λ had. inl (is_first first w (subst (λ (x : List Event). IsOfAll first x w) (sym h.all)
+      (found_store first w h.saved h.parts h.early h.late had.0 left h.head h.begins
+      (lie_at shows kept h.saved.places h.parts old.folder left h.blocks split.0) had.1
+      (stands_in h.saved h.late left had h.journal.each) found))))
+      (λ has. inr (is_first next w
+      (found_store next w saved made [] [] has.0 left m.head (ap fine m.world)
+      (lie_at shows kept saved.places made old.folder left m.blocks split.1) has.1
+      (stands_in saved [] left has tt) found) ∙ named))
+      is.journal
+
+  -- while the journal is begun anew
+  pub rolling_finds : (first next : World) (old new : JournalFile F) (len : ℕ) (was : Bool) (n : ℕ)
+      (saved : Saved) (made : List BlockPart)
+      (h : HoldsAfterHead shows kept sound moment left_since first old len was [])
+      (m : IsNext first next old saved made) → next ≡ with_blocks n first
+      → LeavesOnly moment left_since old.folder new.folder (IsOldOrNew
+      (files_of_both shows kept h.saved.places saved.places h.parts made old.folder h.blocks m.blocks)
+      (contents_with (head_texts h.saved) h.late) (contents_with (head_texts saved) []))
+      → FindsEither moment left_since old.folder new.folder first n
+  rolling_finds first next old new len was n saved made h m named leaves = record {
+    later = leaves.later;
+    each = λ w had. finds_one first next w old len was n saved made had.0 h m named
+        (leaves.each had.0 had.1) had.2;
+    before = λ t w le had. ⊎_elim (λ past. inl (had.0, past, had.2))
+        (λ now. inr (finds_one first next w old len was n saved made had.0 h m named now had.2))
+        (leaves.before t had.0 le had.1);
+  }
+
+  -- then the store is the other
+  pub begun_anew : (first next : World) (old new : JournalFile F) (new_len : ℕ)
+      (saved : Saved) (made : List BlockPart) → IsNext first next old saved made
+      → rolls.Keeps shows kept sound (contents_with (head_texts saved) []) new.folder new_len
+      → ((files : List Named) → AllByRecursion IsApart files → AreThere shows kept files old.folder
+      → AreThere shows kept files new.folder)
+      → At next new new_len false saved.places made
+  begun_anew first next old new new_len saved made m k stay = (
+    after_head shows kept sound moment left_since only_now earlier next new new_len false saved made
+        [] [] [] refl m.head tt (ap fine m.world) k
+        (blocks_rolled shows kept saved.places made old.folder new.folder stay m.blocks),
+    refl,
+    refl,
+  )
+
+  abbrev Stays : List Place → F → F → Type 0
+  Stays places old new = KeepsStore shows kept sound moment left_since (names_at places) old new
+
+  -- what was written beside a store leaves it as it was
+  pub still_at : (first : World) (old : JournalFile F) (new : F) (len : ℕ) (closed : Bool)
+      (places : List Place) (parts : List BlockPart) → At first old len closed places parts
+      → closed ≡ false → Stays places old.folder new
+      → At first (record { folder = new }) len closed places parts
+  still_at first old new len closed places parts at opened stays =
+      holds_swept shows kept sound moment left_since only_now earlier first old (record { folder = new })
+      len closed [] places parts (names_at places) at opened refl stays
+
+  pub meanwhile : (first : World) (old : JournalFile F) (new : F) (len : ℕ) (closed : Bool)
+      (places : List Place) (parts : List BlockPart) → At first old len closed places parts
+      → closed ≡ false → Stays places old.folder new
+      → StartFinds moment left_since old.folder new first []
+  meanwhile first old new len closed places parts at opened stays =
+      swept_finds shows kept sound moment left_since only_now earlier first old (record { folder = new })
+      len closed [] places parts (names_at places) at opened refl stays
+
+  -- what was written of a snapshot is the head that is to be
+  pub next_head : (first : World) (m : JournalFile F) (s : SnapshotParts) (saved : Saved)
+      (places : List Place) (made : List BlockPart)
+      → world_of s ≡ with_blocks (length s.blocks) first → saved ≡ save s places → IsSaved saved
+      → AreRewritten s.blocks made → AreAt shows kept places made m.folder
+      → IsNext first (with_blocks (length s.blocks) first) m saved made
+  next_head first m s saved places made joined is head anew at = record {
+    head = head;
+    world = sym joined
+        ∙ same_world s saved made (have_same s.blocks made (each_like s.blocks made anew))
+        (ap (λ (x : Saved). x.head) (sym is)) (ap (λ (x : Saved). x.floor) (sym is));
+    blocks = subst (λ (ps : List Place). AreAt shows kept ps made m.folder)
+        (ap (λ (x : Saved). x.places) (sym is)) at;
+  }
+
+  -- what a crash leaves while the journal is begun anew
+  abbrev RollLeaves : F → F → ℕ → List ℕ → Type 0
+  RollLeaves old new len text =
+      (before after : List (List ℕ)) (files : List Named)
+      → rolls.Keeps shows kept sound before old len → IsJournalText after text
+      → AllByRecursion IsApart files → AreThere shows kept files old
+      → LeavesOnly moment left_since old new (IsOldOrNew files before after)
+
+  pub roll_either : (first : World) (old new : F) (len : ℕ) (closed : Bool) (n : ℕ)
+      (places : List Place) (parts : List BlockPart) (saved : Saved) (made : List BlockPart)
+      (text : List ℕ) → At first (record { folder = old }) len closed places parts → closed ≡ false
+      → IsNext first (with_blocks n first) (record { folder = old }) saved made
+      → IsJournalText (contents_with (head_texts saved) []) text → RollLeaves old new len text
+      → FindsEither moment left_since old new first n
+  roll_either first old new len closed n places parts saved made text at opened m whole leaves =
+      let h : HoldsAfterHead shows kept sound moment left_since first (record { folder = old }) len
+      closed [] = at.0 in
+      rolling_finds first (with_blocks n first) (record { folder = old }) (record { folder = new })
+      len closed n saved made h m refl
+      (leaves (contents_with (head_texts h.saved) h.late) (contents_with (head_texts saved) [])
+      (files_of_both shows kept h.saved.places saved.places h.parts made old h.blocks m.blocks)
+      (keeps_now shows kept sound moment left_since only_now earlier first (record { folder = old }) len
+      closed [] h opened)
+      whole
+      (apart_both shows kept h.saved.places saved.places h.parts made old h.blocks m.blocks)
+      (there_both shows kept h.saved.places saved.places h.parts made old h.blocks m.blocks))
+
+  -- what the journal has before
+  pub keeps_before : (first : World) (old : F) (len : ℕ) (closed : Bool) (places : List Place)
+      (parts : List BlockPart) (at : At first (record { folder = old }) len closed places parts)
+      → closed ≡ false
+      → rolls.Keeps shows kept sound (contents_with (head_texts at.0.saved) at.0.late) old len
+  keeps_before first old len closed places parts at opened =
+      keeps_now shows kept sound moment left_since only_now earlier first (record { folder = old }) len
+      closed [] at.0 opened
+
+  -- where it failed and goes on
+  pub as_before : (first : World) (old new : F) (len new_len : ℕ) (was closed : Bool)
+      (places : List Place) (parts : List BlockPart)
+      (at : At first (record { folder = old }) len was places parts)
+      → rolls.Keeps shows kept sound (contents_with (head_texts at.0.saved) at.0.late) new new_len
+      → ((files : List Named) → AllByRecursion IsApart files → AreThere shows kept files old
+      → AreThere shows kept files new)
+      → At first (record { folder = new }) new_len closed places parts
+  as_before first old new len new_len was closed places parts at k stay =
+      same_head shows kept sound moment left_since only_now earlier first (record { folder = old })
+      (record { folder = new }) len new_len was closed [] places parts at k stay

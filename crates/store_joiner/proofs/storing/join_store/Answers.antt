@@ -1,0 +1,259 @@
+use Rattle.std.proofs.Common.{◌≡◌, ◌++◌, ◌-◌, arith, ℕ, List, [], ap, length, refl, subst, sym, take, true, false, ◌∙◌}
+use Rattle.event_journal.specs.Holding.{contents_with}
+use Rattle.head_record.specs.Saved.{Place, Saved}
+use Rattle.head_record.specs.Spelling.{head_texts}
+use Rattle.journal.specs.Group.{IsJournalText}
+use Rattle.data_folder.specs.Sweeping.{KeepsStore}
+use Rattle.store_folder.specs.Sweeps.{names_at}
+use Rattle.store_folder.specs.Writing.{places_from}
+use Rattle.store_folder.proofs.Rolls.{goes_on}
+use Rattle.store_joiner.specs.Joins.{with_blocks}
+use Rattle.store_joiner.proofs.Joins.{as_before, begun_anew, counted, finds_after, finds_first}
+use Rattle.store_joiner.proofs.Joins.{finds_joined}
+use Rattle.store_joiner.proofs.Joins.{keeps_before, meanwhile, next_head, now_at, roll_either, still_at}
+use Rattle.store_joiner.proofs.storing.join_store.Goals as goal
+
+pub write_saved-requires-clause-sound : goal.write_saved-requires-clause-sound
+write_saved-requires-clause-sound g c =
+    (c.requires.held.1.0.journal.keeps c.requires.open).has.is_sound
+
+-- where the blocks are not written
+
+pub returns-in-Err-clause-any_moment : goal.returns-in-Err-clause-any_moment
+returns-in-Err-clause-any_moment g c =
+    let f = g.F.Folder in
+    let met = g.met.F.Folder in
+    let first = g.N.Beginning.first in
+    let old = c.args.store.events.journal in
+    let held = c.requires.held in
+    finds_first f.moment f.left_since old.medium.folder c.write_saved.new.folder first
+    (length c.args.joined.now.blocks)
+    (meanwhile f.shows f.kept f.sound f.moment f.left_since met.only_now met.earlier first old.medium
+    c.write_saved.new.folder old.len old.closed c.args.held.now held.0 held.1 c.requires.open
+    c.write_saved.ensures.stays)
+
+pub returns-in-Err-clause-stays : goal.returns-in-Err-clause-stays
+returns-in-Err-clause-stays g c unless =
+    let f = g.F.Folder in
+    let met = g.met.F.Folder in
+    let first = g.N.Beginning.first in
+    let old = c.args.store.events.journal in
+    let held = c.requires.held in
+    now_at f.shows f.kept f.sound f.moment f.left_since met.only_now met.earlier first
+    (record { folder = c.write_saved.new.folder }) old.len old.closed c.args.held.now held.0
+    (still_at f.shows f.kept f.sound f.moment f.left_since met.only_now met.earlier first old.medium
+    c.write_saved.new.folder old.len old.closed c.args.held.now held.0 held.1 c.requires.open
+    c.write_saved.ensures.stays) c.requires.open
+
+pub returns-in_default-clause-any_moment : goal.returns-in_default-clause-any_moment
+returns-in_default-clause-any_moment g c =
+    let f = g.F.Folder in
+    let met = g.met.F.Folder in
+    let first = g.N.Beginning.first in
+    let old = c.args.store.events.journal in
+    let held = c.requires.held in
+    finds_first f.moment f.left_since old.medium.folder c.write_saved.new.folder first
+    (length c.args.joined.now.blocks)
+    (meanwhile f.shows f.kept f.sound f.moment f.left_since met.only_now met.earlier first old.medium
+    c.write_saved.new.folder old.len old.closed c.args.held.now held.0 held.1 c.requires.open
+    c.write_saved.ensures.stays)
+
+pub returns-in_default-clause-stays : goal.returns-in_default-clause-stays
+returns-in_default-clause-stays g c unless =
+    let f = g.F.Folder in
+    let met = g.met.F.Folder in
+    let first = g.N.Beginning.first in
+    let old = c.args.store.events.journal in
+    let held = c.requires.held in
+    now_at f.shows f.kept f.sound f.moment f.left_since met.only_now met.earlier first
+    (record { folder = c.write_saved.new.folder }) old.len old.closed c.args.held.now held.0
+    (still_at f.shows f.kept f.sound f.moment f.left_since met.only_now met.earlier first old.medium
+    c.write_saved.new.folder old.len old.closed c.args.held.now held.0 held.1 c.requires.open
+    c.write_saved.ensures.stays) c.requires.open
+
+pub returns-in-Err-head_journal-clause-any_moment : goal.returns-in-Err-head_journal-clause-any_moment
+returns-in-Err-head_journal-clause-any_moment g c =
+    let f = g.F.Folder in
+    let met = g.met.F.Folder in
+    let first = g.N.Beginning.first in
+    let old = c.args.store.events.journal in
+    let held = c.requires.held in
+    finds_first f.moment f.left_since old.medium.folder c.write_saved.new.folder first
+    (length c.args.joined.now.blocks)
+    (meanwhile f.shows f.kept f.sound f.moment f.left_since met.only_now met.earlier first old.medium
+    c.write_saved.new.folder old.len old.closed c.args.held.now held.0 held.1 c.requires.open
+    c.write_saved.ensures.stays)
+
+pub returns-in-Err-head_journal-clause-stays : goal.returns-in-Err-head_journal-clause-stays
+returns-in-Err-head_journal-clause-stays g c unless =
+    let f = g.F.Folder in
+    let met = g.met.F.Folder in
+    let first = g.N.Beginning.first in
+    let old = c.args.store.events.journal in
+    let held = c.requires.held in
+    now_at f.shows f.kept f.sound f.moment f.left_since met.only_now met.earlier first
+    (record { folder = c.write_saved.new.folder }) old.len old.closed c.args.held.now held.0
+    (still_at f.shows f.kept f.sound f.moment f.left_since met.only_now met.earlier first old.medium
+    c.write_saved.new.folder old.len old.closed c.args.held.now held.0 held.1 c.requires.open
+    c.write_saved.ensures.stays) c.requires.open
+
+-- the journal is begun anew
+
+pub roll-requires-clause-kept : goal.roll-requires-clause-kept
+roll-requires-clause-kept g c opened =
+    let f = g.F.Folder in
+    let met = g.met.F.Folder in
+    let first = g.N.Beginning.first in
+    let old = c.args.store.events.journal in
+    let held = c.requires.held in
+    let at =
+    still_at f.shows f.kept f.sound f.moment f.left_since met.only_now met.earlier first old.medium
+    c.write_saved.new.folder old.len old.closed c.args.held.now held.0 held.1 c.requires.open
+    c.write_saved.ensures.stays in (
+      contents_with (head_texts at.0.saved) at.0.late,
+      keeps_before f.shows f.kept f.sound f.moment f.left_since met.only_now met.earlier first
+          c.write_saved.new.folder old.len old.closed c.args.held.now held.0 at c.requires.open,
+    )
+
+pub roll-requires-clause-whole : goal.roll-requires-clause-whole
+roll-requires-clause-whole g c =
+    let new = contents_with (head_texts c.in-Ok.head) [] in
+    (new, subst (IsJournalText new) (sym c.deref.ensures.value) c.in-Ok-head_journal.ensures.text)
+
+pub returns-in-Ok-roll-clause-any_moment : goal.returns-in-Ok-roll-clause-any_moment
+returns-in-Ok-roll-clause-any_moment g c =
+    let f = g.F.Folder in
+    let met = g.met.F.Folder in
+    let first = g.N.Beginning.first in
+    let old = c.args.store.events.journal in
+    let held = c.requires.held in
+    let s = c.args.joined.now in
+    let n = length s.blocks in
+    let mid = c.write_saved.new.folder in
+    let new = c.roll.new.journal in
+    let head = c.in-Ok.head in
+    let there = c.in-Ok.ensures.there in
+    let at =
+    still_at f.shows f.kept f.sound f.moment f.left_since met.only_now met.earlier first old.medium
+    mid old.len old.closed c.args.held.now held.0 held.1 c.requires.open c.write_saved.ensures.stays in
+    let next =
+    next_head f.shows f.kept f.sound f.moment f.left_since met.only_now met.earlier first
+    (record { folder = mid }) s head (take 0 c.args.held.now ++ places_from c.next_number.result (n - 0))
+    there.0 c.requires.joined c.in-Ok.ensures.saved c.in-Ok-head_journal.ensures.saved there.1 there.2 in
+    let whole =
+    subst (IsJournalText (contents_with (head_texts head) [])) (sym c.deref.ensures.value)
+    c.in-Ok-head_journal.ensures.text in
+    let after =
+    begun_anew f.shows f.kept f.sound f.moment f.left_since met.only_now met.earlier first
+    (with_blocks n first) (record { folder = mid }) new.medium new.len head there.0 next
+    (c.in-Ok-roll.ensures.ok (contents_with (head_texts head) []) whole) c.in-Ok-roll.ensures.files in
+    finds_after f.moment f.left_since old.medium.folder mid c.sweep_apart.new.folder _
+    (finds_first f.moment f.left_since old.medium.folder mid first n
+    (meanwhile f.shows f.kept f.sound f.moment f.left_since met.only_now met.earlier first old.medium
+    mid old.len old.closed c.args.held.now held.0 held.1 c.requires.open c.write_saved.ensures.stays))
+    (finds_after f.moment f.left_since mid new.medium.folder c.sweep_apart.new.folder _
+    (roll_either f.shows f.kept f.sound f.moment f.left_since met.only_now met.earlier first mid
+    new.medium.folder old.len old.closed n c.args.held.now held.0 head there.0 c.deref.result.now at
+    c.requires.open next whole c.in-Ok-roll.ensures.any_moment)
+    (finds_joined f.moment f.left_since new.medium.folder c.sweep_apart.new.folder first n
+    (meanwhile f.shows f.kept f.sound f.moment f.left_since met.only_now met.earlier
+    (with_blocks n first) new.medium c.sweep_apart.new.folder new.len false head.places there.0 after
+    refl (subst (λ (ps : List Place). KeepsStore f.shows f.kept f.sound f.moment f.left_since
+    (names_at ps) new.medium.folder c.sweep_apart.new.folder)
+    (c.deref-in-Ok-roll.ensures.value ∙ c.in-Ok-from_slice.ensures.items ∙ c.places.ensures)
+    c.sweep_apart.ensures.kept))))
+
+pub returns-in-Ok-roll-clause-finds : goal.returns-in-Ok-roll-clause-finds
+returns-in-Ok-roll-clause-finds g c =
+    let f = g.F.Folder in
+    let met = g.met.F.Folder in
+    let first = g.N.Beginning.first in
+    let s = c.args.joined.now in
+    let n = length s.blocks in
+    let mid = c.write_saved.new.folder in
+    let new = c.roll.new.journal in
+    let head = c.in-Ok.head in
+    let there = c.in-Ok.ensures.there in
+    let next =
+    next_head f.shows f.kept f.sound f.moment f.left_since met.only_now met.earlier first
+    (record { folder = mid }) s head (take 0 c.args.held.now ++ places_from c.next_number.result (n - 0))
+    there.0 c.requires.joined c.in-Ok.ensures.saved c.in-Ok-head_journal.ensures.saved there.1 there.2 in
+    let whole =
+    subst (IsJournalText (contents_with (head_texts head) [])) (sym c.deref.ensures.value)
+    c.in-Ok-head_journal.ensures.text in
+    let after =
+    begun_anew f.shows f.kept f.sound f.moment f.left_since met.only_now met.earlier first
+    (with_blocks n first) (record { folder = mid }) new.medium new.len head there.0 next
+    (c.in-Ok-roll.ensures.ok (contents_with (head_texts head) []) whole) c.in-Ok-roll.ensures.files in
+    now_at f.shows f.kept f.sound f.moment f.left_since met.only_now met.earlier
+    (with_blocks n first) (record { folder = c.sweep_apart.new.folder }) new.len false head.places
+    there.0
+    (still_at f.shows f.kept f.sound f.moment f.left_since met.only_now met.earlier
+    (with_blocks n first) new.medium c.sweep_apart.new.folder new.len false head.places there.0 after
+    refl (subst (λ (ps : List Place). KeepsStore f.shows f.kept f.sound f.moment f.left_since
+    (names_at ps) new.medium.folder c.sweep_apart.new.folder)
+    (c.deref-in-Ok-roll.ensures.value ∙ c.in-Ok-from_slice.ensures.items ∙ c.places.ensures)
+    c.sweep_apart.ensures.kept)) refl
+
+pub returns-clause-any_moment : goal.returns-clause-any_moment
+returns-clause-any_moment g c =
+    let f = g.F.Folder in
+    let met = g.met.F.Folder in
+    let first = g.N.Beginning.first in
+    let old = c.args.store.events.journal in
+    let held = c.requires.held in
+    let s = c.args.joined.now in
+    let n = length s.blocks in
+    let mid = c.write_saved.new.folder in
+    let new = c.roll.new.journal in
+    let head = c.in-Ok.head in
+    let there = c.in-Ok.ensures.there in
+    let at =
+    still_at f.shows f.kept f.sound f.moment f.left_since met.only_now met.earlier first old.medium
+    mid old.len old.closed c.args.held.now held.0 held.1 c.requires.open c.write_saved.ensures.stays in
+    let next =
+    next_head f.shows f.kept f.sound f.moment f.left_since met.only_now met.earlier first
+    (record { folder = mid }) s head (take 0 c.args.held.now ++ places_from c.next_number.result (n - 0))
+    there.0 c.requires.joined c.in-Ok.ensures.saved c.in-Ok-head_journal.ensures.saved there.1 there.2 in
+    finds_after f.moment f.left_since old.medium.folder mid new.medium.folder _
+    (finds_first f.moment f.left_since old.medium.folder mid first n
+    (meanwhile f.shows f.kept f.sound f.moment f.left_since met.only_now met.earlier first old.medium
+    mid old.len old.closed c.args.held.now held.0 held.1 c.requires.open c.write_saved.ensures.stays))
+    (roll_either f.shows f.kept f.sound f.moment f.left_since met.only_now met.earlier first mid
+    new.medium.folder old.len old.closed n c.args.held.now held.0 head there.0 c.deref.result.now at
+    c.requires.open next
+    (subst (IsJournalText (contents_with (head_texts head) [])) (sym c.deref.ensures.value)
+    c.in-Ok-head_journal.ensures.text)
+    c.in-Err-roll.ensures.any_moment)
+
+pub returns-clause-stays : goal.returns-clause-stays
+returns-clause-stays g c unless =
+    let f = g.F.Folder in
+    let met = g.met.F.Folder in
+    let first = g.N.Beginning.first in
+    let old = c.args.store.events.journal in
+    let held = c.requires.held in
+    let mid = c.write_saved.new.folder in
+    let new = c.roll.new.journal in
+    let at =
+    still_at f.shows f.kept f.sound f.moment f.left_since met.only_now met.earlier first old.medium
+    mid old.len old.closed c.args.held.now held.0 held.1 c.requires.open c.write_saved.ensures.stays in
+    let opened =
+    goes_on c.roll.result c.in-Err-roll.error old.closed new.closed (f.failed new.medium.folder)
+    c.in-Err-roll.is c.roll.ensures.closed c.roll.ensures.not_written unless c.requires.open in
+    now_at f.shows f.kept f.sound f.moment f.left_since met.only_now met.earlier first new.medium
+    new.len new.closed c.args.held.now held.0
+    (as_before f.shows f.kept f.sound f.moment f.left_since met.only_now met.earlier first mid
+    new.medium.folder old.len new.len old.closed new.closed c.args.held.now held.0 at
+    (c.in-Err-roll.ensures.err (contents_with (head_texts at.0.saved) at.0.late)
+    (keeps_before f.shows f.kept f.sound f.moment f.left_since met.only_now met.earlier first mid
+    old.len old.closed c.args.held.now held.0 at c.requires.open) opened)
+    c.in-Err-roll.ensures.files) opened
+
+pub returns-in-Ok-roll-clause-places : goal.returns-in-Ok-roll-clause-places
+returns-in-Ok-roll-clause-places g c =
+    let n = length c.args.joined.now.blocks in
+    let none : n - 0 ≡ n = omega arith in
+    ap length (c.in-Ok-from_slice.ensures.items ∙ c.places.ensures)
+    ∙ ap (λ (h : Saved). length h.places) c.in-Ok.ensures.saved
+    ∙ counted c.next_number.result (n - 0) ∙ none
