@@ -4,8 +4,7 @@
 ghost use Rattle.std.specs.Prelude.{◌≡◌, []};
 ghost use Rattle.head.specs.Blocks.{opening_of};
 
-use crate::audits::tables::{audit_parts, finds_spoiled};
-use crate::serving::searches::labels;
+use crate::tables::{audit_parts, finds_spoiled};
 use audit_laws::{SoundAnswers, search_and_audit};
 use block_search::{OpenGate, search};
 use cover::PartAnswer;
@@ -14,7 +13,7 @@ use history::{Reply, Step, run};
 use labels::{LabelSet, Row, Sample, is_time};
 use matchers::{Query, Selector};
 use snapshots::{Appender, Committer, Naming, Pass, Receipt, Seat, Store};
-use std::alloc::Global;
+use std::alloc::{AllocError, Global};
 use std::marker::Brand;
 use std::sync::atomic::{AtomicU64, Ordering};
 use std::sync::{Arc, Mutex, Wait};
@@ -110,6 +109,25 @@ impl<J: Naming> Board<J> {
     }
 }
 
+fn pair_of(alloc: Global, name: &str, value: &str) -> Result<(String, String), AllocError> {
+    let name = String::from_str(alloc, name)?;
+    Ok((name, String::from_str(alloc, value)?))
+}
+
+fn pairs_of(alloc: Global, pairs: &[(&str, &str)]) -> Result<Vec<(String, String)>, AllocError> {
+    let mut made = Vec::new(alloc);
+    for (name, value) in pairs {
+        made.push(pair_of(alloc, name, value)?)?;
+    }
+    Ok(made)
+}
+
+/// The labels of a name, a job and a zone.
+fn labels_of(alloc: Global, name: &str, job: &str, zone: &str) -> Option<LabelSet> {
+    let pairs = [("__name__", name), ("job", job), ("zone", zone)];
+    LabelSet::new(alloc, pairs_of(alloc, &pairs).ok()?).ok()
+}
+
 /// Adds a sample of a job and a zone.
 fn push_sample(
     alloc: Global,
@@ -117,7 +135,7 @@ fn push_sample(
     series: (&str, &str),
     sample: Sample,
 ) -> Option<()> {
-    let labels = labels(alloc, "up", series.0, series.1)?;
+    let labels = labels_of(alloc, "up", series.0, series.1)?;
     batch.push((labels, sample)).ok()
 }
 

@@ -1,7 +1,7 @@
 //! Files in memory: the worked block, and blocks like it.
 
-use crate::audits::damage::{Change, OTHER_LIST, OTHER_OFFSET, changed_copy};
-use crate::audits::worked_block::{CHUNKS, INDEX, TOMBSTONES};
+use crate::damage::{Change, OTHER_LIST, OTHER_OFFSET, changed_copy};
+use crate::worked_block::{CHUNKS, INDEX, TOMBSTONES};
 use audit_command::{ReadError, ReadFiles};
 use std::alloc::Global;
 

@@ -1,8 +1,8 @@
 //! Calls that are refused memory, made again. `tests/allocations` runs these tests with each of
 //! their allocations refused in turn.
 
-use crate::audits::answered::{FOUND, SOUND, answer, query, rows_at};
-use crate::audits::worked_block::{CHUNKS, INDEX, TOMBSTONES, table_of_files, walk_outcome};
+use crate::answered::{FOUND, SOUND, answer, query, rows_at};
+use crate::worked_block::{CHUNKS, INDEX, TOMBSTONES, table_of_files, walk_outcome};
 use auditor::{Flaw, Table, audit, audit_merge, audit_skip};
 use cover::PartAnswer;
 use labels::Row;

@@ -1,6 +1,6 @@
 //! The index of the worked block with lists that lie.
 
-use crate::audits::worked_block::{CHUNKS, INDEX, TOMBSTONES, walk_outcome};
+use crate::worked_block::{CHUNKS, INDEX, TOMBSTONES, walk_outcome};
 use std::alloc::Global;
 
 fn put(bytes: &mut [u8], place: usize, byte: u8) {

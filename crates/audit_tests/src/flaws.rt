@@ -1,10 +1,10 @@
 //! Each flaw of an answer to `up{job="a"}`, 0 to 100, and which of two is told.
 
-use crate::audits::answered::{
+use crate::answered::{
     BY_JOB, BY_NAME, END, FOUND, Intervals, MATCH, PLACES, SILENT, SOUND, SOUND_INTERVALS, Said,
     answer, query,
 };
-use crate::audits::worked_block::{ALL_BUT_ONE, CHUNKS, INDEX, TOMBSTONES, table_of_files};
+use crate::worked_block::{ALL_BUT_ONE, CHUNKS, INDEX, TOMBSTONES, table_of_files};
 use auditor::{Flaw, Table, audit, audit_skip};
 use cover::Verdict;
 use matchers::Query;

@@ -1,7 +1,7 @@
 //! Runs of the program over files in memory.
 
-use crate::audits::host::Blocks;
-use crate::audits::replies::{
+use crate::host::Blocks;
+use crate::replies::{
     BEGIN, BEGIN_SKIPPED, BLOCK, EARLIER, EMPTY, FIRST, FIRST_THEN_SECOND, HEAD_AND_ROWS,
     NOTHING_TWICE, RIGHT, SECOND, SECOND_THEN_FIRST, SKIPPED, SPACED, SPLIT, SPLIT_UNSEPARATED,
     TWO_ROWS, UNORDERED, UNSEPARATED, WITH_EMPTY, WRONG_LAST,
