@@ -187,7 +187,7 @@ def refusals(looks, querier, preload, work):
         # after a cut at 0 the next event makes none due
         looks.at(f"{fault}: a cut", OK, server.tell(Cut(0)))
         looks.at(f"{fault}: a batch", OK, server.tell(up((1, 1), (10, 2))))
-        writes, syncs, _, _ = struct.unpack("<5Q", read(f"{folder}.kept"))[1:]
+        writes, syncs, _, _ = struct.unpack_from("<5Q", read(f"{folder}.kept"))[1:]
         server.end()
         numbers = {"FAIL_WRITE": writes, "FAIL_SYNC": syncs}
         folder += "2"

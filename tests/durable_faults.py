@@ -55,7 +55,7 @@ class Faults:
 
     def counts(self, folder):
         """How many writes, syncs and cuts there were, and how many of all failed."""
-        return struct.unpack("<5Q", read(f"{folder}.kept"))[1:]
+        return struct.unpack_from("<5Q", read(f"{folder}.kept"))[1:]
 
     def says(self, what, server, world):
         parts, rows = server.select()

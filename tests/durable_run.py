@@ -1,4 +1,5 @@
-"""What tests/durable runs: QUERIER, a folder, the preloaded library or nothing, a directory of a block, and the parts."""
+"""What tests/durable runs: QUERIER, BLOCKTOOL and AUDITOR with a comma between, a folder, the preloaded library or nothing,
+the top of the repository, and the parts."""
 import os
 import random
 import sys
@@ -11,13 +12,14 @@ from durable_events import events  # noqa: E402
 from durable_faults import faults  # noqa: E402
 from durable_folders import folders  # noqa: E402
 from durable_house import kill_all  # noqa: E402
+from durable_joining import joining  # noqa: E402
 from durable_rounds import rounds  # noqa: E402
 from durable_running import running  # noqa: E402
 
 
 def main():
-    querier, work, preload, block, *parts = sys.argv[1:]
-    preload = preload or None
+    querier, others, work, preload, top, *parts = sys.argv[1:]
+    preload, block = preload or None, f"{top}/examples/good"
     seed = os.environ.get("SEED") or str(random.SystemRandom().randrange(10**6))
     count = int(os.environ.get("ROUNDS") or 100)
 
@@ -33,6 +35,7 @@ def main():
         "running": lambda: running(querier, preload, within("running"), count, seed),
         "damage": lambda: damage(querier, within("damage"), seed),
         "faults": lambda: faults(querier, preload, within("faults")),
+        "joining": lambda: joining(querier, others.split(","), preload, within("joining"), f"{top}/packaging/join-store"),
         "rounds": lambda: rounds(querier, preload, within("rounds"), count, seed),
     }
     for name in parts:

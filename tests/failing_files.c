@@ -1,15 +1,17 @@
 /* Preloaded into a program, has calls on the files of a folder fail, FOLDER and what is below it. FAIL_WRITE, FAIL_SYNC
-   (fsync and fdatasync) and FAIL_CUT (ftruncate) are two numbers, as 3,1: which such call is the first that fails,
-   counted from 1 over all threads, and how many fail from there on (0: all). FAIL_WITH is the error's number (5, EIO).
+   (fsync and fdatasync), FAIL_CUT (ftruncate), FAIL_MAKE (a file that is made or emptied, and mkdir), FAIL_RENAME and
+   FAIL_REMOVE (unlink and rmdir) are two numbers, as 3,1: which such call is the first that fails, counted from 1 over all
+   threads, and how many fail from there on (0: all). FAIL_WITH is the error's number (5, EIO).
    KILL_AT is a number: the program is killed before its nth call that changes something in FOLDER (a file that is made or
    emptied, a write, a sync, a cut, a folder that is made, a rename, a removal), or in the middle of it if it is a write.
    FAIL_PART has the first of the failing writes take so many bytes, and the next ones fail. FAIL_ROOM refuses, as a full
    disk does, what goes beyond so many bytes of a file, and takes what has room.
-   KEPT is a file of five numbers of eight bytes: the length of FOLDER/journal up to which the last sync kept it, how
-   many writes, syncs and cuts there were, and how many calls failed. OPENED is a file to which each path is added that
-   is opened to be written, made, renamed or removed, wherever it is. TRACE is a file to which a line is added before each
-   of these calls: `open PATH HOW`, `make`, `rename`, `remove`, `lock`, `read`, `write`, `sync` and `cut`, each with a path,
-   if it is in FOLDER or that of FOLDER; and `reply`, for what is written to a socket. */
+   KEPT is a file of eight numbers of eight bytes: the length of FOLDER/journal up to which the last sync kept it, how
+   many writes, syncs and cuts there were, how many calls failed, and how many files were made, renamed and removed.
+   OPENED is a file to which each path is added that is opened to be written, made, renamed or removed, wherever it is.
+   TRACE is a file to which a line is added before each of these calls: `open PATH HOW`, `make`, `rename`, `remove`,
+   `lock`, `read`, `write`, `sync` and `cut`, each with a path, if it is in FOLDER or that of FOLDER; and `reply`, for what
+   is written to a socket. */
 #define _GNU_SOURCE
 #include <errno.h>
 #include <fcntl.h>
@@ -25,10 +27,10 @@
 #include <sys/syscall.h>
 #include <unistd.h>
 
-enum { WRITE, SYNC, CUT, CALLS };
+enum { WRITE, SYNC, CUT, MAKE, RENAME, REMOVE, CALLS };
 
 static struct told {
-    unsigned long kept, calls[CALLS], failed;
+    unsigned long kept, calls[MAKE], failed, others[CALLS - MAKE];
 } nothing, *told = &nothing;
 
 static const char *folder, *opened, *trace;
@@ -43,7 +45,7 @@ static unsigned long number(const char *name, unsigned long otherwise)
 
 __attribute__((constructor)) static void begin(void)
 {
-    static const char *const names[] = {"FAIL_WRITE", "FAIL_SYNC", "FAIL_CUT"};
+    static const char *const names[] = {"FAIL_WRITE", "FAIL_SYNC", "FAIL_CUT", "FAIL_MAKE", "FAIL_RENAME", "FAIL_REMOVE"};
     const char *kept = getenv("KEPT");
     for (int it = 0; it < CALLS; it++) {
         const char *text = getenv(names[it]);
@@ -126,23 +128,11 @@ static void end(void)
         pause();
 }
 
-/* A call that may change something is told, if it does; the program may be killed before it. */
-static void tell(const char *what, const char *path, const char *how, int is_change)
-{
-    char below[4096];
-    if (opened && strcmp(how, "r"))
-        add_line(opened, path, "", "");
-    if (is_below(path, below, sizeof below)) {
-        add_line(trace, what, below, how);
-        if (is_change && is_over())
-            end();
-    }
-}
-
 /* Whether this call, the nth of its kind, fails; so many bytes of it are to be taken else. */
 static int fails(int kind, unsigned long *taken)
 {
-    unsigned long n = __atomic_add_fetch(&told->calls[kind], 1, __ATOMIC_RELAXED);
+    unsigned long *count = kind < MAKE ? &told->calls[kind] : &told->others[kind - MAKE];
+    unsigned long n = __atomic_add_fetch(count, 1, __ATOMIC_RELAXED);
     if (!first[kind] || n < first[kind] || (many[kind] && n >= first[kind] + many[kind]))
         return 0;
     if (kind == WRITE && part && n == first[kind]) {
@@ -152,6 +142,23 @@ static int fails(int kind, unsigned long *taken)
     __atomic_add_fetch(&told->failed, 1, __ATOMIC_RELAXED);
     errno = error;
     return 1;
+}
+
+/* A call that may change something is told, if it does; the program may be killed before it. Whether it fails. */
+static int tell(int kind, const char *what, const char *path, const char *how, int is_change)
+{
+    char below[4096];
+    unsigned long taken = 0;
+    if (opened && strcmp(how, "r"))
+        add_line(opened, path, "", "");
+    if (!is_below(path, below, sizeof below))
+        return 0;
+    add_line(trace, what, below, how);
+    if (!is_change)
+        return 0;
+    if (is_over())
+        end();
+    return fails(kind, &taken);
 }
 
 ssize_t write(int fd, const void *bytes, size_t count)
@@ -244,7 +251,8 @@ static int opens(int at, const char *path, int how, mode_t mode)
     char text[64];
     snprintf(text, sizeof text, "%s%s%s%s", hows[how & O_ACCMODE], how & O_APPEND ? " append" : "",
              how & O_CREAT ? " create" : "", how & O_TRUNC ? " empty" : "");
-    tell("open", path, text, (how & (O_CREAT | O_TRUNC)) != 0);
+    if (tell(MAKE, "open", path, text, (how & (O_CREAT | O_TRUNC)) != 0))
+        return -1;
     return (int)syscall(SYS_openat, at, path, how, mode);
 }
 
@@ -286,14 +294,16 @@ int openat64(int at, const char *path, int how, ...)
 
 int mkdir(const char *path, mode_t mode)
 {
-    tell("make", path, "", 1);
+    if (tell(MAKE, "make", path, "", 1))
+        return -1;
     return (int)syscall(SYS_mkdirat, AT_FDCWD, path, mode);
 }
 
 int rename(const char *from, const char *to)
 {
     char path[4096];
-    tell("rename", to, "", 1);
+    if (tell(RENAME, "rename", to, "", 1))
+        return -1;
     int result = (int)syscall(SYS_renameat2, AT_FDCWD, from, AT_FDCWD, to, 0);
     if (!result && is_below(to, path, sizeof path) && !strcmp(path, "journal"))
         told->kept = next_kept;
@@ -302,13 +312,15 @@ int rename(const char *from, const char *to)
 
 int unlink(const char *path)
 {
-    tell("remove", path, "", 1);
+    if (tell(REMOVE, "remove", path, "", 1))
+        return -1;
     return (int)syscall(SYS_unlinkat, AT_FDCWD, path, 0);
 }
 
 int rmdir(const char *path)
 {
-    tell("remove", path, "", 1);
+    if (tell(REMOVE, "remove", path, "", 1))
+        return -1;
     return (int)syscall(SYS_unlinkat, AT_FDCWD, path, AT_REMOVEDIR);
 }
 
