@@ -7,9 +7,10 @@ CRATES := $(shell sed -e 's/\#.*//' -e 's/:.*//' -e '/^[[:space:]]*$$/d' crates.
 # Which crate, or script, has the tests of which crates; a crate of tests has its own.
 TESTS_OF := file_tests:wire,index_reader,chunk_reader,tombstones,block,block_writer,xor_reader,doubles,decimal_text,prometheus_block \
 	store_tests:labels,pages,matchers,postings,head,snapshots,cover,block_search,series_merge,answers,kept_selectors,requests,query_http,server,commands,querier,journal,event_text \
+	restart_tests:block_rewriter,head_record,store_folder,logged_folder \
 	audit_tests:history,block_walk,reply_reader,auditor,audit_command,audit_laws,auditor_program \
 	tests/serving:guard \
-	tests/durable:keeper,event_journal,due_cuts,folder_lock,data_folder,block_rewriter,head_record,store_folder,store_joiner \
+	tests/durable:keeper,event_journal,due_cuts,folder_lock,data_folder,store_joiner \
 	tests/scraping:metrics_text \
 	tests/importing:imported_values,kept_samples,time_cuts,block_folder,block_outputs,open_metrics,metrics_writer,exposition,blocktool \
 	tests/pages-html:page_layout,page_style,page_escape,page_text,page_claims,page_marks,page,explain

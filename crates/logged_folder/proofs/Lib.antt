@@ -1,0 +1,4 @@
+mod Leavings
+mod LogCalls
+mod Logs
+mod Parts
