@@ -5,6 +5,7 @@ import random
 import sys
 
 sys.dont_write_bytecode = True
+from durable_adding import adding  # noqa: E402
 from durable_blocks import blocks  # noqa: E402
 from durable_cuts import cuts  # noqa: E402
 from durable_damage import damage  # noqa: E402
@@ -36,6 +37,7 @@ def main():
         "damage": lambda: damage(querier, within("damage"), seed),
         "faults": lambda: faults(querier, preload, within("faults")),
         "joining": lambda: joining(querier, others.split(","), preload, within("joining"), f"{top}/packaging/join-store"),
+        "adding": lambda: adding(querier, others.split(","), preload, within("adding")),
         "rounds": lambda: rounds(querier, preload, within("rounds"), count, seed),
     }
     for name in parts:

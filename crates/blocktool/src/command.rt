@@ -27,6 +27,8 @@ pub(crate) enum Line<'a> {
     FromPrometheus(Options<'a>, Vec<&'a str>),
     /// Blocks in this directory, out of the blocks in these directories.
     Rewrite(&'a str, Vec<&'a str>),
+    /// The blocks in these directories, added to the store in this folder.
+    Add(&'a str, Vec<&'a str>),
     /// The blocks of the store in this folder, joined.
     Join(&'a str),
     /// What the blocks in these directories have.
@@ -88,10 +90,32 @@ read or write; 4 no memory
 
 Example: blocktool rewrite --into whole mine/0001 mine/0002";
 
+const ABOUT_ADD: &str =
+    "DIR is the folder of `querier serve --data DIR`, which must not run; if it is empty, a store is
+begun in it. What its journal has is saved, and the samples of each BLOCK that are not deleted are
+in the store from then on. Of two samples of one series at one time that of the store is kept, or
+else that of the later BLOCK. All BLOCK must have values of as many digits.
+
+The floor is raised to the end of a BLOCK that ends above it: a server takes no sample below. If
+samples that were not cut lie there, nothing is done: cut them first. A store has at most 63 blocks.
+
+All blocks are written beside those that lie there and synced; then a new journal that names them
+takes the journal's name, and the others are removed. A crash at any moment leaves the store as it
+was, or with each BLOCK. A line tells what was done:
+  DIR: 2 blocks added, 5 in all
+
+A BLOCK is refused as by `querier check`: B2, I1 to I15, C1 to C8, T1 to T5, B1; a DIR as by
+`querier serve`: J1 to J4, J8 to J18.
+
+Exit status: 0 done; 1 refused, with the reason on standard error; 2 a fault of the words; 3 cannot
+read, write or lock; 4 no memory
+
+Example: blocktool add kept mine/0001 mine/0002";
+
 const ABOUT_JOIN: &str =
-    "DIR is the folder of `querier serve --data DIR`, which must not run. What its journal has is saved,
-and the blocks in DIR/blocks are joined into as few as may have their samples: one, or else each
-half of them by itself. Deleted samples are left out. The rows of all are in memory at once.
+    "DIR is the folder of `querier serve --data DIR`, which must not run. What its journal has is
+saved, and the blocks in DIR/blocks are joined into as few as may have their samples: one, or else
+each half of them by itself. Deleted samples are left out. The rows of all are in memory at once.
 
 The joined blocks are written beside those that lie there and synced; then a new journal that names
 them takes the journal's name, and the others are removed. A crash at any moment leaves the store as
@@ -146,12 +170,24 @@ const DIRECTORIES: Word<'static> = Word {
 
 const REWRITE: [Word<'static>; 2] = [INTO, DIRECTORIES];
 
-const JOIN: [Word<'static>; 1] = [Word {
+const DATA: Word<'static> = Word {
     name: "data",
     value: "DIR",
     help: "The folder of a store that no server keeps",
     kind: Kind::Sole,
-}];
+};
+
+const ADD: [Word<'static>; 2] = [
+    DATA,
+    Word {
+        name: "blocks",
+        value: "BLOCK",
+        help: "A directory with a block",
+        kind: Kind::Many,
+    },
+];
+
+const JOIN: [Word<'static>; 1] = [DATA];
 
 const LIST: [Word<'static>; 1] = [DIRECTORIES];
 
@@ -168,6 +204,11 @@ fn from_prometheus<'a>(alloc: Global) -> Result<Command<'a>, AllocError> {
 fn rewrite<'a>(alloc: Global) -> Result<Command<'a>, AllocError> {
     let about = "Makes blocks of the samples of blocks that are not deleted";
     command_of(alloc, "rewrite", (about, ABOUT_REWRITE), REWRITE.as_slice())
+}
+
+fn add_blocks<'a>(alloc: Global) -> Result<Command<'a>, AllocError> {
+    let about = "Adds blocks to a store that no server keeps";
+    command_of(alloc, "add", (about, ABOUT_ADD), ADD.as_slice())
 }
 
 fn join<'a>(alloc: Global) -> Result<Command<'a>, AllocError> {
@@ -207,6 +248,7 @@ fn add<'a>(
 enum Verb {
     FromPrometheus,
     Rewrite,
+    Add,
     Join,
     List,
     FromOpenMetrics,
@@ -215,9 +257,10 @@ enum Verb {
 }
 
 /// The commands, in the order of the help.
-const VERBS: [Verb; 7] = [
+const VERBS: [Verb; 8] = [
     Verb::FromPrometheus,
     Verb::Rewrite,
+    Verb::Add,
     Verb::Join,
     Verb::List,
     Verb::FromOpenMetrics,
@@ -229,6 +272,7 @@ fn command_for<'a>(alloc: Global, verb: Verb) -> Result<Command<'a>, AllocError>
     match verb {
         Verb::FromPrometheus => from_prometheus(alloc),
         Verb::Rewrite => rewrite(alloc),
+        Verb::Add => add_blocks(alloc),
         Verb::Join => join(alloc),
         Verb::List => list(alloc),
         Verb::FromOpenMetrics => from_openmetrics(alloc),
@@ -318,12 +362,23 @@ fn rewrite_in<'a>(alloc: Global, found: &ArgMatches<'a>) -> Result<Option<Line<'
     Ok(Some(Line::Rewrite(into, directories)))
 }
 
+fn add_in<'a>(alloc: Global, found: &ArgMatches<'a>) -> Result<Option<Line<'a>>, AllocError> {
+    let Some(data) = found.get_str("data") else {
+        return Ok(None);
+    };
+    let blocks = texts_in(alloc, found, "blocks")?;
+    Ok(Some(Line::Add(data, blocks)))
+}
+
 fn line_in<'a>(alloc: Global, found: &ArgMatches<'a>) -> Result<Option<Line<'a>>, AllocError> {
     if let Some(found) = found.subcommand_matches("from-prometheus") {
         return import_in(alloc, found);
     }
     if let Some(found) = found.subcommand_matches("rewrite") {
         return rewrite_in(alloc, found);
+    }
+    if let Some(found) = found.subcommand_matches("add") {
+        return add_in(alloc, found);
     }
     if let Some(found) = found.subcommand_matches("join") {
         return Ok(found.get_str("data").map(Line::Join));

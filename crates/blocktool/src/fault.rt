@@ -59,6 +59,11 @@ pub enum Fault {
     NotEmpty(String),
     /// There would be more outputs than one answer can take.
     TooMany(usize),
+    /// A store would have more blocks than it may.
+    TooManyBlocks(usize),
+    /// The head of the store in this folder has samples below this time, where a block ends that is
+    /// to be added.
+    HeadBelow(String, i64),
     /// The samples of one moment, or the labels, are more than an output may have.
     TooLarge,
     /// Rows or times of an input do not ascend.
@@ -78,6 +83,7 @@ impl Fault {
         match self {
             Fault::Source(_, SourceError::Unreadable(_)) => 3,
             Fault::Source(_, _) | Fault::Value { .. } | Fault::TooMany(_) => 1,
+            Fault::TooManyBlocks(_) | Fault::HeadBelow(_, _) => 1,
             Fault::Block(_, _) | Fault::Store(_, _) | Fault::Digits(_) => 1,
             Fault::TooLarge | Fault::Unordered | Fault::Changed => 1,
             Fault::BadReply | Fault::NoMetric => 1,
@@ -155,6 +161,18 @@ impl fmt::Display for Fault {
                 write!(
                     f,
                     "refused: there would be {count} outputs, and 63 is the most"
+                )
+            }
+            Fault::TooManyBlocks(count) => {
+                write!(
+                    f,
+                    "refused: there would be {count} blocks, and 63 is the most"
+                )
+            }
+            Fault::HeadBelow(data, end) => {
+                write!(
+                    f,
+                    "refused: {data} has samples before {end} that were not cut"
                 )
             }
             Fault::TooLarge => {

@@ -1,4 +1,5 @@
-//! The program `blocktool`: it makes blocks for `querier` and `auditor` out of other programs' data.
+//! The program `blocktool`: it makes blocks for `querier` and `auditor` out of other programs' data,
+//! and changes stores that no server keeps.
 //!
 //! `run` does what the words after the program's name ask for. An `Input` gives rows in a range
 //! of times and counts what it read; `conversion` makes of several inputs, of which the later wins,
@@ -10,6 +11,7 @@
 //! `block_outputs` and `block_folder` for what is written, and on `clap` for words.
 #![tactic(auto)]
 
+mod adding;
 mod command;
 mod conversion;
 mod fault;
@@ -20,6 +22,7 @@ mod from_prometheus;
 mod from_rows;
 mod input;
 mod joining;
+mod kept;
 mod laws;
 mod list;
 mod listed;

@@ -31,6 +31,21 @@ pub(crate) struct Opened {
     pub(crate) digits: u32,
 }
 
+impl Opened {
+    /// How many digits the values have, which must be those of the blocks before it.
+    pub(crate) fn check_digits(
+        &self,
+        alloc: Global,
+        before: Option<u32>,
+        directory: &str,
+    ) -> Result<u32, Fault> {
+        if before.unwrap_or(self.digits) != self.digits {
+            return Err(Fault::Digits(String::from_str(alloc, directory)?));
+        }
+        Ok(self.digits)
+    }
+}
+
 fn read_bytes<R: Files + AllocGlobal>(
     alloc: Global,
     rt: &R,

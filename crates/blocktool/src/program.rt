@@ -1,5 +1,6 @@
 //! What the program does.
 
+use crate::adding::add;
 use crate::command::{Line, read_line};
 use crate::fault::Fault;
 use crate::from_openmetrics::from_openmetrics;
@@ -28,6 +29,9 @@ fn execute<I: Read, W: Write, E: Write>(
         }
         Ok(Line::Rewrite(into, directories)) => {
             rewrite(alloc, rt, into, directories.as_slice(), out, teller)
+        }
+        Ok(Line::Add(data, directories)) => {
+            add(alloc, rt, data, directories.as_slice(), out, teller)
         }
         Ok(Line::Join(data)) => join(alloc, rt, data, out, teller),
         Ok(Line::List(directories)) => list(alloc, rt, directories.as_slice(), out),

@@ -40,10 +40,7 @@ fn open_all<R: Files + AllocGlobal>(
     let mut digits = None;
     for directory in directories {
         let opened = open_own(alloc, rt, *directory)?;
-        if digits.is_some() && digits != Some(opened.digits) {
-            return Err(Fault::Digits(String::from_str(alloc, *directory)?));
-        }
-        digits = Some(opened.digits);
+        digits = Some(opened.check_digits(alloc, digits, *directory)?);
         listed.push(listed_of(alloc, &opened)?)?;
     }
     Ok(Inputs { listed, digits })

@@ -57,7 +57,7 @@ one_holds old rows b joined is c up = one_part (parts_in old) rows b.part c join
 pub holds_itself : (blocks : List BlockPart) → HoldSame blocks blocks
 holds_itself blocks c up = refl
 
-over_both : (c : Content) (a b : List BlockPart)
+pub over_both : (c : Content) (a b : List BlockPart)
     → over c (parts_in (a ++ b)) ≡ over (over c (parts_in a)) (parts_in b)
 over_both c [] b = refl
 over_both c (x ∷ a) b = over_both (laid_over (points_of (rows_in x.part)) c) a b
@@ -69,3 +69,13 @@ both_hold a b c d first second x up =
     ∙ second (over x (parts_in a)) (is_sorted-over (parts_in a) x up)
     ∙ ap (λ (y : Content). over y (parts_in d)) (first x up)
     ∙ sym (over_both x c d)
+
+-- parts laid over a content are their own content laid over it
+pub over_beneath : (c : Content) (parts : List Part) → T (is_sorted point_cmp c)
+    → over c parts ≡ laid_over (over [] parts) c
+over_beneath c parts up =
+    same_content (over c parts) (laid_over (over [] parts) c) (is_sorted-over parts c up)
+    (is_sorted-laid_over (over [] parts) c up)
+    (λ q. ap (find point_cmp q) (over_rows c parts) ∙ found_over q c (map rows_in parts)
+    ∙ ap (λ (x : Content). or_else (find point_cmp q x) (find point_cmp q c)) (sym (over_rows []
+    parts)) ∙ sym (find-laid_over q (over [] parts) c))

@@ -1,8 +1,8 @@
 -- A store that begins with its blocks joined.
-use Rattle.std.proofs.Common.{◌≡◌, ◌⊎◌, inl, inr, ⊎_elim, ℕ, ◌≤◌, Bool, true, false, List, [], ◌∷◌}
+use Rattle.std.proofs.Common.{◌≡◌, ◌⊎◌, inl, inr, ⊎_elim, ℕ, ◌≤◌, Bool, false, List, [], ◌∷◌}
 use Rattle.std.proofs.Common.{◌++◌, ◌+◌, zero, suc, Option, Some, Result, Ok, refl, sym, ap, subst, ◌∙◌}
 use Rattle.std.proofs.Common.{arith}
-use Rattle.std.specs.Prelude.{Vec, length}
+use Rattle.std.specs.Prelude.{length}
 use Rattle.std.specs.List.{AllByRecursion}
 use Rattle.data_folder.specs.declared.journal_file.JournalFile.{JournalFile}
 use Rattle.data_folder.specs.Folders.{Left, LeavesOnly, MayLeaveOf}
@@ -10,9 +10,9 @@ use Rattle.data_folder.specs.Rolls as rolls
 use Rattle.data_folder.specs.States.{AreThere, IsApart, IsOldOrNew, Named}
 use Rattle.data_folder.specs.Sweeping.{KeepsStore}
 use Rattle.event_journal.specs.Holding.{contents_with}
-use Rattle.head.specs.Heads.{BlockPart, HeadSeries, SnapshotParts, head_part, newest_in, world_of}
+use Rattle.head.specs.Heads.{BlockPart, SnapshotParts, head_part, newest_in, world_of}
 use Rattle.head.specs.Refusals.{Refusal}
-use Rattle.head.specs.Worlds.{Event, World, replayed}
+use Rattle.head.specs.Worlds.{Event, World}
 use Rattle.head_record.specs.Saved.{Place, Saved, save}
 use Rattle.head_record.specs.Spelling.{head_texts, IsSaved}
 use Rattle.journal.specs.Group.{IsJournalText}
@@ -45,7 +45,7 @@ is_first first w e = cc
 
 -- the world of joined blocks
 
-over_joined : (c : Content) (xs : List BlockPart) (rest : List Part)
+pub over_joined : (c : Content) (xs : List BlockPart) (rest : List Part)
     → over c (parts_in xs ++ rest) ≡ over (over c (parts_in xs)) rest
 over_joined c [] rest = refl
 over_joined c (x ∷ xs) rest = over_joined (laid_over (points_of (rows_in x.part)) c) xs rest
@@ -85,10 +85,10 @@ module _ {F : Type 0} (moment : F → ℕ) (left_since : F → ℕ → Left → 
   }
 
   -- where a start finds the first world
-  pub finds_first : (old new : F) (first : World) (n : ℕ)
+  pub finds_first : (old new : F) (first next : World)
       → StartFinds moment left_since old new first []
-      → FindsEither moment left_since old new first n
-  finds_first old new first n f = record {
+      → FindsEither moment left_since old new first next
+  finds_first old new first next f = record {
     later = f.later;
     each = λ w had. inl (is_first first w (f.each w had));
     before = λ t w le had. ⊎_elim (λ past. inl past) (λ now. inr (inl (is_first first w now)))
@@ -96,14 +96,14 @@ module _ {F : Type 0} (moment : F → ℕ) (left_since : F → ℕ → Left → 
   }
 
   -- where it finds the other
-  pub finds_joined : (old new : F) (first : World) (n : ℕ)
-      → StartFinds moment left_since old new (with_blocks n first) []
-      → FindsEither moment left_since old new first n
-  finds_joined old new first n f = record {
+  pub finds_other : (old new : F) (first next : World)
+      → StartFinds moment left_since old new next []
+      → FindsEither moment left_since old new first next
+  finds_other old new first next f = record {
     later = f.later;
-    each = λ w had. inr (is_first (with_blocks n first) w (f.each w had));
+    each = λ w had. inr (is_first next w (f.each w had));
     before = λ t w le had. ⊎_elim (λ past. inl past)
-        (λ now. inr (inr (is_first (with_blocks n first) w now))) (f.before t w le had);
+        (λ now. inr (inr (is_first next w now))) (f.before t w le had);
   }
 
 module _ {F : Type 0} (shows : F → List ℕ → Option (List ℕ) → Type 0)
@@ -133,15 +133,15 @@ module _ {F : Type 0} (shows : F → List ℕ → Option (List ℕ) → Type 0)
     pub world : next ≡ world_of (started saved made)
     pub blocks : AreAt shows kept saved.places made m.folder
 
-  finds_one : (first next w : World) (old : JournalFile F) (len : ℕ) (was : Bool) (n : ℕ)
+  finds_one : (first next w : World) (old : JournalFile F) (len : ℕ) (was : Bool)
       (saved : Saved) (made : List BlockPart) (left : Left)
       (h : HoldsAfterHead shows kept sound moment left_since first old len was [])
-      (m : IsNext first next old saved made) → next ≡ with_blocks n first
+      (m : IsNext first next old saved made)
       → IsOldOrNew
       (files_of_both shows kept h.saved.places saved.places h.parts made old.folder h.blocks m.blocks)
       (contents_with (head_texts h.saved) h.late) (contents_with (head_texts saved) []) left
-      → StartsWith left w → (w ≡ first) ⊎ (w ≡ with_blocks n first)
-  finds_one first next w old len was n saved made left h m named is found =
+      → StartsWith left w → (w ≡ first) ⊎ (w ≡ next)
+  finds_one first next w old len was saved made left h m is found =
       let split =
       parted (λ (file : Named). left file.0 ≡ Some file.1)
       (files_at shows kept h.saved.places h.parts old.folder h.blocks)
@@ -154,24 +154,24 @@ module _ {F : Type 0} (shows : F → List ℕ → Option (List ℕ) → Type 0)
       (λ has. inr (is_first next w
       (found_store next w saved made [] [] has.0 left m.head (ap fine m.world)
       (lie_at shows kept saved.places made old.folder left m.blocks split.1) has.1
-      (stands_in saved [] left has tt) found) ∙ named))
+      (stands_in saved [] left has tt) found)))
       is.journal
 
   -- while the journal is begun anew
-  pub rolling_finds : (first next : World) (old new : JournalFile F) (len : ℕ) (was : Bool) (n : ℕ)
+  pub rolling_finds : (first next : World) (old new : JournalFile F) (len : ℕ) (was : Bool)
       (saved : Saved) (made : List BlockPart)
       (h : HoldsAfterHead shows kept sound moment left_since first old len was [])
-      (m : IsNext first next old saved made) → next ≡ with_blocks n first
+      (m : IsNext first next old saved made)
       → LeavesOnly moment left_since old.folder new.folder (IsOldOrNew
       (files_of_both shows kept h.saved.places saved.places h.parts made old.folder h.blocks m.blocks)
       (contents_with (head_texts h.saved) h.late) (contents_with (head_texts saved) []))
-      → FindsEither moment left_since old.folder new.folder first n
-  rolling_finds first next old new len was n saved made h m named leaves = record {
+      → FindsEither moment left_since old.folder new.folder first next
+  rolling_finds first next old new len was saved made h m leaves = record {
     later = leaves.later;
-    each = λ w had. finds_one first next w old len was n saved made had.0 h m named
+    each = λ w had. finds_one first next w old len was saved made had.0 h m
         (leaves.each had.0 had.1) had.2;
     before = λ t w le had. ⊎_elim (λ past. inl (had.0, past, had.2))
-        (λ now. inr (finds_one first next w old len was n saved made had.0 h m named now had.2))
+        (λ now. inr (finds_one first next w old len was saved made had.0 h m now had.2))
         (leaves.before t had.0 le had.1);
   }
 
@@ -213,13 +213,12 @@ module _ {F : Type 0} (shows : F → List ℕ → Option (List ℕ) → Type 0)
   -- what was written of a snapshot is the head that is to be
   pub next_head : (first : World) (m : JournalFile F) (s : SnapshotParts) (saved : Saved)
       (places : List Place) (made : List BlockPart)
-      → world_of s ≡ with_blocks (length s.blocks) first → saved ≡ save s places → IsSaved saved
+      → saved ≡ save s places → IsSaved saved
       → AreRewritten s.blocks made → AreAt shows kept places made m.folder
-      → IsNext first (with_blocks (length s.blocks) first) m saved made
-  next_head first m s saved places made joined is head anew at = record {
+      → IsNext first (world_of s) m saved made
+  next_head first m s saved places made is head anew at = record {
     head = head;
-    world = sym joined
-        ∙ same_world s saved made (have_same s.blocks made (each_like s.blocks made anew))
+    world = same_world s saved made (have_same s.blocks made (each_like s.blocks made anew))
         (ap (λ (x : Saved). x.head) (sym is)) (ap (λ (x : Saved). x.floor) (sym is));
     blocks = subst (λ (ps : List Place). AreAt shows kept ps made m.folder)
         (ap (λ (x : Saved). x.places) (sym is)) at;
@@ -233,17 +232,17 @@ module _ {F : Type 0} (shows : F → List ℕ → Option (List ℕ) → Type 0)
       → AllByRecursion IsApart files → AreThere shows kept files old
       → LeavesOnly moment left_since old new (IsOldOrNew files before after)
 
-  pub roll_either : (first : World) (old new : F) (len : ℕ) (closed : Bool) (n : ℕ)
+  pub roll_either : (first next : World) (old new : F) (len : ℕ) (closed : Bool)
       (places : List Place) (parts : List BlockPart) (saved : Saved) (made : List BlockPart)
       (text : List ℕ) → At first (record { folder = old }) len closed places parts → closed ≡ false
-      → IsNext first (with_blocks n first) (record { folder = old }) saved made
+      → IsNext first next (record { folder = old }) saved made
       → IsJournalText (contents_with (head_texts saved) []) text → RollLeaves old new len text
-      → FindsEither moment left_since old new first n
-  roll_either first old new len closed n places parts saved made text at opened m whole leaves =
+      → FindsEither moment left_since old new first next
+  roll_either first next old new len closed places parts saved made text at opened m whole leaves =
       let h : HoldsAfterHead shows kept sound moment left_since first (record { folder = old }) len
       closed [] = at.0 in
-      rolling_finds first (with_blocks n first) (record { folder = old }) (record { folder = new })
-      len closed n saved made h m refl
+      rolling_finds first next (record { folder = old }) (record { folder = new })
+      len closed saved made h m
       (leaves (contents_with (head_texts h.saved) h.late) (contents_with (head_texts saved) [])
       (files_of_both shows kept h.saved.places saved.places h.parts made old h.blocks m.blocks)
       (keeps_now shows kept sound moment left_since only_now earlier first (record { folder = old }) len

@@ -114,7 +114,11 @@ fn one_block(alloc: Global, blocks: &[Block]) -> Result<Option<Block>, AllocErro
 }
 
 /// Adds blocks to others. They share their files.
-fn share_into(alloc: Global, blocks: &[Block], joined: &mut Vec<Block>) -> Result<(), AllocError>
+pub(crate) fn share_into(
+    alloc: Global,
+    blocks: &[Block],
+    joined: &mut Vec<Block>,
+) -> Result<(), AllocError>
     ensures { OnOk result (map part_in joined.new.items
         ≡ map part_in joined.old.items ++ map part_in blocks.now) }
 {

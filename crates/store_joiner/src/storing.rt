@@ -1,10 +1,9 @@
-//! A store that begins with its blocks joined.
+//! A store that begins with another snapshot.
 
 ghost use Rattle.std.specs.Prelude.{◌≡◌, List, [], false, length, IfErr, IfOk, MatchResult};
 ghost use Rattle.head.specs.Heads.{BlockPart, world_of};
 ghost use Rattle.store_folder.specs.Holding.{HoldsAt};
 ghost use Rattle.store_joiner.specs.Finds.{FindsEither, FindsNow};
-ghost use Rattle.store_joiner.specs.Joins.{with_blocks};
 
 use data_folder::{Folder, RollError, roll};
 use head::Snapshot;
@@ -14,43 +13,41 @@ use store_folder::{
     Beginning, RollFault, StoreJournal, head_journal, next_number, sweep_apart, write_saved,
 };
 
-/// A folder whose store has its blocks joined.
+/// A folder whose store is another.
 #[derive(Drop)]
-pub struct JoinedStore<F: Drop> {
+pub struct ReplacedStore<F: Drop> {
     /// The folder.
     pub folder: F,
     /// Where the blocks lie.
     pub places: Vec<BlockPlace>,
 }
 
-/// Has a store begin with a snapshot of the same world in other blocks: their files are written to
-/// folders with new numbers, the journal is begun anew with a head that names them, and then what
-/// is no longer the store's is removed. The journal has no events, and its head names the blocks at
-/// the held places.
+/// Has a store begin with another snapshot: the files of its blocks are written to folders with new
+/// numbers, the journal is begun anew with a head that names them, and then what is no longer the
+/// store's is removed. The journal has no events, and its head names the blocks at the held places.
 ///
 /// An `Err` gives the folder back. Unless it is `Folder(Lost)`, the store is as it was, and what
-/// was written goes when it is joined or rolled again.
-pub fn join_store<N: Beginning, F: Folder + Drop>(
+/// was written goes when the store is saved again.
+pub fn replace_store<N: Beginning, F: Folder + Drop>(
     alloc: Global,
     store: StoreJournal<N, F>,
     held: &[BlockPlace],
-    joined: &Snapshot,
-) -> Result<JoinedStore<F>, (RollFault, F)>
+    next: &Snapshot,
+) -> Result<ReplacedStore<F>, (RollFault, F)>
     requires open { store.events.journal.closed ≡ false }
     requires held { (parts : List BlockPart) × HoldsAt F.shows F.kept F.sound F.moment F.left_since
         N.first store.events.journal.medium store.events.journal.len store.events.journal.closed []
         held.now parts }
-    requires joined { world_of joined.now ≡ with_blocks (length joined.now.blocks) N.first }
-    // After a crash at any moment of the call, a start finds the store as it was, or joined.
+    // After a crash at any moment of the call, a start finds the store as it was, or the other.
     ensures any_moment { MatchResult result
         (λ x. FindsEither F.moment F.left_since store.events.journal.medium.folder x.folder N.first
-        (length joined.now.blocks))
+        (world_of next.now))
         (λ e. FindsEither F.moment F.left_since store.events.journal.medium.folder e.1 N.first
-        (length joined.now.blocks)) }
-    // After `Ok` it finds it joined.
-    ensures finds { IfOk result (λ x. FindsNow F.moment F.left_since x.folder
-        (with_blocks (length joined.now.blocks) N.first)) }
-    ensures places { IfOk result (λ x. length x.places.items ≡ length joined.now.blocks) }
+        (world_of next.now)) }
+    // After `Ok` it finds the other.
+    ensures finds { IfOk result (λ x.
+        FindsNow F.moment F.left_since x.folder (world_of next.now)) }
+    ensures places { IfOk result (λ x. length x.places.items ≡ length next.now.blocks) }
     // After an `Err` it finds it as it was, unless the journal was lost.
     ensures stays { IfErr result (λ e. (e.0 ≡ RollFault.Folder RollError.Lost → ⊥)
         → FindsNow F.moment F.left_since e.1 N.first) }
@@ -58,7 +55,7 @@ pub fn join_store<N: Beginning, F: Folder + Drop>(
     let StoreJournal { events, .. } = store;
     let mut journal = events.journal;
     let folder = &mut journal.medium.folder;
-    let head = match write_saved(alloc, folder, joined, held, 0, next_number(held)) {
+    let head = match write_saved(alloc, folder, next, held, 0, next_number(held)) {
         Ok(head) => head,
         Err(fault) => return Err((fault, journal.medium.folder)),
     };
@@ -72,7 +69,7 @@ pub fn join_store<N: Beginning, F: Folder + Drop>(
     match roll(&mut journal, &text) {
         Ok(()) => {
             let _ = sweep_apart(alloc, &mut journal.medium.folder, &places);
-            Ok(JoinedStore {
+            Ok(ReplacedStore {
                 folder: journal.medium.folder,
                 places,
             })

@@ -1,5 +1,5 @@
-use Rattle.std.proofs.Common.{◌≡◌, ◌≤◌, ◌++◌, [], ◌∷◌, List, Option, Some, IfSome, OnOk, Result, Ok}
-use Rattle.std.proofs.Common.{Err, append_assoc, ap, arith, drop, length, length-append, map, subst}
+use Rattle.std.proofs.Common.{◌≡◌, ◌++◌, [], ◌∷◌, List, Option, IfSome, OnOk, Result, Ok}
+use Rattle.std.proofs.Common.{Err, append_assoc, ap, arith, length, length-append, map, subst}
 use Rattle.std.proofs.Common.{sym, take, ◌∙◌, ◌/◌}
 use Rattle.std.proofs.lemmas.List.{map-append, take-append-drop}
 use Rattle.block.specs.Blocks.{Shown}

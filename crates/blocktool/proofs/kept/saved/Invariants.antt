@@ -2,7 +2,7 @@ use Rattle.std.proofs.Common.{map}
 use Rattle.head.specs.Blocks.{part_in}
 use Rattle.head.specs.Heads.{world_of}
 use Rattle.store_folder.specs.States.{started}
-use Rattle.blocktool.proofs.joining.find_saved.Given as goal
+use Rattle.blocktool.proofs.kept.saved.Given as goal
 
 -- the world of the head and the blocks that were found
 abbrev pub ghosts-save_events : goal.ghosts-save_events

@@ -1,5 +1,6 @@
-use Rattle.std.proofs.Common.{◌≡◌, ◌++◌, ◌-◌, arith, ℕ, List, [], ap, length, refl, subst, sym, take, true, false, ◌∙◌}
+use Rattle.std.proofs.Common.{◌≡◌, ◌++◌, ◌-◌, arith, List, [], ap, length, refl, subst, sym, take, false, ◌∙◌}
 use Rattle.event_journal.specs.Holding.{contents_with}
+use Rattle.head.specs.Heads.{world_of}
 use Rattle.head_record.specs.Saved.{Place, Saved}
 use Rattle.head_record.specs.Spelling.{head_texts}
 use Rattle.journal.specs.Group.{IsJournalText}
@@ -7,11 +8,10 @@ use Rattle.data_folder.specs.Sweeping.{KeepsStore}
 use Rattle.store_folder.specs.Sweeps.{names_at}
 use Rattle.store_folder.specs.Writing.{places_from}
 use Rattle.store_folder.proofs.Rolls.{goes_on}
-use Rattle.store_joiner.specs.Joins.{with_blocks}
 use Rattle.store_joiner.proofs.Joins.{as_before, begun_anew, counted, finds_after, finds_first}
-use Rattle.store_joiner.proofs.Joins.{finds_joined}
+use Rattle.store_joiner.proofs.Joins.{finds_other}
 use Rattle.store_joiner.proofs.Joins.{keeps_before, meanwhile, next_head, now_at, roll_either, still_at}
-use Rattle.store_joiner.proofs.storing.join_store.Goals as goal
+use Rattle.store_joiner.proofs.storing.replace_store.Goals as goal
 
 pub write_saved-requires-clause-sound : goal.write_saved-requires-clause-sound
 write_saved-requires-clause-sound g c =
@@ -27,7 +27,7 @@ returns-in-Err-clause-any_moment g c =
     let old = c.args.store.events.journal in
     let held = c.requires.held in
     finds_first f.moment f.left_since old.medium.folder c.write_saved.new.folder first
-    (length c.args.joined.now.blocks)
+    (world_of c.args.next.now)
     (meanwhile f.shows f.kept f.sound f.moment f.left_since met.only_now met.earlier first old.medium
     c.write_saved.new.folder old.len old.closed c.args.held.now held.0 held.1 c.requires.open
     c.write_saved.ensures.stays)
@@ -53,7 +53,7 @@ returns-in_default-clause-any_moment g c =
     let old = c.args.store.events.journal in
     let held = c.requires.held in
     finds_first f.moment f.left_since old.medium.folder c.write_saved.new.folder first
-    (length c.args.joined.now.blocks)
+    (world_of c.args.next.now)
     (meanwhile f.shows f.kept f.sound f.moment f.left_since met.only_now met.earlier first old.medium
     c.write_saved.new.folder old.len old.closed c.args.held.now held.0 held.1 c.requires.open
     c.write_saved.ensures.stays)
@@ -79,7 +79,7 @@ returns-in-Err-head_journal-clause-any_moment g c =
     let old = c.args.store.events.journal in
     let held = c.requires.held in
     finds_first f.moment f.left_since old.medium.folder c.write_saved.new.folder first
-    (length c.args.joined.now.blocks)
+    (world_of c.args.next.now)
     (meanwhile f.shows f.kept f.sound f.moment f.left_since met.only_now met.earlier first old.medium
     c.write_saved.new.folder old.len old.closed c.args.held.now held.0 held.1 c.requires.open
     c.write_saved.ensures.stays)
@@ -127,7 +127,7 @@ returns-in-Ok-roll-clause-any_moment g c =
     let first = g.N.Beginning.first in
     let old = c.args.store.events.journal in
     let held = c.requires.held in
-    let s = c.args.joined.now in
+    let s = c.args.next.now in
     let n = length s.blocks in
     let mid = c.write_saved.new.folder in
     let new = c.roll.new.journal in
@@ -139,25 +139,25 @@ returns-in-Ok-roll-clause-any_moment g c =
     let next =
     next_head f.shows f.kept f.sound f.moment f.left_since met.only_now met.earlier first
     (record { folder = mid }) s head (take 0 c.args.held.now ++ places_from c.next_number.result (n - 0))
-    there.0 c.requires.joined c.in-Ok.ensures.saved c.in-Ok-head_journal.ensures.saved there.1 there.2 in
+    there.0 c.in-Ok.ensures.saved c.in-Ok-head_journal.ensures.saved there.1 there.2 in
     let whole =
     subst (IsJournalText (contents_with (head_texts head) [])) (sym c.deref.ensures.value)
     c.in-Ok-head_journal.ensures.text in
     let after =
     begun_anew f.shows f.kept f.sound f.moment f.left_since met.only_now met.earlier first
-    (with_blocks n first) (record { folder = mid }) new.medium new.len head there.0 next
+    (world_of s) (record { folder = mid }) new.medium new.len head there.0 next
     (c.in-Ok-roll.ensures.ok (contents_with (head_texts head) []) whole) c.in-Ok-roll.ensures.files in
     finds_after f.moment f.left_since old.medium.folder mid c.sweep_apart.new.folder _
-    (finds_first f.moment f.left_since old.medium.folder mid first n
+    (finds_first f.moment f.left_since old.medium.folder mid first (world_of s)
     (meanwhile f.shows f.kept f.sound f.moment f.left_since met.only_now met.earlier first old.medium
     mid old.len old.closed c.args.held.now held.0 held.1 c.requires.open c.write_saved.ensures.stays))
     (finds_after f.moment f.left_since mid new.medium.folder c.sweep_apart.new.folder _
-    (roll_either f.shows f.kept f.sound f.moment f.left_since met.only_now met.earlier first mid
-    new.medium.folder old.len old.closed n c.args.held.now held.0 head there.0 c.deref.result.now at
+    (roll_either f.shows f.kept f.sound f.moment f.left_since met.only_now met.earlier first
+    (world_of s) mid new.medium.folder old.len old.closed c.args.held.now held.0 head there.0 c.deref.result.now at
     c.requires.open next whole c.in-Ok-roll.ensures.any_moment)
-    (finds_joined f.moment f.left_since new.medium.folder c.sweep_apart.new.folder first n
+    (finds_other f.moment f.left_since new.medium.folder c.sweep_apart.new.folder first (world_of s)
     (meanwhile f.shows f.kept f.sound f.moment f.left_since met.only_now met.earlier
-    (with_blocks n first) new.medium c.sweep_apart.new.folder new.len false head.places there.0 after
+    (world_of s) new.medium c.sweep_apart.new.folder new.len false head.places there.0 after
     refl (subst (λ (ps : List Place). KeepsStore f.shows f.kept f.sound f.moment f.left_since
     (names_at ps) new.medium.folder c.sweep_apart.new.folder)
     (c.deref-in-Ok-roll.ensures.value ∙ c.in-Ok-from_slice.ensures.items ∙ c.places.ensures)
@@ -168,7 +168,7 @@ returns-in-Ok-roll-clause-finds g c =
     let f = g.F.Folder in
     let met = g.met.F.Folder in
     let first = g.N.Beginning.first in
-    let s = c.args.joined.now in
+    let s = c.args.next.now in
     let n = length s.blocks in
     let mid = c.write_saved.new.folder in
     let new = c.roll.new.journal in
@@ -177,19 +177,19 @@ returns-in-Ok-roll-clause-finds g c =
     let next =
     next_head f.shows f.kept f.sound f.moment f.left_since met.only_now met.earlier first
     (record { folder = mid }) s head (take 0 c.args.held.now ++ places_from c.next_number.result (n - 0))
-    there.0 c.requires.joined c.in-Ok.ensures.saved c.in-Ok-head_journal.ensures.saved there.1 there.2 in
+    there.0 c.in-Ok.ensures.saved c.in-Ok-head_journal.ensures.saved there.1 there.2 in
     let whole =
     subst (IsJournalText (contents_with (head_texts head) [])) (sym c.deref.ensures.value)
     c.in-Ok-head_journal.ensures.text in
     let after =
     begun_anew f.shows f.kept f.sound f.moment f.left_since met.only_now met.earlier first
-    (with_blocks n first) (record { folder = mid }) new.medium new.len head there.0 next
+    (world_of s) (record { folder = mid }) new.medium new.len head there.0 next
     (c.in-Ok-roll.ensures.ok (contents_with (head_texts head) []) whole) c.in-Ok-roll.ensures.files in
     now_at f.shows f.kept f.sound f.moment f.left_since met.only_now met.earlier
-    (with_blocks n first) (record { folder = c.sweep_apart.new.folder }) new.len false head.places
+    (world_of s) (record { folder = c.sweep_apart.new.folder }) new.len false head.places
     there.0
     (still_at f.shows f.kept f.sound f.moment f.left_since met.only_now met.earlier
-    (with_blocks n first) new.medium c.sweep_apart.new.folder new.len false head.places there.0 after
+    (world_of s) new.medium c.sweep_apart.new.folder new.len false head.places there.0 after
     refl (subst (λ (ps : List Place). KeepsStore f.shows f.kept f.sound f.moment f.left_since
     (names_at ps) new.medium.folder c.sweep_apart.new.folder)
     (c.deref-in-Ok-roll.ensures.value ∙ c.in-Ok-from_slice.ensures.items ∙ c.places.ensures)
@@ -202,7 +202,7 @@ returns-clause-any_moment g c =
     let first = g.N.Beginning.first in
     let old = c.args.store.events.journal in
     let held = c.requires.held in
-    let s = c.args.joined.now in
+    let s = c.args.next.now in
     let n = length s.blocks in
     let mid = c.write_saved.new.folder in
     let new = c.roll.new.journal in
@@ -214,13 +214,13 @@ returns-clause-any_moment g c =
     let next =
     next_head f.shows f.kept f.sound f.moment f.left_since met.only_now met.earlier first
     (record { folder = mid }) s head (take 0 c.args.held.now ++ places_from c.next_number.result (n - 0))
-    there.0 c.requires.joined c.in-Ok.ensures.saved c.in-Ok-head_journal.ensures.saved there.1 there.2 in
+    there.0 c.in-Ok.ensures.saved c.in-Ok-head_journal.ensures.saved there.1 there.2 in
     finds_after f.moment f.left_since old.medium.folder mid new.medium.folder _
-    (finds_first f.moment f.left_since old.medium.folder mid first n
+    (finds_first f.moment f.left_since old.medium.folder mid first (world_of s)
     (meanwhile f.shows f.kept f.sound f.moment f.left_since met.only_now met.earlier first old.medium
     mid old.len old.closed c.args.held.now held.0 held.1 c.requires.open c.write_saved.ensures.stays))
-    (roll_either f.shows f.kept f.sound f.moment f.left_since met.only_now met.earlier first mid
-    new.medium.folder old.len old.closed n c.args.held.now held.0 head there.0 c.deref.result.now at
+    (roll_either f.shows f.kept f.sound f.moment f.left_since met.only_now met.earlier first
+    (world_of s) mid new.medium.folder old.len old.closed c.args.held.now held.0 head there.0 c.deref.result.now at
     c.requires.open next
     (subst (IsJournalText (contents_with (head_texts head) [])) (sym c.deref.ensures.value)
     c.in-Ok-head_journal.ensures.text)
@@ -252,7 +252,7 @@ returns-clause-stays g c unless =
 
 pub returns-in-Ok-roll-clause-places : goal.returns-in-Ok-roll-clause-places
 returns-in-Ok-roll-clause-places g c =
-    let n = length c.args.joined.now.blocks in
+    let n = length c.args.next.now.blocks in
     let none : n - 0 ≡ n = omega arith in
     ap length (c.in-Ok-from_slice.ensures.items ∙ c.places.ensures)
     ∙ ap (λ (h : Saved). length h.places) c.in-Ok.ensures.saved
