@@ -147,7 +147,7 @@ class Store:
         """Kills the server. If the power is cut too, what was not synced is lost from some byte on."""
         server.end()
         told = read(self.told_kept) if self.preload and os.path.exists(self.told_kept) else b""
-        if len(told) == 40:
+        if len(told) == 64:
             self.kept = struct.unpack("<Q", told[:8])[0] or self.kept
             os.remove(self.told_kept)
         if not self.preload or not power or not os.path.exists(self.journal):
