@@ -46,6 +46,21 @@ pub const SESSION: &[Wish] = &[
     Wish::Batch(&[("c", 95, 4), ("b", 95, 2)]),
 ];
 
+/// Samples of a value that no other has, between the times of the others: which of them a store
+/// takes tells its floor and the newest samples of its series, also of those that were deleted.
+pub const PROBES: &[Wish] = &[
+    Wish::Batch(&[("a", 15, 77)]),
+    Wish::Batch(&[("a", 30, 77)]),
+    Wish::Batch(&[("a", 45, 77)]),
+    Wish::Batch(&[("a", 62, 77)]),
+    Wish::Batch(&[("a", 75, 77)]),
+    Wish::Batch(&[("b", 35, 77)]),
+    Wish::Batch(&[("b", 55, 77)]),
+    Wish::Batch(&[("c", 60, 77)]),
+    Wish::Batch(&[("c", 90, 77)]),
+    Wish::Batch(&[("d", 85, 77)]),
+];
+
 /// What is committed to a store that was started again.
 pub const ONE_MORE: Wish = Wish::Batch(&[("a", 1_000, 1), ("e", 1_000, 2)]);
 

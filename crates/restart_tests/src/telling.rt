@@ -1,6 +1,7 @@
 //! What a snapshot has, as text: two snapshots are alike where these are.
 
-use head::{SavedSeries, Snapshot};
+use crate::events::{PROBES, Wish, event_of};
+use head::{SavedSeries, Snapshot, apply};
 use history::{Reply, Step, run};
 use labels::{LabelSet, MAX_TIME, MIN_TIME, Row, Sample};
 use matchers::Query;
@@ -53,6 +54,23 @@ fn put_parts(alloc: Global, text: &mut String, at: &Snapshot) -> Result<(), Allo
     Ok(())
 }
 
+/// Whether a sample is taken, or why not.
+fn put_probe(alloc: Global, text: &mut String, at: &Snapshot, probe: Wish) -> Option<()> {
+    let event = event_of(alloc, probe)?;
+    match apply(alloc, at, &event) {
+        Ok(_) => text.push_str("\ntaken").ok(),
+        Err(refused) => write!(text, "\n{refused}").ok(),
+    }
+}
+
+/// Which samples are taken.
+fn put_probes(alloc: Global, text: &mut String, at: &Snapshot) -> Option<()> {
+    for probe in PROBES {
+        put_probe(alloc, text, at, *probe)?;
+    }
+    Some(())
+}
+
 /// What all times and all label sets have, whatever block or head has it.
 fn all_rows(alloc: Global, at: &Snapshot) -> Option<Reply> {
     let query = Query::new(Vec::new(alloc), MIN_TIME, MAX_TIME).ok()?;
@@ -61,10 +79,11 @@ fn all_rows(alloc: Global, at: &Snapshot) -> Option<Reply> {
 }
 
 /// What a snapshot has: its floor, the ranges of its blocks, the series of its head with their
-/// newest samples, and all rows.
+/// newest samples, which samples it takes, and all rows.
 pub fn tell(alloc: Global, at: &Snapshot) -> Option<String> {
     let mut text = String::new(alloc);
     put_parts(alloc, &mut text, at).ok()?;
+    put_probes(alloc, &mut text, at)?;
     match all_rows(alloc, at)? {
         Reply::Rows(rows) => put_rows(&mut text, &rows).ok()?,
         _ => return None,
