@@ -89,20 +89,26 @@ def same(server, world):
     return rows == world.rows() and parts == world.parts(), differences(world.rows(), rows)
 
 
+def is_of_roll(trace):
+    """Whether the last call of a server, before which it was killed, was one of a roll."""
+    lines = [line for line in read(trace).decode().splitlines() if line != "reply"]
+    return bool(lines) and lines[-1].split()[1].startswith(("journal.next", "blocks"))
+
+
 def killed(them, looks):
     """The server is killed before each of its calls in turn, or in the middle of a write."""
     ended, rolling, n = 0, 0, 0
     while True:
         n += 1
         folder, world = them.folder(), World()
-        server = them.start(folder, *WORDS, KILL_AT=n)
-        flying, rolls, was = None, 0, None
+        trace = f"{folder}.trace"
+        server = them.start(folder, *WORDS, KILL_AT=n, TRACE=trace)
+        flying, rolls = None, 0
         if server.wait():
             for event in session():
                 if isinstance(event, str):
                     rolls += 1
                     if len(told(server, "rolled the journal", rolls)) < rolls:
-                        was = event
                         break
                     continue
                 try:
@@ -117,7 +123,8 @@ def killed(them, looks):
                 break
         looks.at(f"killed at call {n}: the status", -signal.SIGKILL, server.ended(), tell=False)
         ended += 1
-        rolling += was is not None
+        rolling += is_of_roll(trace)
+        os.remove(trace)
         server = them.start(folder, *WORDS)
         if looks.that(f"killed at call {n}: it starts", server.wait(), server.told, tell=False):
             is_same, found = same(server, world)
