@@ -191,6 +191,9 @@ def not_added(them, looks):
         looks.that(f"{name} is cut short: nothing changed", tree(folder) == held, tell=False)
         os.remove(f"{broken}/{name}")
         stays(f"a block without {name}", (3, "", f"cannot read {broken}/{name}\n"), folder, broken)
+    os.rename(f"{folder}/journal", f"{folder}.aside")
+    stays("blocks of which the journal is not there", (3, "", f"cannot read {folder}/journal\n"), folder, early)
+    os.rename(f"{folder}.aside", f"{folder}/journal")
     with open(f"{folder}/journal", "r+b") as file:
         file.write(b"FZLK")
     held = tree(folder)

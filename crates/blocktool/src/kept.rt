@@ -153,7 +153,23 @@ fn begin<N: Beginning, F: Folder + Drop>(
     Ok(keeper.store.events.journal.medium.folder)
 }
 
-/// The store of a folder, which is begun if the folder has none.
+/// The same folder, which has no journal, if nothing lies in its folder of blocks either: who has
+/// lost a journal shall not lose the blocks as well.
+fn without_blocks<F: Folder + Drop>(alloc: Global, folder: F, data: &str) -> Result<F, Fault>
+    requires sound { F.sound folder ≡ true }
+    requires none { F.shows folder journal_name None × F.kept folder journal_name 0 }
+    ensures sound { IfOk result (λ folder. F.sound folder ≡ true) }
+    ensures none { IfOk result (λ folder. F.shows folder journal_name None
+        × F.kept folder journal_name 0) }
+{
+    let mut folder = folder;
+    match folder.names(alloc, "blocks") {
+        Ok(names) if names.is_empty() => Ok(folder),
+        _ => Err(no_store(alloc, data)),
+    }
+}
+
+/// The store of a folder, which is begun if the folder has neither a journal nor blocks.
 pub(crate) fn find_or_begin<F: Folder + Drop>(
     alloc: Global,
     folder: F,
@@ -168,6 +184,7 @@ pub(crate) fn find_or_begin<F: Folder + Drop>(
     match open_store(alloc, &mut folder) {
         Ok(Some(store)) => Ok(Found { folder, store }),
         Ok(None) => {
+            let folder = without_blocks(alloc, folder, data)?;
             let folder = begin::<Brand, F>(alloc, folder, StorePath { path: data })?;
             find(alloc, folder, data)
         }

@@ -18,7 +18,7 @@ const ZEROS: [u8; 32] = [0; 32];
 const ONES: [u8; 32] = [255; 32];
 
 /// The header, and the records of the three contents, which begin at bytes 5, 26 and 70.
-pub(crate) const FILE: &[u8] = b"FZLJ\x01\
+const FILE: &[u8] = b"FZLJ\x01\
     \x00\x00\x00\x09\x30\xD5\x90\x0B123456789\xE3\x06\x92\x83\
     \x00\x00\x00\x20\x68\xDA\xC5\x19\
     \x00\x00\x00\x00\x00\x00\x00\x00\x00\x00\x00\x00\x00\x00\x00\x00\
@@ -27,7 +27,7 @@ pub(crate) const FILE: &[u8] = b"FZLJ\x01\
     \xFF\xFF\xFF\xFF\xFF\xFF\xFF\xFF\xFF\xFF\xFF\xFF\xFF\xFF\xFF\xFF\
     \xFF\xFF\xFF\xFF\xFF\xFF\xFF\xFF\xFF\xFF\xFF\xFF\xFF\xFF\xFF\xFF\x62\xA8\xAB\x43";
 
-pub(crate) fn new_journal(
+fn new_journal(
     alloc: Global,
     before: u64,
     failing: u64,
