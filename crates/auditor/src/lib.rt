@@ -22,9 +22,9 @@
 //! assert_eq!(rt; told.as_str(), "block 0: refused I9\nrows: F10\n");
 //! ```
 //!
-//! The crate stands on `block_walk` and `reply_reader`, on `labels` and `matchers`, and on the types
-//! and definitions of `cover`. It shares no reader of an index, no search, no merge and no walk of
-//! certificates with the store whose answers it judges.
+//! The crate stands on `block_walk` and `reply_reader`, on `labels` and `matchers`, and on the
+//! types and definitions of `cover`. It shares no reader of an index, no search, no merge and no
+//! walk of certificates with the store whose answers it judges.
 #![tactic(auto)]
 
 mod alone;

@@ -84,8 +84,8 @@ fn is_each_within(range: Range, rows: &[Row]) -> bool
     rows.iter().all(|row| is_within(range, row))
 }
 
-/// Whether a block of a range may have rows: at most 1,048,576, each of as many samples, whose times
-/// lie in the range.
+/// Whether a block of a range may have rows: at most 1,048,576, each of as many samples, whose
+/// times lie in the range.
 pub fn are_within(range: Range, rows: &[Row]) -> bool
     ensures { result ≡ are_within range rows.now }
 {

@@ -46,8 +46,8 @@ fn sweep<N: Beginning, F: Folder + Drop>(
     Ok(())
 }
 
-/// Joins the blocks of a store, if that makes fewer of them; else removes what a join or a roll left
-/// behind that was cut off.
+/// Joins the blocks of a store, if that makes fewer of them; else removes what a join or a roll
+/// left behind that was cut off.
 fn join_found<N: Beginning, F: Folder + Drop>(
     alloc: Global,
     found: Found<F>,

@@ -1,5 +1,5 @@
-//! The program `blocktool`: it makes blocks for `querier` and `auditor` out of other programs' data,
-//! and changes stores that no server keeps.
+//! The program `blocktool`: it makes blocks for `querier` and `auditor` out of other programs'
+//! data, and changes stores that no server keeps.
 //!
 //! `run` does what the words after the program's name ask for. An `Input` gives rows in a range
 //! of times and counts what it read; `conversion` makes of several inputs, of which the later wins,

@@ -84,8 +84,8 @@ impl<M: Medium + Drop> EventJournal<M> {
             self.old.journal.medium self.old.journal.len self.old.journal.closed events
             → Holds M.shows M.kept M.sound M.moment M.left_since front
             self.new.journal.medium self.new.journal.len self.new.journal.closed events) }
-        // A crash at any moment of the call leaves a file of all that was kept, and of the first few
-        // of these: so a start finds such a list, whatever is left.
+        // A crash at any moment of the call leaves a file of all that was kept, and of the first
+        // few of these: so a start finds such a list, whatever is left.
         ensures any_moment { (front : List (List ℕ)) (events more : List Change)
             → Holds M.shows M.kept M.sound M.moment M.left_since front
             self.old.journal.medium self.old.journal.len self.old.journal.closed events
@@ -109,7 +109,8 @@ impl<M: Medium + Drop> EventJournal<M> {
         self.journal.append_records(records)
     }
 
-    /// Gives up the events that were kept last, and takes nothing more: a start may find them or not.
+    /// Gives up the events that were kept last, and takes nothing more: a start may find them or
+    /// not.
     pub fn close(&mut self)
         requires { self.old.journal.closed ≡ false }
         ensures held { (front : List (List ℕ)) (events more : List Change)

@@ -3,8 +3,8 @@
 //! [`put_batch`], [`put_rows`], [`put_deletion`] and [`put_cut`] append the text of an event, and
 //! [`text_of_event`] and [`text_of_rows`] give it; [`read_event`] gives the event of which all of
 //! the bytes are the text, or the first fault, `J8` to `J13` ([`TextError`]). A batch is spelled by
-//! runs: each label set once, with the samples of it that follow each other, so that a text is about
-//! as long as the request that it came from.
+//! runs: each label set once, with the samples of it that follow each other, so that a text is
+//! about as long as the request that it came from.
 //!
 //! A matcher is built anew when it is read. `regex` promises nowhere that it builds a pattern that
 //! it has built before, so a deletion may be refused then: `J14` ([`EventError`]).

@@ -2,11 +2,11 @@
 //!
 //! [`Index::open`] reads a whole index, each check over the whole file before the next, and gives
 //! what the file holds exactly if all checks pass; else it names the first that fails, `I1` to
-//! `I15` in the order of the format. Both are stated without reading: a file is opened exactly if its
-//! bytes spell an index (`IsIndex`), and gives what they spell; what each check asks of the bytes,
-//! and which comes first, is a table (`IsRefused`). Postings are not trusted: the pairs that are
-//! listed must be exactly those that series carry, and each list the references of the series that
-//! carry its pair. Numbers of a file are compared before anything is reserved for them.
+//! `I15` in the order of the format. Both are stated without reading: a file is opened exactly if
+//! its bytes spell an index (`IsIndex`), and gives what they spell; what each check asks of the
+//! bytes, and which comes first, is a table (`IsRefused`). Postings are not trusted: the pairs that
+//! are listed must be exactly those that series carry, and each list the references of the series
+//! that carry its pair. Numbers of a file are compared before anything is reserved for them.
 //!
 //! ```
 //! // The symbols, one series, its lists, the table of offsets, and the table of contents.

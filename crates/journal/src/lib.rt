@@ -1,8 +1,8 @@
 //! A journal: contents in a file that grows, each on the disk for good before it is acknowledged.
 //!
 //! A [`Journal`] appends a record for each content to a [`Medium`] and syncs it, or several records
-//! by one write and one sync; [`recover`] gives the contents of a file that a crash left. A crash at
-//! any moment leaves the contents that were acknowledged, and at most those that were being
+//! by one write and one sync; [`recover`] gives the contents of a file that a crash left. A crash
+//! at any moment leaves the contents that were acknowledged, and at most those that were being
 //! written: [`recover`] cuts off a torn end, and refuses any other damage with a number and its
 //! place, `J1` to `J4` ([`JournalError`]). After a sync that failed nothing is known of the medium;
 //! the journal then closes, and says so (`J7`).

@@ -1,8 +1,8 @@
 //! How texts from outside stand in a page of HTML.
 //!
-//! Each character stands as itself, `& < > " '` as entities, and a character that cannot be seen, or
-//! that changes how others are seen, as a box with its code (`U+202E`). So a text changes what is
-//! read, and never an element or an attribute. [`append_leaf`] appends a text, [`append_word`] a
+//! Each character stands as itself, `& < > " '` as entities, and a character that cannot be seen,
+//! or that changes how others are seen, as a box with its code (`U+202E`). So a text changes what
+//! is read, and never an element or an attribute. [`append_leaf`] appends a text, [`append_word`] a
 //! constant of the program. The entities are those of the HTML standard.
 //!
 //! ```

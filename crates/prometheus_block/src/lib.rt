@@ -6,8 +6,8 @@
 //! [`read_rows`] keeps of these samples what `kept_samples` keeps.
 //!
 //! It stands on `index_reader`, `chunk_reader`, `tombstones` and `xor_reader` for the files, on
-//! `kept_samples` and `imported_values` for values, and on `labels`. Segments and encodings are those of Prometheus's
-//! TSDB format documents.
+//! `kept_samples` and `imported_values` for values, and on `labels`. Segments and encodings are
+//! those of Prometheus's TSDB format documents.
 #![tactic(auto)]
 
 mod chunk;

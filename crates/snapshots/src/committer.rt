@@ -229,8 +229,8 @@ impl<J: Naming, R: Wait + Drop, K: Keeper + Drop> Committer<J, R, K> {
     /// Publishes a cut at a time, in milliseconds, under the seat's number: the head's samples
     /// below it become a block, and from then on none below it is committed. Its refusals are
     /// memory's, `E7`, `E8`, and three that hold after such a list as [`Committer::commit`] names:
-    /// `E5` where the time is not above the floor, `E6` where there are 63 blocks, `E4` where a file
-    /// of the block would be too long. After a refusal the seat stays. It waits as
+    /// `E5` where the time is not above the floor, `E6` where there are 63 blocks, `E4` where a
+    /// file of the block would be too long. After a refusal the seat stays. It waits as
     /// [`Committer::commit`] does.
     pub fn cut(
         &self,

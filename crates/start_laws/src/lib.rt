@@ -1,8 +1,8 @@
 //! That a start finds a store, whatever a crash left of it, as a law.
 //!
 //! The clauses of a durable store say that after a crash at any moment a start finds no other world
-//! than that of its events. [`finds_one`] is the law that it finds this one, whatever a crash leaves
-//! between two calls (`at_rest`), while records are written at the end of the journal
+//! than that of its events. [`finds_one`] is the law that it finds this one, whatever a crash
+//! leaves between two calls (`at_rest`), while records are written at the end of the journal
 //! (`while_written`), while it is begun anew (`while_rolled`), while files come and go beside it
 //! (`while_swept`), and while a start cuts off its torn end (`while_resumed`).
 //!

@@ -149,8 +149,8 @@ impl StartError {
         }
     }
 
-    /// Where it is: at which byte of the journal (`J1` to `J4`), after how many contents (the others
-    /// of a head) or events (of an event), or in the folder of which number (`J15`, `J16`).
+    /// Where it is: at which byte of the journal (`J1` to `J4`), after how many contents (the
+    /// others of a head) or events (of an event), or in the folder of which number (`J15`, `J16`).
     pub fn place(self) -> usize
         ensures { result ≡ start_place self }
     {

@@ -2,9 +2,9 @@
 //!
 //! A store is one journal and the files of the blocks that its head names: `IsState`, in
 //! `specs/States.antt`. [`open_store`] gives what a folder has of one, and [`resume_store`] goes on
-//! with it; [`begin_store`] begins one. A [`StoreKeeper`] keeps the events of a running store there.
-//! [`StoreKeeper::roll`] writes the blocks that the folder has not, begins the journal anew with a
-//! head that names them ([`StoreJournal::save`]), and removes what is no longer the store's
+//! with it; [`begin_store`] begins one. A [`StoreKeeper`] keeps the events of a running store
+//! there. [`StoreKeeper::roll`] writes the blocks that the folder has not, begins the journal anew
+//! with a head that names them ([`StoreJournal::save`]), and removes what is no longer the store's
 //! ([`StoreJournal::sweep_blocks`]); it does so at a start and while the store runs, when
 //! [`RollTerms`] are met.
 //!

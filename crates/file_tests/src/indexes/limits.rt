@@ -12,8 +12,8 @@ const NAMES: [&str; 65] = [
     "zd", "ze", "zf", "zg", "zh", "zi", "zj", "zk", "zl",
 ];
 
-/// An index of one series that has the value `A` of each of the first names, so many, and one chunk;
-/// the first few are listed.
+/// An index of one series that has the value `A` of each of the first names, so many, and one
+/// chunk; the first few are listed.
 fn wide(alloc: Global, count: usize, listed: usize) -> Option<Vec<u8>> {
     let names = NAMES.get(..count)?;
     let mut body = Vec::from_array(alloc, [count as u64]).ok()?;

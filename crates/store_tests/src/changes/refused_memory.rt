@@ -304,7 +304,8 @@ fn is_left<J: Naming, R: Wait + Drop>(
     store.seat.count() == events && shows(alloc, &mut store.pass, before)
 }
 
-/// Whether what came back is what was asked, the store is left as it was, and the call is then made.
+/// Whether what came back is what was asked, the store is left as it was, and the call is then
+/// made.
 fn is_made_again<J: Naming, R: Wait + Drop>(
     rt: &impl Wait,
     alloc: Global,

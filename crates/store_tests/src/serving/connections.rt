@@ -15,8 +15,8 @@ use std::thread::Threads;
 /// More bytes than a reply of these tests has.
 const ROOM: usize = 2000;
 
-/// How a connection is served, in pieces of seven bytes, and what is written; nothing where there is
-/// no memory to write to.
+/// How a connection is served, in pieces of seven bytes, and what is written; nothing where there
+/// is no memory to write to.
 fn serve<J: Naming, R: Wait + Drop>(
     rt: &(impl Wait + Threads + Sync),
     alloc: Global,
