@@ -16,7 +16,7 @@ use std::fs::File;
 use std::marker::Brand;
 use store_folder::{
     Beginning, FoundStore, RollFault, StartCause, StartError, StartedStore, StoreJournal,
-    begin_store, open_store, resume_store,
+    begin_store, has_blocks, open_store, resume_store,
 };
 use store_joiner::replace_store;
 
@@ -153,8 +153,8 @@ fn begin<N: Beginning, F: Folder + Drop>(
     Ok(keeper.store.events.journal.medium.folder)
 }
 
-/// The same folder, which has no journal, if nothing lies in its folder of blocks either: who has
-/// lost a journal shall not lose the blocks as well.
+/// The same folder, which has no journal, if it has no blocks either: who has lost a journal shall
+/// not lose the blocks as well.
 fn without_blocks<F: Folder + Drop>(alloc: Global, folder: F, data: &str) -> Result<F, Fault>
     requires sound { F.sound folder ≡ true }
     requires none { F.shows folder journal_name None × F.kept folder journal_name 0 }
@@ -163,8 +163,8 @@ fn without_blocks<F: Folder + Drop>(alloc: Global, folder: F, data: &str) -> Res
         × F.kept folder journal_name 0) }
 {
     let mut folder = folder;
-    match folder.names(alloc, "blocks") {
-        Ok(names) if names.is_empty() => Ok(folder),
+    match has_blocks(alloc, &mut folder) {
+        Ok(false) => Ok(folder),
         _ => Err(no_store(alloc, data)),
     }
 }

@@ -37,7 +37,7 @@ use std::thread::{Threads, join};
 use std::time::Clock;
 use store_folder::{
     Beginning, FoundJournal, FoundStore, RollFault, StartCause, StartError, StartedStore,
-    StoreKeeper, begin_store, open_store, resume_store,
+    StoreKeeper, begin_store, has_blocks, open_store, resume_store,
 };
 
 /// How many bytes one MB of a journal has.
@@ -52,6 +52,16 @@ fn unreadable(alloc: Global, folder: &str, error: StartError) -> Fault
         _ => path_in(alloc, folder, "journal"),
     };
     match path {
+        Ok(path) => cannot_read(alloc, path.as_str()),
+        Err(_) => Fault::Memory,
+    }
+}
+
+/// That the journal in a folder is not there.
+fn no_journal(alloc: Global, folder: &str) -> Fault
+    ensures { IsDataFault folder.now result }
+{
+    match path_in(alloc, folder, "journal") {
         Ok(path) => cannot_read(alloc, path.as_str()),
         Err(_) => Fault::Memory,
     }
@@ -74,6 +84,24 @@ struct FoundData<H: Drop> {
     found: Option<FoundStore>,
 }
 
+/// A folder that has no journal, if it has no blocks either: who has lost a journal shall not lose
+/// the blocks as well.
+fn read_nothing<H: Folder + Drop>(
+    alloc: Global,
+    disk: H,
+    folder: &str,
+) -> Result<FoundData<H>, Fault>
+    requires { IsRead H.shows H.kept H.sound disk None }
+    ensures read { IfOk result (λ x. IsRead H.shows H.kept H.sound x.disk x.found) }
+    ensures err { IfErr result (IsDataFault folder.now) }
+{
+    let mut disk = disk;
+    match has_blocks(alloc, &mut disk) {
+        Ok(false) => Ok(FoundData { disk, found: None }),
+        _ => Err(no_journal(alloc, folder)),
+    }
+}
+
 /// The store that a folder has, if it has one, and the folder.
 fn read_data<H: Folder + Drop>(alloc: Global, disk: H, folder: &str) -> Result<FoundData<H>, Fault>
     requires { H.sound disk ≡ true }
@@ -82,6 +110,7 @@ fn read_data<H: Folder + Drop>(alloc: Global, disk: H, folder: &str) -> Result<F
 {
     let mut disk = disk;
     match open_store(alloc, &mut disk) {
+        Ok(None) => read_nothing(alloc, disk, folder),
         Ok(found) => Ok(FoundData { disk, found }),
         Err(error) => Err(match error.cause() {
             StartCause::Memory => Fault::Memory,

@@ -62,6 +62,11 @@ impl Kept {
         self.text.as_str()
     }
 
+    /// Whether the text is refused.
+    pub fn is_refused(&self) -> bool {
+        matches!(self.answer, Answer::Refused(_))
+    }
+
     /// What the text was read as.
     pub fn answer(&self, alloc: Global) -> Result<Vec<Matcher>, SelectorError>
         ensures ok { IfOk result (λ v. IsAccepted self.now v.items) }

@@ -17,11 +17,11 @@ pub const MAX_KEPT_BYTES: usize = 1024;
 /// The texts of selectors that were asked for last, the last one at the end, and what they were
 /// read as.
 ///
-/// Kept are texts with 1 to [`MAX_KEPT_PATTERNS`] patterns and at most [`MAX_KEPT_BYTES`] bytes:
-/// as many of the last ones as have together at most [`MAX_KEPT_PATTERNS`] patterns. A pattern is
-/// counted for each `~` of a text, and counts [`MAX_KEPT_PATTERNS`] times if the text may repeat
-/// something by its count, as `a{100}`. What `regex` builds of such a pattern takes at most 25 MB,
-/// and of another some 10 KB as a rule.
+/// Kept are texts with patterns and at most [`MAX_KEPT_BYTES`] bytes: as many of the last ones as
+/// have together at most [`MAX_KEPT_PATTERNS`] patterns. A pattern is counted for each `~` of a
+/// text, and counts [`MAX_KEPT_PATTERNS`] times if the text may repeat something by its count, as
+/// `a{100}`. What `regex` builds of such a pattern takes at most 25 MB, and of another some 10 KB
+/// as a rule. A refused text counts once, since nothing is built of it.
 #[derive(Drop)]
 pub struct KeptSelectors {
     texts: Vec<Kept>,
@@ -48,9 +48,18 @@ fn weight_of(text: &str) -> usize {
     patterns
 }
 
-/// Whether a text is worth to be kept, and may be.
-fn is_kept(text: &str) -> bool {
-    text.len() <= MAX_KEPT_BYTES && matches!(weight_of(text), 1..=MAX_KEPT_PATTERNS)
+/// What a text that was read counts among those that are kept.
+fn weight_of_kept(kept: &Kept) -> usize {
+    if kept.is_refused() {
+        1
+    } else {
+        weight_of(kept.text())
+    }
+}
+
+/// Whether a text is worth to be kept, and may be if it is refused or has few patterns.
+fn is_worth(text: &str) -> bool {
+    text.len() <= MAX_KEPT_BYTES && count_of(b'~', text) > 0
 }
 
 /// Reads a text anew, and gives what is to be kept of it.
@@ -95,12 +104,13 @@ impl KeptSelectors {
     fn weight(&self) -> usize {
         let mut weight = 0usize;
         for kept in &self.texts {
-            weight = weight.saturating_add(weight_of(kept.text()));
+            weight = weight.saturating_add(weight_of_kept(kept));
         }
         weight
     }
 
-    /// Lets go of the texts that were asked for longest ago, until there is room for a text.
+    /// Lets go of the texts that were asked for longest ago, until there is room for a text, or none
+    /// is left.
     fn make_room(&mut self, text: &str) {
         let more = weight_of(text);
         for _ in 0..MAX_KEPT_PATTERNS {
@@ -129,7 +139,9 @@ impl KeptSelectors {
     {
         let kept = self.kept_of(alloc, text)?;
         let answer = kept.answer(alloc);
-        self.texts.push(kept)?;
+        if weight_of_kept(&kept) <= MAX_KEPT_PATTERNS {
+            self.texts.push(kept)?;
+        }
         answer
     }
 
@@ -142,7 +154,7 @@ impl KeptSelectors {
         ensures made { IfOk result (λ v. AreMade v.items) }
         ensures err { IfErr result (λ e. RefusedBy text.now e) }
     {
-        if is_kept(text) {
+        if is_worth(text) {
             self.parse_kept(alloc, text)
         } else {
             Selector::parse(alloc, text)

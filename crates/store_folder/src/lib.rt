@@ -47,7 +47,7 @@ pub use journals::{FoundJournal, read_journal};
 pub use keeping::StoreKeeper;
 pub use kinds::has_cut;
 pub use laws::{one_world, rewritten_blocks};
-pub use litter::sweep_apart;
+pub use litter::{has_blocks, sweep_apart};
 pub use plain::{begins_plain, read_plain};
 pub use reading::{FoundStore, open_store, read_store};
 pub use saving::write_saved;

@@ -143,8 +143,21 @@ impl<N: Beginning, F: Folder + Drop> StoreJournal<N, F> {
 }
 
 ghost use Rattle.std.specs.Prelude.{true};
+ghost use Rattle.data_folder.specs.Folders.{KeepsAll};
 ghost use Rattle.data_folder.specs.Sweeping.{KeepsStore};
 ghost use Rattle.store_folder.specs.Sweeps.{names_at};
+
+/// Whether something lies in a folder under a name that a block of a store has. All files stay.
+pub fn has_blocks<F: Folder>(alloc: Global, folder: &mut F) -> Result<bool, BlockFault>
+    requires { F.sound folder.old ≡ true }
+    ensures sound { F.sound folder.new ≡ true }
+    ensures all { KeepsAll F.shows F.kept folder.old folder.new }
+{
+    match folder.names(alloc, "blocks") {
+        Ok(names) => Ok(names.iter().any(|name| is_number(name.as_str()))),
+        Err(_) => Err(BlockFault::Medium),
+    }
+}
 
 /// Removes what [`StoreJournal::sweep_blocks`] does from a folder of which no journal is open. The
 /// journal stays, and so do the files of blocks at these places.
