@@ -329,6 +329,20 @@ def strangers(them, looks):
         while name := os.path.dirname(name.rstrip("/")):
             wanted.add(f"{name}/")
     looks.at("what is there", sorted(wanted), sorted(now))
+    os.rename(f"{folder}/journal", f"{folder}.aside")
+    held = tree(folder)
+    for _ in range(2):
+        server = them.start(folder)
+        server.wait()
+        looks.at("blocks of which the journal is not there", (3, f"cannot read {folder}/journal", True),
+                 (server.end(), server.told, tree(folder) == held))
+    os.rename(f"{folder}.aside", f"{folder}/journal")
+    alone = them.folder()
+    os.makedirs(f"{alone}/blocks/notes")
+    server = them.start(alone)
+    looks.that("what is no block, and no journal: it starts", server.wait(), server.told)
+    looks.at("what it says", [f"began {alone}/journal"], server.first_lines(1))
+    server.end()
     names = [f"{folder}/blocks/{n}" for n in (1, 2, 3)]
     looks.at("check of the blocks", (0, 3), (lambda done: (done[0], done[1].count(": ok ")))(run([them.querier, "check", *names])))
 

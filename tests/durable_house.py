@@ -495,6 +495,12 @@ def kill_all():
         process.wait()
 
 
+def piped(words, text):
+    """What a program that reads a text ends with: its status, and what it wrote."""
+    done = subprocess.run(words, input=text, capture_output=True, timeout=120)
+    return done.returncode, done.stdout.decode(), done.stderr.decode()
+
+
 def run(words, env=None):
     """A program to its end: its status, and what it wrote."""
     done = subprocess.run(

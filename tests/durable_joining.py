@@ -14,8 +14,8 @@ import urllib.parse
 from durable_blocks import Blocks, row, session
 from durable_faults import NOBODY, mounted
 from durable_house import (
-    LEAST, MOST, OK, Batch, Cut, Deletion, Head, Looks, World, contents_of, equals, journal, read, record, recovered,
-    refused, rows_in, run, tree,
+    LEAST, MOST, OK, Batch, Cut, Deletion, Head, Looks, World, contents_of, equals, journal, piped, read, record,
+    recovered, refused, rows_in, run, tree,
 )
 
 # a selector, what it takes, and a range
@@ -77,11 +77,6 @@ def joined(world):
             one.setdefault(labels, {}).update(samples)
     other.blocks = [one] if world.blocks else []
     return other
-
-
-def piped(words, text):
-    done = subprocess.run(words, input=text, capture_output=True, timeout=120)
-    return done.returncode, done.stdout.decode(), done.stderr.decode()
 
 
 class Joins(Blocks):

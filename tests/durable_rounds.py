@@ -9,13 +9,15 @@ import threading
 import time
 
 from durable_house import (
-    LEAST, MOST, OK, Batch, Cut, Deletion, Head, Looks, Lost, Server, World, contents_of, differences, equals, read, recovered,
-    refused, rolled, run,
+    LEAST, MOST, OK, Batch, Cut, Deletion, Head, Looks, Lost, Server, World, contents_of, differences, equals, piped, read,
+    recovered, refused, rolled, run,
 )
 
 CLIENTS = 4
 # rounds over one folder
 OF_A_STORE = 50
+# what all series of the clients have
+ALL = '{suite="durable"}'
 ODD = ["", 'a "quoted" \\ text', "größer", "\n\t\x01", "x" * 200]
 
 
@@ -122,8 +124,9 @@ class Client:
 class Store:
     """A folder over many starts and crashes."""
 
-    def __init__(self, looks, querier, preload, folder, seed):
-        self.looks, self.querier, self.preload, self.folder = looks, querier, preload, folder
+    def __init__(self, looks, programs, preload, folder, seed):
+        self.looks, self.preload, self.folder = looks, preload, folder
+        self.querier, self.auditor = programs
         self.random = random.Random(f"{seed} the store")
         self.world, self.contents, self.kept, self.starts, self.took = World(), [], 0, 0, 0.1
         # the head of the journal, if there is one, and how often it was begun anew
@@ -207,6 +210,11 @@ class Store:
         self.looks.at("the folders of blocks", [str(number) for number in sorted(self.head.numbers)], there, tell=False)
         status, out, err = run([self.querier, "check", *names])
         self.looks.at("what check says of them", (0, len(names), ""), (status, out.count(": ok "), err), tell=False)
+        status, reply, err = run([self.querier, "select", ALL, *names])
+        self.looks.at("what select says of them", (0, ""), (status, err), tell=False)
+        status, out, err = piped([self.auditor, "--selector", ALL, *names], reply.encode())
+        judged = [line.split(": ")[-1] for line in out.splitlines()]
+        self.looks.at("what the auditor says of it", (0, ["valid"] * len(names) + ["skipped", "valid"], ""), (status, judged, err), tell=False)
 
     def listed(self, contents):
         """Each event that was acknowledged has one record, those of a client in their order; and of each client at most the
@@ -337,11 +345,11 @@ class Main:
         self.told, self.flying, self.number = [], None, "main"
 
 
-def begins(looks, querier, preload, work, count, seed):
+def begins(looks, programs, preload, work, count, seed):
     """Kills servers while they begin a journal: what is left is a folder to begin in."""
     took = 0.1
     for number in range(count):
-        store = Store(looks, querier, preload, f"{work}/begun{number}", f"{seed} begun {number}")
+        store = Store(looks, programs, preload, f"{work}/begun{number}", f"{seed} begun {number}")
         server = store.start()
         time.sleep(store.random.uniform(0, took * 1.2))
         store.crash(server, store.random.random() < 0.5)
@@ -353,15 +361,15 @@ def begins(looks, querier, preload, work, count, seed):
     looks.say(f"{count} servers were killed while they began a journal")
 
 
-def rounds(querier, preload, work, count, seed):
+def rounds(programs, preload, work, count, seed):
     looks = Looks("rounds")
     looks.say(f"{count} of them, SEED={seed}" + ("" if preload else ", without cuts of the power, since there is no C compiler"))
-    begins(looks, querier, preload, work, max(1, count // 5), seed)
+    begins(looks, programs, preload, work, max(1, count // 5), seed)
     store = server = None
     for number in range(1, count + 1):
         if store is None:
             folder = f"{work}/store{number}"
-            store = Store(looks, querier, preload, folder, f"{seed} {number}")
+            store = Store(looks, programs, preload, folder, f"{seed} {number}")
             known = {}
             server = store.restart()
         if server is None:

@@ -38,7 +38,7 @@ def main():
         "faults": lambda: faults(querier, preload, within("faults")),
         "joining": lambda: joining(querier, others.split(","), preload, within("joining"), f"{top}/packaging/join-store"),
         "adding": lambda: adding(querier, others.split(","), preload, within("adding")),
-        "rounds": lambda: rounds(querier, preload, within("rounds"), count, seed),
+        "rounds": lambda: rounds((querier, others.split(",")[1]), preload, within("rounds"), count, seed),
     }
     for name in parts:
         if name not in each:
