@@ -7,8 +7,7 @@ CRATES := $(shell sed -e 's/\#.*//' -e 's/:.*//' -e '/^[[:space:]]*$$/d' crates.
 # Which crate, or script, has the tests of which crates; a crate of tests has its own.
 TESTS_OF := file_tests:wire,index_reader,chunk_reader,tombstones,block,block_writer,xor_reader,doubles,decimal_text,prometheus_block \
 	store_tests:labels,pages,matchers,postings,head,snapshots,cover,block_search,series_merge,answers,kept_selectors,requests,query_http,server,commands,querier,journal,event_text \
-	restart_tests:block_rewriter,head_record,store_folder,logged_folder \
-	audit_tests:history,block_walk,reply_reader,auditor,audit_command,audit_laws,auditor_program \
+	world_tests:history,block_walk,reply_reader,auditor,audit_command,audit_laws,auditor_program,block_rewriter,head_record,store_folder,logged_folder \
 	tests/serving:guard \
 	tests/durable:keeper,event_journal,due_cuts,folder_lock,data_folder,store_joiner \
 	tests/scraping:metrics_text \
