@@ -213,7 +213,7 @@ def failing_starts(faults, looks):
             faults.again(what, folder, [faults.replay(session())])
             if not failed:
                 break
-        looks.that(f"each {kind.lower()} of a start failed in turn: some starts ended", ended or kind == "CUT", (ended, not_rolled))
+        looks.that(f"each {kind.lower()} of a start failed in turn: some starts ended, or did not roll", ended + not_rolled, (ended, not_rolled))
 
 
 def several(faults, looks):
