@@ -164,7 +164,7 @@ def failing(them, looks):
             looks.that(f"write {n} fails: a start", is_same, found, tell=False)
         server.end()
         shutil.rmtree(folder)
-    looks.that("rolls failed", ended > 3, ended)
+    looks.that("some rolls failed", ended, ended)
 
 
 def rounds(them, looks, count, seed):
