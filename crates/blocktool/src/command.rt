@@ -93,8 +93,9 @@ Example: blocktool rewrite --into whole mine/0001 mine/0002";
 const ABOUT_ADD: &str =
     "DIR is the folder of `querier serve --data DIR`, which must not run; if it has neither a journal
 nor blocks, a store is begun in it. What its journal has is saved, and the samples of each BLOCK
-that are not deleted are in the store from then on. Of two samples of one series at one time that of
-the store is kept, or else that of the later BLOCK. All BLOCK must have values of as many digits.
+that are not deleted are in the store from then on. Of two samples of one series at one time that
+of the store is kept, or else that of the later BLOCK. All BLOCK must have values of as many
+digits.
 
 The floor is raised to the end of a BLOCK that ends above it: a server takes no sample below. If
 samples that were not cut lie there, nothing is done: cut them first. A store has at most 63 blocks.

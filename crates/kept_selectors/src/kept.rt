@@ -109,8 +109,8 @@ impl KeptSelectors {
         weight
     }
 
-    /// Lets go of the texts that were asked for longest ago, until there is room for a text, or none
-    /// is left.
+    /// Lets go of the texts that were asked for longest ago, until there is room for a text, or
+    /// none is left.
     fn make_room(&mut self, text: &str) {
         let more = weight_of(text);
         for _ in 0..MAX_KEPT_PATTERNS {

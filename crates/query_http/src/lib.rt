@@ -2,9 +2,9 @@
 //!
 //! [`serve_one`] reads one request, does what it asks and writes the reply. Where it answers
 //! [`Served::Replied`], what was written is exactly the reply to the first failing check of the
-//! bytes that came, or to the query, answered as [`ask`](answers::ask) does, or to the one event
-//! that they spell, and nothing else; an accepted event is under the seat's number, and the pass
-//! has learnt its receipt, also where the writer fails (`specs/Serving.antt`). A connection is any
+//! bytes that came, or to the query, answered as [`ask_by`](answers::ask_by) does, or to the one
+//! event that they spell, and nothing else; an accepted event is under the seat's number, and the
+//! pass has learnt its receipt, also where the writer fails (`specs/Serving.antt`). A connection is any
 //! [`Inlet`] and any [`Outlet`]. [`serve_one_with`] does the same with [`Buffers`]
 //! that a worker keeps from connection to connection.
 #![tactic(auto)]

@@ -13,10 +13,12 @@ ghost use Rattle.postings.specs.declared.part_name.PartName.TheVariants.{Block};
 ghost use Rattle.reply_reader.specs.Replies.{name_text};
 ghost use Rattle.reply_reader.specs.Read.{ReadsAs};
 ghost use Rattle.reply_reader.specs.Replies.{has_members, has_items, reference_said, sample_said};
-ghost use Rattle.reply_reader.specs.Replies.{list_said, said_at, are_labels, texts_said, labels_said};
+ghost use Rattle.reply_reader.specs.Replies.{list_said, said_at, are_labels};
+ghost use Rattle.reply_reader.specs.Replies.{texts_said, labels_said};
 ghost use Rattle.reply_reader.specs.Replies.{row_said, verdict_named, verdict_said, interval_said};
 ghost use Rattle.reply_reader.specs.Replies.{is_padded, digits_from, number_said, after, name_said};
-ghost use Rattle.reply_reader.specs.Replies.{part_name_said, skipped_said, searched_said, part_said};
+ghost use Rattle.reply_reader.specs.Replies.{part_name_said, skipped_said};
+ghost use Rattle.reply_reader.specs.Replies.{searched_said, part_said};
 ghost use Rattle.reply_reader.specs.Replies.{reply_said, tree_of, text_said, told_of_answer};
 ghost use Rattle.reply_reader.specs.Replies.{told_of_part, told_of};
 
