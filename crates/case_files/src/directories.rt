@@ -3,6 +3,7 @@
 ghost use Rattle.std.specs.Prelude.{◌≡◌};
 
 use crate::spelling::words_of;
+use audit_command as audit;
 use commands::{ReadError, ReadFiles};
 use std::alloc::Global;
 use wire::crc32c;
@@ -165,6 +166,26 @@ impl ReadFiles for Directories {
                 Ok(found)
             }
             Err(_) => Err(ReadError::Memory),
+        }
+    }
+}
+
+/// The same for `auditor`, which has a trait of its own.
+impl audit::ReadFiles for Directories {
+    ghost use Rattle.std.specs.Prelude.{⊤};
+
+    ghost may_read = { λ _ _ _. ⊤ };
+
+    fn read_file(
+        &self,
+        alloc: Global,
+        path: &str,
+        most: usize,
+    ) -> Result<Vec<u8>, audit::ReadError> {
+        match ReadFiles::read_file(self, alloc, path, most) {
+            Ok(found) => Ok(found),
+            Err(ReadError::Memory) => Err(audit::ReadError::Memory),
+            Err(ReadError::Unreadable) => Err(audit::ReadError::Unreadable),
         }
     }
 }

@@ -3,6 +3,7 @@
 use crate::directories::Directories;
 use crate::report::Report;
 use crate::spelling::{spell, words_of};
+use audit_command as audit;
 use commands::run::run;
 use std::alloc::Global;
 use std::net::{Net, TcpListener, TcpStream};
@@ -19,13 +20,30 @@ pub struct Told {
     err: Vec<u8>,
 }
 
-/// What `querier` gives for these words over these files.
-pub fn told_by<
-    Q: Wait + Threads + Net<Listener = TcpListener, Stream = TcpStream> + Clock + Eprint + Sync,
->(rt: &Q, alloc: Global, files: &Directories, words: &[String]) -> Told {
+/// What `auditor` gives for these words over these files, where it reads this.
+fn audited_by(alloc: Global, files: &Directories, words: &[String], mut input: &[u8]) -> Told {
     let mut out = Vec::new(alloc);
     let mut err = Vec::new(alloc);
-    let ending = run(rt, alloc, files, words, &mut out, &mut err, false);
+    let ending = audit::run(alloc, files, words, &mut input, &mut out, &mut err);
+    Told {
+        status: ending.status,
+        out,
+        err,
+    }
+}
+
+/// What `querier` gives for the words of a line over these files, or `auditor`, if it begins so.
+pub fn told_by<
+    Q: Wait + Threads + Net<Listener = TcpListener, Stream = TcpStream> + Clock + Eprint + Sync,
+>(rt: &Q, alloc: Global, files: &Directories, line: &Line<'_>) -> Told {
+    if let Some((program, words)) = line.words.split_first() {
+        if program.as_str() == "auditor" {
+            return audited_by(alloc, files, words, &line.input);
+        }
+    }
+    let mut out = Vec::new(alloc);
+    let mut err = Vec::new(alloc);
+    let ending = run(rt, alloc, files, &line.words, &mut out, &mut err, false);
     Told {
         status: ending.status,
         out,
@@ -47,16 +65,29 @@ fn wanted_by(alloc: Global, lines: &[&str]) -> Option<(Told, bool)> {
         match mark {
             "|" | "|~" => told.out.extend_from_slice(&text).ok()?,
             "!" | "!~" => told.err.extend_from_slice(&text).ok()?,
+            "<" => {}
             _ => told.status = str::from_utf8(&text).ok()?.parse().ok()?,
         }
         match mark {
             "|" => told.out.push(b'\n').ok()?,
             "!" => told.err.push(b'\n').ok()?,
-            "?" => {}
+            "?" | "<" => {}
             _ => whole = false,
         }
     }
     Some((told, whole))
+}
+
+/// What the lines of a case say that the program reads.
+fn input_of(alloc: Global, lines: &[&str]) -> Option<Vec<u8>> {
+    let mut input = Vec::new(alloc);
+    for line in lines {
+        if let Some(text) = line.strip_prefix("< ") {
+            input.extend_from_slice(&spell(alloc, text)?).ok()?;
+            input.push(b'\n').ok()?;
+        }
+    }
+    Some(input)
 }
 
 /// Whether bytes are what is wanted, or have it somewhere; where nothing is wanted, there is none.
@@ -67,12 +98,14 @@ fn fits(came: &[u8], wanted: &[u8], whole: bool) -> bool {
     }
 }
 
-/// A command line, the files that it is tried over, if they are its own, and what it is to give.
+/// A command line, the files that it is tried over, if they are its own, what the program reads,
+/// and what it is to give.
 #[derive(Drop)]
 pub struct Line<'a> {
     text: &'a str,
     own: Option<Directories>,
-    pub words: Vec<String>,
+    words: Vec<String>,
+    input: Vec<u8>,
     wanted: Told,
     whole: bool,
 }
@@ -103,6 +136,7 @@ pub fn line_of<'a>(alloc: Global, text: &'a str, lines: &[&'a str]) -> Option<Li
         text,
         own: None,
         words,
+        input: input_of(alloc, lines)?,
         wanted,
         whole,
     })
@@ -128,6 +162,7 @@ pub fn check_of<'a>(
         text: line,
         own: Some(own),
         words: words_of(alloc, "check it")?,
+        input: Vec::new(alloc),
         wanted,
         whole: true,
     })

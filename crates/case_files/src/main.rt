@@ -14,7 +14,8 @@
 //!   changed: `meta:`, `index:`, `chunks:`, `tombstones:`.
 //! - `$ WORD..`: what `querier` gives for these words over the files in memory: `| LINE` is a line
 //!   of standard output, `! LINE` one of standard error, `? N` the status, 0 if it is not told, and
-//!   `|~ TEXT` and `!~ TEXT` stand somewhere in the output.
+//!   `|~ TEXT` and `!~ TEXT` stand somewhere in the output. If the first word is `auditor`, the
+//!   others are those of `auditor`, which reads the lines `< LINE`.
 //! - `store DIR..`: a store over these blocks, and connections to it, each cut into pieces in three
 //!   ways. `> GET TARGET`, `> POST PATH BODY` and `> select FROM TO SELECTOR` are requests,
 //!   `>> TEXT` is one byte for byte; then comes its reply, `< STATUS BODY`, or `<< TEXT` byte for
@@ -56,7 +57,7 @@ fn main(rt: HostRuntime) -> io::Result<ExitCode> {
         for case in &cases {
             match case {
                 Case::Line(line) => {
-                    let told = told_by(&rt, alloc, line.files(&directories), &line.words);
+                    let told = told_by(&rt, alloc, line.files(&directories), line);
                     line.judge(&mut report, &told);
                 }
                 Case::Session(session) => {

@@ -1,13 +1,11 @@
 //! Tests of searches and of serving from outside, of what needs types: which lists a search and a
-//! certificate walk, what workers answer beside one thread, connections that are refused memory,
-//! the loop of one worker over connections in memory, a server and its clients as threads of one
-//! process, two threads that commit, and the reply that no client can cause. Requests and their
-//! replies stand in `case_files`.
+//! certificate walk, what workers answer beside one thread, connections that are refused memory, a
+//! server and its clients as threads of one process, two threads that commit, and the reply that no
+//! client can cause. Requests and their replies stand in `case_files`.
 
 mod certificates;
 mod connections;
 mod counting;
-mod memory;
 mod script;
 pub mod searches;
 pub mod store;

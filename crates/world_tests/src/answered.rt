@@ -7,36 +7,26 @@ use matchers::{Query, Selector};
 use postings::PartName;
 use std::alloc::Global;
 
-/// The end of all references.
-pub const END: u64 = 4_294_967_296;
-
-pub const MATCH: Verdict = Verdict::Match;
-
-pub const SILENT: Verdict = Verdict::NoSample;
-
-pub const BY_NAME: Verdict = Verdict::Rejected(0);
-
-pub const BY_JOB: Verdict = Verdict::Rejected(1);
-
 /// A certificate: from, until and verdict of each interval.
-pub type Intervals = &'static [(u32, u64, Verdict)];
+type Intervals = &'static [(u32, u64, Verdict)];
 
 /// What is said of the part: the intervals, the separators, and the references of the rows.
 pub type Said = (Intervals, &'static [u32], &'static [u32]);
 
-pub const PLACES: &[u32] = &[4, 6, 7, 8];
-
 pub const FOUND: &[u32] = &[6, 7];
 
-pub const SOUND_INTERVALS: Intervals = &[
-    (4, 6, BY_NAME),
-    (6, 7, MATCH),
-    (7, 8, MATCH),
-    (8, END, BY_JOB),
-];
-
-/// The answer to `up{job="a"}`, 0 to 100.
-pub const SOUND: Said = (SOUND_INTERVALS, PLACES, FOUND);
+/// The answer to `up{job="a"}`, 0 to 100: 4 and 5 are rejected by their name, those from 8 on by
+/// their job.
+pub const SOUND: Said = (
+    &[
+        (4, 6, Verdict::Rejected(0)),
+        (6, 7, Verdict::Match),
+        (7, 8, Verdict::Match),
+        (8, 4_294_967_296, Verdict::Rejected(1)),
+    ],
+    &[4, 6, 7, 8],
+    FOUND,
+);
 
 /// The query `up{job="a"}` from a time to 100.
 pub fn query(alloc: Global, from: i64) -> Option<Query> {

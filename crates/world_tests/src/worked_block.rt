@@ -42,11 +42,6 @@ pub const CHUNKS: &[u8] = b"\
 pub const TOMBSTONES: &[u8] = b"\
     \x01\x30\xBA\x30\x01\x00\x00\x00\x00";
 
-/// A file of deletions, which leaves no sample but that of 5.
-pub const ALL_BUT_ONE: &[u8] = b"\
-    \x01\x30\xBA\x30\x01\x04\x14\x14\x06\x14\x14\x07\x14\x14\x08\x14\x14\x09\x14\x14\xF0\x20\
-    \xF5\xAA";
-
 /// Of each series its reference, name, job and zone, and the value of its one sample, at 10.
 const SERIES: [(u32, &str, &str, &str, i64); 6] = [
     (4, "down", "a", "", 4),

@@ -6,10 +6,10 @@ use commands::{ReadError, ReadFiles};
 use std::alloc::{AllocError, Global};
 
 /// The bytes of a file, piece after piece; a file without a piece is not there.
-pub type Pieces = &'static [&'static [u8]];
+type Pieces = &'static [&'static [u8]];
 
 /// A directory's name, and its files: the meta, the index, the chunks and the tombstones.
-pub type Directory = (&'static str, [Pieces; 4]);
+type Directory = (&'static str, [Pieces; 4]);
 
 /// The place of a file among those of a directory.
 fn place_of(name: &str) -> usize {
@@ -26,7 +26,7 @@ fn place_of(name: &str) -> usize {
 pub struct Directories;
 
 /// The bytes of pieces, one after another.
-pub fn join_pieces(alloc: Global, pieces: Pieces) -> Result<Vec<u8>, AllocError> {
+fn join_pieces(alloc: Global, pieces: Pieces) -> Result<Vec<u8>, AllocError> {
     let mut bytes = Vec::new(alloc);
     for piece in pieces {
         bytes.extend_from_slice(piece)?;
@@ -56,9 +56,9 @@ impl ReadFiles for Directories {
     }
 }
 
-pub const META: Pieces = &[br#"{"minTime":0,"maxTime":20,"version":1}"#];
+const META: Pieces = &[br#"{"minTime":0,"maxTime":20,"version":1}"#];
 
-pub const NOTHING_DELETED: Pieces = &[b"\x01\x30\xBA\x30\x01\0\0\0\0"];
+const NOTHING_DELETED: Pieces = &[b"\x01\x30\xBA\x30\x01\0\0\0\0"];
 
 /// Of the indexes of two blocks of one series, `up{job="a"}` at 3: what stands before its entry.
 const ONE_SYMBOLS: &[u8] =
@@ -72,7 +72,7 @@ const ONE_LISTS: &[u8] =
 const ONE_TABLES: &[u8] =
     b"\0\0\0\x1E\0\0\0\x03\x02\0\0\x3E\x02\x08__name__\x02up\x4E\x02\x03job\x01a\x5E\x50\x01\x8B\x0C\0\0\0\0\0\0\0\x05\0\0\0\0\0\0\0\x30\0\0\0\0\0\0\0\0\0\0\0\0\0\0\0\0\0\0\0\0\0\0\0\x3E\0\0\0\0\0\0\0\x6E\x73\x28\x81\x34";
 
-pub const A_INDEX: Pieces = &[
+const A_INDEX: Pieces = &[
     ONE_SYMBOLS,
     b"\x09\x02\0\x03\x02\x01\x01\x14\x05\x08\xE9\x24\xDA\xB9",
     ONE_LISTS,
@@ -80,7 +80,7 @@ pub const A_INDEX: Pieces = &[
 ];
 
 /// The samples (10, 1) and (15, 2).
-pub const A_CHUNKS: Pieces = &[
+const A_CHUNKS: Pieces = &[
     b"\x85\xBD\x40\xDD\x01\0\0\0",
     b"\x22\xE0\0\x02\0\0\0\0\0\0\0\x0A\0\0\0\0\0\0\0\x01\0\0\0\0\0\0\0\x0F\0\0\0\0\0\0\0\x02\xA5\xCF\x5A\xEE",
 ];
