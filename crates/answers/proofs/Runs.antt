@@ -18,7 +18,7 @@ use Rattle.answers.specs.Joined.{joined}
 use Rattle.answers.specs.Kept.{whole_of}
 use Rattle.answers.specs.declared.kept.AnswerText.{AnswerText}
 use Rattle.answers.specs.declared.kept.Spot.{Spot}
-use Rattle.answers.proofs.Lists.{opened_later}
+use Rattle.answers.proofs.Lists.{opened_later, first_and_rest}
 use Rattle.answers.proofs.Objects.{searched_text, whole_text}
 
 run_of_more : (first : ℕ) (xs ys : List Row) → 0 < length xs
@@ -168,3 +168,40 @@ twice_spelled pieces rows text between until is n =
     (text.items ++ s) ++ (joined again ++ codes "}")) (joined_more rows (between ∷ []))
     (rows_again text between rows until n)
     ∙ told text.items (joined rows) between.items (codes "}"))
+
+-- one piece more
+joined_one : (ps : List (Vec ℕ Global)) (p : Vec ℕ Global)
+    → joined (ps ++ p ∷ []) ≡ joined ps ++ p.items
+joined_one ps p =
+    joined_more ps (p ∷ []) ∙ ap (λ s. joined ps ++ s) (append-nil p.items)
+
+-- what is told of a part that was searched, behind a byte
+pub searched_pieces : (first : ℕ) (a : PartAnswer) (front back : Vec ℕ Global)
+    (rows all : List (Vec ℕ Global)) → front.items ≡ first ∷ searched_front a
+    → joined rows ≡ json_list row_data a.rows.items → back.items ≡ searched_back a
+    → all ≡ (front ∷ rows) ++ back ∷ [] → joined all ≡ first ∷ compact_text (searched_data a)
+searched_pieces first a front back rows all f r b is =
+    ap joined is ∙ joined_one (front ∷ rows) back
+    ∙ rw (f, r, b) (ap (λ s. first ∷ s)
+    (append_assoc (searched_front a) (json_list row_data a.rows.items) (searched_back a)
+    ∙ sym (searched_around a)))
+
+-- pieces more, of which the text is told
+pub pieces_more : (ps more all : List (Vec ℕ Global)) (text : List ℕ)
+    → all ≡ ps ++ more → joined more ≡ text → joined all ≡ joined ps ++ text
+pieces_more ps more all text is t =
+    ap joined is ∙ joined_more ps more ∙ ap (λ s. joined ps ++ s) t
+
+listed_again : (o c a : List ℕ) → ((o ++ 91 ∷ c) ++ a) ++ 93 ∷ []
+    ≡ o ++ 91 ∷ (c ++ (a ++ 93 ∷ []))
+listed_again o c a = simp append_assoc
+
+-- the list of parts behind a text
+pub list_more : (old n1 n2 n3 : List ℕ) (one : AnsweredPart) (later parts : List AnsweredPart)
+    → parts ≡ one ∷ later → n1 ≡ old ++ 91 ∷ compact_text (part_data one)
+    → n2 ≡ n1 ++ after_commas part_data later → n3 ≡ n2 ++ 93 ∷ []
+    → n3 ≡ old ++ json_list part_data parts
+list_more old n1 n2 n3 one later parts is h1 h2 h3 =
+    rw (h3, h2, h1, is) (listed_again old (compact_text (part_data one))
+    (after_commas part_data later)
+    ∙ ap (λ s. old ++ s) (first_and_rest part_data one later))

@@ -15,12 +15,13 @@ ghost use Rattle.answers.specs.MergedRows.{rows_of};
 use crate::audited::AuditedAnswer;
 use crate::brackets::open_list;
 use crate::kept::AnswerText;
+use crate::part_pieces::parts_in_pieces;
 use crate::parts::{
     append_parts, append_parts_after_commas, append_searched_back, append_searched_front,
 };
-use crate::pieces::{room_of_rows, rows_in_pieces};
+use crate::pieces::{LONG, room_of_rows, rows_in_pieces};
 use crate::rows::append_rows;
-use crate::told::{told_once, told_twice};
+use crate::told::{told_behind, told_once, told_twice};
 use block_search::AnsweredPart;
 use cover::PartAnswer;
 use labels::Row;
@@ -132,6 +133,20 @@ fn text_of_all<R: Threads + Sync>(
     told_once(alloc, front, rows)
 }
 
+/// The same, where the rows of several parts are many: several threads write those of each.
+fn long_text_of_all<R: Threads + Sync>(
+    rt: &R,
+    alloc: Global,
+    parts: &[AnsweredPart],
+    rows: &[Row],
+) -> Result<AnswerText, AllocError>
+    ensures { IfOk result (λ text. whole_of text ≡ body_text parts.now rows.now) }
+{
+    let front = parts_in_pieces(rt, alloc, parts)?;
+    let rows = rows_in_pieces(rt, alloc, Vec::new(alloc), rows)?;
+    told_behind(front, rows)
+}
+
 /// Room that a caller has at hand for the text of an answer. What it holds is dropped.
 #[derive(Drop)]
 pub struct Rooms {
@@ -168,7 +183,8 @@ pub fn answer_text<R: Threads + Sync>(
         Some((AnsweredPart::Searched(first), later)) => {
             text_of_one(rt, alloc, rooms, before, first, later)
         }
-        _ => text_of_all(rt, alloc, rooms, parts, answer.rows()),
+        _ if room_of(parts) < LONG => text_of_all(rt, alloc, rooms, parts, answer.rows()),
+        _ => long_text_of_all(rt, alloc, parts, answer.rows()),
     }
 }
 

@@ -27,6 +27,7 @@ mod error;
 mod headline;
 mod kept;
 mod number;
+mod part_pieces;
 mod parts;
 mod pieces;
 mod plain;

@@ -137,7 +137,11 @@ fn append_searched(alloc: Global, out: &mut Vec<u8>, answer: &PartAnswer) -> Res
 }
 
 /// Appends that a part is skipped.
-fn append_skipped(alloc: Global, out: &mut Vec<u8>, name: PartName) -> Result<(), AllocError>
+pub(crate) fn append_skipped(
+    alloc: Global,
+    out: &mut Vec<u8>,
+    name: PartName,
+) -> Result<(), AllocError>
     ensures { OnOk result (out.new.items ≡ out.old.items ++ compact_text (skipped_data name)) }
 {
     let name = name_of(alloc, name)?;

@@ -16,7 +16,7 @@ use std::thread::{Threads, join};
 const THREADS: usize = 4;
 
 /// Rows whose text takes about so many bytes, or more, are written by several threads.
-const LONG: usize = 262_144;
+pub(crate) const LONG: usize = 262_144;
 
 /// About as many bytes as rows take: the labels of most rows 256, and most samples 24.
 pub(crate) fn room_of_rows(rows: &[Row]) -> usize {

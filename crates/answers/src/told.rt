@@ -8,7 +8,7 @@ use crate::kept::{AnswerText, Spot};
 use std::alloc::{AllocError, Global};
 
 /// A text, with pieces behind it.
-fn with_pieces(
+pub(crate) fn with_pieces(
     alloc: Global,
     text: Vec<u8>,
     pieces: Vec<Vec<u8>>,
@@ -32,6 +32,20 @@ pub(crate) fn told_once(
         whole_of answer ≡ text.items ++ (joined rows.items ++ codes "}")) }
 {
     let pieces = with_pieces(alloc, text, rows)?;
+    let again = Spot { from: 0, until: 0 };
+    Ok(AnswerText::new(pieces, again))
+}
+
+/// The text of an answer whose last rows stand behind pieces.
+pub(crate) fn told_behind(
+    pieces: Vec<Vec<u8>>,
+    rows: Vec<Vec<u8>>,
+) -> Result<AnswerText, AllocError>
+    ensures { IfOk result (λ answer.
+        whole_of answer ≡ joined pieces.items ++ (joined rows.items ++ codes "}")) }
+{
+    let (mut pieces, mut rows) = (pieces, rows);
+    pieces.append(&mut rows)?;
     let again = Spot { from: 0, until: 0 };
     Ok(AnswerText::new(pieces, again))
 }
