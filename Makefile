@@ -6,11 +6,11 @@ GATE_JOBS ?= $(shell n=$$(nproc); echo $$((n < 4 ? n : 4)))
 CRATES := $(shell sed -e 's/\#.*//' -e 's/:.*//' -e '/^[[:space:]]*$$/d' crates.txt)
 # Which crate, or script, has the tests of which crates; a crate of tests has its own.
 TESTS_OF := file_tests:wire,index_reader,chunk_reader,tombstones,block,block_writer,xor_reader,doubles,decimal_text,prometheus_block \
-	store_tests:labels,pages,matchers,postings,head,snapshots,cover,block_search,series_merge,answers,kept_selectors,requests,query_http,server,commands,querier,journal,event_text \
+	store_tests:labels,pages,matchers,postings,head,snapshots,cover,block_search,series_merge,answers,selector_cache,requests,query_http,server,commands,querier,journal,event_text \
 	world_tests:history,block_walk,reply_reader,auditor,audit_command,audit_laws,auditor_program,block_rewriter,head_record,store_folder,logged_folder \
 	tests/serving:guard \
-	tests/durable:keeper,event_journal,due_cuts,folder_lock,data_folder,store_joiner \
-	tests/scraping:metrics_text \
+	tests/durable:keeper,event_journal,cut_schedule,folder_lock,data_folder,store_joiner \
+	tests/scraping:server_metrics \
 	tests/importing:imported_values,kept_samples,time_cuts,block_folder,block_outputs,open_metrics,metrics_writer,exposition,blocktool \
 	tests/pages-html:page_layout,page_style,page_escape,page_text,page_claims,page_marks,page,explain
 # The crate or the script with the tests of a crate, or nothing.

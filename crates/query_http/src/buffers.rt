@@ -6,7 +6,7 @@ ghost use Rattle.query_http.specs.Bounds.{IsBounded};
 use crate::note::Note;
 use crate::reply::Reply;
 use answers::{AnswerText, Rooms};
-use kept_selectors::KeptSelectors;
+use selector_cache::KeptSelectors;
 use std::alloc::Global;
 use std::mem;
 

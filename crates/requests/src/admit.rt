@@ -14,7 +14,7 @@ use crate::head::read_head;
 use crate::read::read_after;
 use crate::{ReadError, Refusal, Request};
 use guard::{Denial, Rules};
-use kept_selectors::KeptSelectors;
+use selector_cache::KeptSelectors;
 use std::alloc::Global;
 
 /// The refusal of a request that is not admitted: `H12`, or `H3` as of a path that is none.

@@ -8,7 +8,7 @@ ghost use Rattle.requests.specs.Requests.{Told};
 use crate::select::matchers_of;
 use crate::values::{has_members, json_of, text_at, time_at};
 use crate::{ReadError, Refusal, Request};
-use kept_selectors::KeptSelectors;
+use selector_cache::KeptSelectors;
 use serde_json::Value;
 use std::alloc::{AllocError, Global};
 

@@ -18,7 +18,7 @@ use crate::select::select;
 use crate::target::{Path, path_asked, query_text, takes_query};
 use crate::write::write;
 use crate::{ReadError, Refusal, Request};
-use kept_selectors::KeptSelectors;
+use selector_cache::KeptSelectors;
 use std::alloc::Global;
 
 /// Reads until the buffer has so many bytes: `H7` where the input ends before.

@@ -10,8 +10,8 @@ ghost use Rattle.requests.specs.Requests.{Told};
 
 use crate::times::time_of;
 use crate::{ReadError, Refusal, Request};
-use kept_selectors::KeptSelectors;
 use matchers::{Matcher, Query, SelectorError};
+use selector_cache::KeptSelectors;
 use std::alloc::{AllocError, Global};
 
 fn query_pairs(alloc: Global, query: &[u8]) -> Result<Vec<(String, String)>, AllocError>

@@ -5,9 +5,9 @@ use Rattle.std.specs.Prelude.{decimal, nat_eq, if◌then◌else◌}
 use Rattle.std.specs.Io.KnownBytes.{Appends}
 use Rattle.std.specs.List.{starts_with}
 use Rattle.std.specs.Str.{bytes_eq}
-use Rattle.metrics_text.specs.Families.{metrics_text}
-use Rattle.metrics_text.specs.declared.counts.Counts.{Counts}
-use Rattle.metrics_text.specs.declared.counts.State.{State}
+use Rattle.server_metrics.specs.Families.{server_metrics}
+use Rattle.server_metrics.specs.declared.counts.Counts.{Counts}
+use Rattle.server_metrics.specs.declared.counts.State.{State}
 use Rattle.server.specs.declared.status.Asked.{Asked}
 use Rattle.server.specs.declared.status.Asked.TheVariants.{Metrics, Healthy, Ready, NoPath}
 use Rattle.server.specs.declared.status.Asked.TheVariants.{NoMethod, NoRequest}
@@ -109,7 +109,7 @@ IsPlain asked ready line body = (line ≡ plain_line asked ready) × (body ≡ p
 abbrev pub TellsCounts : List ℕ → List ℕ → Type 0
 TellsCounts line body =
     (counts : Counts) × (state : State)
-    × (line ≡ codes "200 OK") × (body ≡ metrics_text counts state)
+    × (line ≡ codes "200 OK") × (body ≡ server_metrics counts state)
 
 -- the status and the body of a reply, by whether the blocks are open
 abbrev pub IsAnswer : Asked → Bool → List ℕ → List ℕ → Type 0

@@ -2,7 +2,7 @@
 
 use crate::sockets::micros_of;
 use crate::tally::Tally;
-use due_cuts::{awaited, due};
+use cut_schedule::{awaited, due};
 use head::{CommitError, HeadView, MAX_SERIES};
 use keeper::Keeper;
 use labels::{MAX_TIME, MIN_TIME, is_time};

@@ -4,7 +4,7 @@ use crate::status::{Report, answer_status};
 use crate::tally::Tally;
 use head::Snapshot;
 use labels::{MAX_TIME, MIN_TIME, SeriesRef};
-use metrics_text::{Counts, State};
+use server_metrics::{Counts, State};
 use snapshots::{Naming, Pass};
 use std::alloc::Global;
 use std::net::TcpListener;

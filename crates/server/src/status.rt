@@ -9,7 +9,7 @@ ghost use Rattle.server.specs.Status.{IsAnswer, allow_of, asked_in, has_end, hea
 ghost use Rattle.server.specs.Status.{IsReply, IsReplyTo, IsHeadOfReply, IsReplied};
 
 use crate::ending::end;
-use metrics_text::{Counts, State, metrics};
+use server_metrics::{Counts, State, metrics};
 use std::alloc::{AllocError, Global};
 use std::io::{self, Read, Write};
 use std::net::{TcpListener, TcpStream};

@@ -3,9 +3,9 @@
 ghost use Rattle.std.specs.Prelude.{◌≡◌};
 ghost use Rattle.server.specs.Counting.{event_at, event_of, refusal_told, refusal_unavailable};
 
-use metrics_text::{Counts, PathCounts, Times, place_in, place_of_refusal, place_of_status};
 use query_http::Note;
 use requests::{Path, Status};
+use server_metrics::{Counts, PathCounts, Times, place_in, place_of_refusal, place_of_status};
 use std::alloc::{AllocError, Global};
 use std::sync::atomic::{AtomicU64, Ordering};
 

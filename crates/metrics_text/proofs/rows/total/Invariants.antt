@@ -1,7 +1,0 @@
-use Rattle.std.proofs.Common.{◌≡◌, drop}
-use Rattle.std.specs.List.{fold}
-use Rattle.metrics_text.specs.Rows.{capped, total}
-use Rattle.metrics_text.proofs.rows.total.Given as goal
-
-abbrev pub invariant-loop-n : goal.invariant-loop-n
-invariant-loop-n l = fold capped l.sum (drop l.n-index l.counts) ≡ total l.counts
