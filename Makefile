@@ -61,6 +61,10 @@ audits: ## pipes querier's replies, as they are and changed, through auditor (ne
 serving: ## runs the server and asks it with curl: the session of the README, slow and silent clients
 	@RT="$(RT)" tests/serving
 
+.PHONY: scripts
+scripts: ## runs every script of tests/ that this machine has the programs for, and tells which ran, failed or were left out
+	@RT="$(RT)" tests/scripts
+
 .PHONY: package pages
 package: ## builds a Debian package of the programs, man pages, completions, documents and the example (needs dpkg-deb, binutils and python3)
 	@RT="$(RT)" packaging/make

@@ -153,7 +153,7 @@ impl<J: Naming, C: Wait + Drop, K: Keeper + Drop> Workers<J, C, K> {
     }
 
     /// One worker fewer: what was its own is for cuts that the store makes by itself. They are at
-    /// multiples of so many milliseconds, 1 to 2^62 - 1, each as soon as it is due (`cut_schedule`).
+    /// multiples of so many milliseconds, 1 to 2^62 - 1, each as soon as `cut_schedule` has it due.
     pub fn cutting(self, every: u64) -> Workers<J, C, K>
         requires { 0 < self }
         ensures { result + 1 ≡ self }
