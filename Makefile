@@ -30,7 +30,7 @@ help: ## lists the targets
 	@echo "test-CRATE      runs the tests of one crate, wherever they stand"
 
 try: ## runs `querier demo` with no proof
-	@echo "building without proofs: one minute, up to three on a slow or busy machine" >&2
+	@echo "building without proofs: one minute, up to four on a slow or busy machine" >&2
 	@cd crates/querier && $(RT) try -- demo
 
 demo: ## proves what `querier` stands on, with a line for each crate, and runs `querier demo`
