@@ -18,7 +18,7 @@ use Rattle.metrics_writer.specs.Series.{pair_text, is_name_label, labels_text, s
 use Rattle.metrics_writer.specs.Series.{fields_text, line_text}
 use Rattle.open_metrics.specs.declared.comments.Format.TheVariants.{OpenMetrics}
 use Rattle.open_metrics.specs.declared.tokens.Class.TheVariants.{Metric, Label}
-use Rattle.open_metrics.specs.Grammar.{AreIn, IsName, escape_then, text_then, SpellsPair}
+use Rattle.open_metrics.specs.Grammar.{AreIn, IsName, escape_then, SpellsText, SpellsPair}
 use Rattle.open_metrics.specs.Grammar.{SpellsOthers, SpellsLabels, IsSample}
 use Rattle.open_metrics.specs.Labels.{Pair}
 use Rattle.metrics_laws.specs.Read.{others_of, sample_of}
@@ -37,33 +37,28 @@ escape_is c rest =
       ]
     ]
 
-text_is : (cs rest : List ℕ) → escaped_text cs ++ (34 ∷ rest) ≡ text_then cs rest
+text_is : (cs rest : List ℕ) → SpellsText cs rest (escaped_text cs ++ (34 ∷ rest))
 unfolding escaped_text
 text_is [] rest = refl
 text_is (c ∷ cs) rest =
-    append_assoc (escape c) (escaped_text cs) (34 ∷ rest)
-    ∙ (ap (λ (r : List ℕ). escape c ++ r) (text_is cs rest) ∙ escape_is c (text_then cs rest))
-
--- name="text", and what stands behind it
-abbrev pair_then : Pair → List ℕ → List ℕ
-pair_then p rest = p.0 ++ (61 ∷ 34 ∷ text_then p.1 rest)
-
-pair_is : (p : Pair) (rest : List ℕ) → pair_text p ++ rest ≡ pair_then p rest
-unfolding pair_text
-pair_is p rest =
-    let one : pair_text p ++ rest ≡ p.0 ++ (61 ∷ 34 ∷ (escaped_text p.1 ++ (34 ∷ rest))) =
-    simp append_assoc in
-    one ∙ ap (λ (r : List ℕ). p.0 ++ (61 ∷ 34 ∷ r)) (text_is p.1 rest)
+    let after = escaped_text cs ++ (34 ∷ rest) in (
+      after,
+      inl (append_assoc (escape c) (escaped_text cs) (34 ∷ rest) ∙ escape_is c after),
+      text_is cs rest,
+    )
 
 pair_spelled : (p : Pair) (rest : List ℕ) → SpellsPair OpenMetrics p rest (pair_text p ++ rest)
+unfolding pair_text
 pair_spelled p rest = record {
   before = [];
   between = [];
   behind = [];
+  value = escaped_text p.1 ++ (34 ∷ rest);
   before_blank = refl;
   between_blank = refl;
   behind_blank = refl;
-  text = pair_is p rest;
+  value_is = text_is p.1 rest;
+  text = simp append_assoc;
 }
 
 others_are : (ps : Labels) (rest : List ℕ)

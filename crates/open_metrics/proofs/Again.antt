@@ -15,7 +15,8 @@ use Rattle.open_metrics.specs.declared.tokens.Class.{Class}
 use Rattle.open_metrics.specs.declared.tokens.Class.TheVariants.{Metric, Label, Word, Blank}
 use Rattle.open_metrics.specs.declared.numbers.Value.{Value}
 use Rattle.open_metrics.specs.declared.numbers.Value.TheVariants.{Parts}
-use Rattle.open_metrics.specs.Grammar.{AreBlanks, AreIn, IsGap, IsName, escape_then, text_then}
+use Rattle.open_metrics.specs.Grammar.{AreBlanks, AreIn, IsGap, IsName, escape_then}
+use Rattle.open_metrics.specs.Grammar.{IsNoEscape, SpellsChar, SpellsText}
 use Rattle.open_metrics.specs.Grammar.{SpellsPair, IsClose, SpellsOthers, SpellsWithin}
 use Rattle.open_metrics.specs.Grammar.{SpellsLabels, IsTail, IsSample}
 use Rattle.open_metrics.specs.Labels.{Pair, pair_at, is_end, after_comma, comma_at, next_at}
@@ -66,9 +67,9 @@ same_char : (a b : ℕ) (rest : List ℕ) → a ≡ b
 same_char a b rest e =
     ap (λ (x : ℕ). let r : Result (Option ℕ × List ℕ) Fault = Ok (Some x, rest) in r) e
 
-char_again : (c : ℕ) (rest : List ℕ) → char_at (escape_then c rest) ≡ Ok (Some c, rest)
+escaped_again : (c : ℕ) (rest : List ℕ) → char_at (escape_then c rest) ≡ Ok (Some c, rest)
 unfolding char_at escape_at
-char_again c rest =
+escaped_again c rest =
     elim (cases_Bool (eqb c 92)) [
       | inl e ↦ rw e (same_char 92 c rest (sym (eqb-true c 92 e)))
       | inr e ↦ elim (cases_Bool (eqb c 34)) [
@@ -80,15 +81,31 @@ char_again c rest =
       ]
     ]
 
-text_again_in : (cs rest : List ℕ) (n : ℕ) → length cs < n
-    → until_end char_at reason.Text n (text_then cs rest) ≡ Ok (cs, rest)
+-- a backslash that begins no escape
+itself_again : (rest : List ℕ) → IsNoEscape rest → escape_at rest ≡ (92, rest)
+unfolding escape_at
+itself_again [] none = refl
+itself_again (c ∷ cs) none = rw none refl
+
+backslash_again : (rest : List ℕ) → IsNoEscape rest → char_at (92 ∷ rest) ≡ Ok (Some 92, rest)
+unfolding char_at
+backslash_again rest none = rw (itself_again rest none) refl
+
+char_again : (c : ℕ) (rest bytes : List ℕ) → SpellsChar c rest bytes
+    → char_at bytes ≡ Ok (Some c, rest)
+char_again c rest bytes (inl is) = ap char_at is ∙ escaped_again c rest
+char_again c rest bytes (inr is) =
+    ap char_at is.1 ∙ (backslash_again rest is.2 ∙ same_char 92 c rest (sym is.0))
+
+text_again_in : (cs rest bytes : List ℕ) (n : ℕ) → SpellsText cs rest bytes → length cs < n
+    → until_end char_at reason.Text n bytes ≡ Ok (cs, rest)
 unfolding until_end char_at
-text_again_in [] rest zero lt = absurd (omega arith)
-text_again_in [] rest (suc n) lt = refl
-text_again_in (c ∷ cs) rest zero lt = absurd (omega arith)
-text_again_in (c ∷ cs) rest (suc n) lt =
-    let one = char_again c (text_then cs rest) in
-    let others = text_again_in cs rest n (omega arith) in
+text_again_in [] rest bytes zero is lt = absurd (omega arith)
+text_again_in [] rest bytes (suc n) is lt = ap (until_end char_at reason.Text (suc n)) is
+text_again_in (c ∷ cs) rest bytes zero is lt = absurd (omega arith)
+text_again_in (c ∷ cs) rest bytes (suc n) is lt =
+    let one = char_again c is.0 bytes is.1 in
+    let others = text_again_in cs rest is.0 n is.2 (omega arith) in
     rw (one, others) refl
 
 escape_long : (c : ℕ) (rest : List ℕ) → suc (length rest) ≤ length (escape_then c rest)
@@ -104,13 +121,22 @@ escape_long c rest =
       ]
     ]
 
-text_long : (cs rest : List ℕ) → length cs < length (text_then cs rest)
-text_long [] rest = omega arith
-text_long (c ∷ cs) rest = omega (arith, text_long cs rest, escape_long c (text_then cs rest))
+char_long : (c : ℕ) (rest bytes : List ℕ) → SpellsChar c rest bytes
+    → suc (length rest) ≤ length bytes
+char_long c rest bytes (inl is) =
+    subst (λ (b : List ℕ). suc (length rest) ≤ length b) (sym is) (escape_long c rest)
+char_long c rest bytes (inr is) =
+    subst (λ (b : List ℕ). suc (length rest) ≤ length b) (sym is.1) (omega arith)
 
-pub text_again : (cs rest : List ℕ) → text_at (text_then cs rest) ≡ Ok (cs, rest)
+text_long : (cs rest bytes : List ℕ) → SpellsText cs rest bytes → length cs < length bytes
+text_long [] rest bytes is = subst (λ (b : List ℕ). 0 < length b) (sym is) (omega arith)
+text_long (c ∷ cs) rest bytes is =
+    omega (arith, text_long cs rest is.0 is.2, char_long c is.0 bytes is.1)
+
+pub text_again : (cs rest bytes : List ℕ) → SpellsText cs rest bytes
+    → text_at bytes ≡ Ok (cs, rest)
 unfolding text_at
-text_again cs rest = text_again_in cs rest (length (text_then cs rest)) (text_long cs rest)
+text_again cs rest bytes is = text_again_in cs rest bytes (length bytes) is (text_long cs rest bytes is)
 
 -- BLANKS
 true_is_false : true ≡ false → ⊥
@@ -195,7 +221,7 @@ pub pair_again : (format : Format) (p : Pair) (after bytes : List ℕ) → IsNam
     → SpellsPair format p after bytes → pair_at format bytes ≡ Ok (p, after)
 unfolding pair_at byte_at
 pair_again format p after bytes is spells =
-    let from_text = 34 ∷ text_then p.1 after in
+    let from_text = 34 ∷ spells.value in
     let from_quote = spells.behind ++ from_text in
     let from_equals = 61 ∷ from_quote in
     let from_name = spells.between ++ from_equals in
@@ -207,7 +233,7 @@ pair_again format p after bytes is spells =
     (after_stops Label format spells.between 61 from_quote refl refl refl spells.between_blank) in
     let two = blanks_again format spells.between from_equals spells.between_blank refl in
     let three = blanks_again format spells.behind from_text spells.behind_blank refl in
-    let text = text_again p.1 after in
+    let text = text_again p.1 after spells.value spells.value_is in
     ap (pair_at format) spells.text ∙ rw (one, name, two, three, text) refl
 
 end_again : (format : Format) (blanks close rest : List ℕ) → AreBlanks format blanks
@@ -242,8 +268,7 @@ name_no_end (c ∷ cs) rest is =
 pair_no_end : (format : Format) (p : Pair) (after bytes : List ℕ) → IsName Label p.0
     → SpellsPair format p after bytes → is_end (after_blanks format bytes) ≡ false
 pair_no_end format p after bytes is spells =
-    let from_name =
-    spells.between ++ (61 ∷ (spells.behind ++ (34 ∷ text_then p.1 after))) in
+    let from_name = spells.between ++ (61 ∷ (spells.behind ++ (34 ∷ spells.value))) in
     ap (λ (b : List ℕ). is_end (after_blanks format b)) spells.text
     ∙ (ap is_end (blanks_again format spells.before (p.0 ++ from_name) spells.before_blank
     (name_begins Label p.0 from_name refl refl is))

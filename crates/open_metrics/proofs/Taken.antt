@@ -16,7 +16,8 @@ use Rattle.open_metrics.specs.declared.numbers.Value.{Value}
 use Rattle.open_metrics.specs.declared.numbers.Value.TheVariants.{Parts, Near, Other}
 use Rattle.open_metrics.specs.declared.tokens.Class.{Class}
 use Rattle.open_metrics.specs.declared.tokens.Class.TheVariants.{Metric, Label, Word, Blank}
-use Rattle.open_metrics.specs.Grammar.{AreBlanks, AreIn, IsGap, IsName, escape_then, text_then}
+use Rattle.open_metrics.specs.Grammar.{AreBlanks, AreIn, IsGap, IsName, escape_then}
+use Rattle.open_metrics.specs.Grammar.{SpellsChar, SpellsText}
 use Rattle.open_metrics.specs.Grammar.{SpellsPair, IsClose, SpellsOthers, SpellsLabels}
 use Rattle.open_metrics.specs.Grammar.{IsExemplar, IsTail, IsSample}
 use Rattle.open_metrics.specs.Labels.{Pair, pair_at, is_end, may_end, after_comma, comma_at}
@@ -24,7 +25,7 @@ use Rattle.open_metrics.specs.Labels.{next_at, others_at, within_at, labels_at}
 use Rattle.open_metrics.specs.Lines.{Sampled, or_value, or_time, value_at, time_at, time_places}
 use Rattle.open_metrics.specs.Lines.{tail_at, exemplar_at, sample_at}
 use Rattle.open_metrics.specs.Numbers.{number_at}
-use Rattle.open_metrics.specs.Texts.{char_at, escape_at, or_text, text_at, until_end}
+use Rattle.open_metrics.specs.Texts.{char_at, escape_at, escaped, text_at, until_end}
 use Rattle.open_metrics.specs.Texts.{goes_with}
 use Rattle.open_metrics.specs.Tokens.{after_blanks, blanks_at, byte_at, gap_at, goes_on}
 use Rattle.open_metrics.specs.Tokens.{count_front, front, behind, is_begun, name_at}
@@ -67,80 +68,73 @@ byte_takes c why (b ∷ bytes) rest h =
     ∙ ap (λ (r : List ℕ). c ∷ r) (same_value bytes rest p.1)
 
 -- what a step of a text found
-abbrev pub SpellsChar : List ℕ → Option ℕ × List ℕ → Type 0
-SpellsChar bytes x = elim x.0 as (λ _. Type 0) [
+abbrev pub SpellsStep : List ℕ → Option ℕ × List ℕ → Type 0
+SpellsStep bytes x = elim x.0 as (λ _. Type 0) [
   | None ↦ bytes ≡ 34 ∷ x.1
-  | Some c ↦ bytes ≡ escape_then c x.1
+  | Some c ↦ SpellsChar c x.1 bytes
 ]
 
-escape_takes : (rest : List ℕ) (x : Option ℕ × List ℕ) → escape_at rest ≡ Ok x
-    → SpellsChar (92 ∷ rest) x
+-- a backslash, and what it stands for
+escape_takes : (rest : List ℕ)
+    → SpellsStep (92 ∷ rest) (Some (escape_at rest).0, (escape_at rest).1)
 unfolding escape_at
-escape_takes [] x h = absurd cc
-escape_takes (d ∷ rest) x h =
+escape_takes [] = inr (refl, refl, tt)
+escape_takes (d ∷ rest) =
     elim (cases_Bool (eqb d 92)) [
-      | inl e ↦
-          let f : or_text rest (length (d ∷ rest)) (Some 92) ≡ Ok x = rw e at h in
-          subst (SpellsChar (92 ∷ d ∷ rest)) (same_value (Some 92, rest) x f)
-          (ap (λ (y : ℕ). 92 ∷ y ∷ rest) (eqb-true d 92 e))
+      | inl e ↦ rw e (inl (ap (λ (y : ℕ). 92 ∷ y ∷ rest) (eqb-true d 92 e)))
       | inr e ↦ elim (cases_Bool (eqb d 34)) [
-        | inl f ↦
-            let g : or_text rest (length (d ∷ rest)) (Some 34) ≡ Ok x = rw (e, f) at h in
-            subst (SpellsChar (92 ∷ d ∷ rest)) (same_value (Some 34, rest) x g)
-            (ap (λ (y : ℕ). 92 ∷ y ∷ rest) (eqb-true d 34 f))
+        | inl f ↦ rw (e, f) (inl (ap (λ (y : ℕ). 92 ∷ y ∷ rest) (eqb-true d 34 f)))
         | inr f ↦ elim (cases_Bool (eqb d 110)) [
-          | inl g ↦
-              let k : or_text rest (length (d ∷ rest)) (Some 10) ≡ Ok x = rw (e, f, g) at h in
-              subst (SpellsChar (92 ∷ d ∷ rest)) (same_value (Some 10, rest) x k)
-              (ap (λ (y : ℕ). 92 ∷ y ∷ rest) (eqb-true d 110 g))
-          | inr g ↦ absurd (
-              let k : or_text rest (length (d ∷ rest)) None ≡ Ok x = rw (e, f, g) at h in
-              cc)
+          | inl g ↦ rw (e, f, g) (inl (ap (λ (y : ℕ). 92 ∷ y ∷ rest) (eqb-true d 110 g)))
+          | inr g ↦
+              let none : escaped d ≡ None = rw (e, f, g) refl in
+              rw (e, f, g) (inr (refl, refl, none))
         ]
       ]
     ]
 
-char_takes : (bytes : List ℕ) (x : Option ℕ × List ℕ) → char_at bytes ≡ Ok x → SpellsChar bytes x
+char_takes : (bytes : List ℕ) (x : Option ℕ × List ℕ) → char_at bytes ≡ Ok x → SpellsStep bytes x
 unfolding char_at
 char_takes [] x h = absurd cc
 char_takes (c ∷ rest) x h =
     elim (cases_Bool (eqb c 34)) [
       | inl e ↦
           let made : Option ℕ × List ℕ = (None, rest) in
-          subst (SpellsChar (c ∷ rest)) (same_value made x (rw e at h))
+          subst (SpellsStep (c ∷ rest)) (same_value made x (rw e at h))
           (ap (λ (y : ℕ). y ∷ rest) (eqb-true c 34 e))
       | inr e ↦ elim (cases_Bool (eqb c 92)) [
         | inl f ↦
-            let g : escape_at rest ≡ Ok x = rw (e, f) at h in
-            subst (λ (y : ℕ). SpellsChar (y ∷ rest) x) (sym (eqb-true c 92 f)) (escape_takes rest
-            x g)
+            let made : Option ℕ × List ℕ = (Some (escape_at rest).0, (escape_at rest).1) in
+            subst (SpellsStep (c ∷ rest)) (same_value made x (rw (e, f) at h))
+            (subst (λ (y : ℕ). SpellsStep (y ∷ rest) made) (sym (eqb-true c 92 f))
+            (escape_takes rest))
         | inr f ↦ elim (cases_Bool (eqb c 10)) [
           | inl g ↦ absurd (let k = rw (e, f, g) at h in cc)
           | inr g ↦
               let made : Option ℕ × List ℕ = (Some c, rest) in
-              subst (SpellsChar (c ∷ rest)) (same_value made x (rw (e, f, g) at h))
-              (rw (f, e, g) refl)
+              subst (SpellsStep (c ∷ rest)) (same_value made x (rw (e, f, g) at h))
+              (inl (rw (f, e, g) refl))
         ]
       ]
     ]
 
 text_goes : (n : ℕ) (bytes : List ℕ) (next : Option ℕ) (rest : List ℕ) (x : List ℕ × List ℕ)
-    → ((y : List ℕ × List ℕ) → until_end char_at reason.Text n rest ≡ Ok y → rest ≡ text_then y.0
-    y.1)
-    → SpellsChar bytes (next, rest)
+    → ((y : List ℕ × List ℕ) → until_end char_at reason.Text n rest ≡ Ok y
+    → SpellsText y.0 y.1 rest)
+    → SpellsStep bytes (next, rest)
     → goes_with (λ r. until_end char_at reason.Text n r) next rest ≡ Ok x
-    → bytes ≡ text_then x.0 x.1
+    → SpellsText x.0 x.1 bytes
 text_goes n bytes None rest x others spelled h =
     let made : List ℕ × List ℕ = ([], rest) in
-    subst (λ (y : List ℕ × List ℕ). bytes ≡ text_then y.0 y.1) (same_value made x h) spelled
+    subst (λ (y : List ℕ × List ℕ). SpellsText y.0 y.1 bytes) (same_value made x h) spelled
 text_goes n bytes (Some c) rest x others spelled h =
     let a = bind_ok (until_end char_at reason.Text n rest) _ x h in
     let made : List ℕ × List ℕ = (c ∷ a.0.0, a.0.1) in
-    subst (λ (y : List ℕ × List ℕ). bytes ≡ text_then y.0 y.1) (same_value made x a.2)
-    (spelled ∙ ap (escape_then c) (others a.0 a.1))
+    subst (λ (y : List ℕ × List ℕ). SpellsText y.0 y.1 bytes) (same_value made x a.2)
+    (rest, spelled, others a.0 a.1)
 
 text_takes_in : (n : ℕ) (bytes : List ℕ) (x : List ℕ × List ℕ)
-    → until_end char_at reason.Text n bytes ≡ Ok x → bytes ≡ text_then x.0 x.1
+    → until_end char_at reason.Text n bytes ≡ Ok x → SpellsText x.0 x.1 bytes
 unfolding until_end
 text_takes_in zero bytes x h = absurd cc
 text_takes_in (suc n) bytes x h =
@@ -148,7 +142,7 @@ text_takes_in (suc n) bytes x h =
     text_goes n bytes a.0.0 a.0.1 x (text_takes_in n a.0.1) (char_takes bytes a.0 a.1) a.2
 
 text_takes : (bytes : List ℕ) (x : List ℕ × List ℕ) → text_at bytes ≡ Ok x
-    → bytes ≡ text_then x.0 x.1
+    → SpellsText x.0 x.1 bytes
 unfolding text_at
 text_takes bytes x h = text_takes_in (length bytes) bytes x h
 
@@ -211,11 +205,9 @@ pair_takes format bytes x h =
     let three = byte_takes 34 reason.Text (after_blanks format quote.0) text.0 text.1 in
     let four = text_takes text.0 value.0 value.1 in
     let made : Pair × List ℕ = ((name.0.0, value.0.0), value.0.1) in
-    let from_quote : quote.0 ≡ behind_it.blanks ++ (34 ∷ text_then value.0.0 value.0.1) =
-    behind_it.text
-    ∙ ap (λ (r : List ℕ). behind_it.blanks ++ r) (three ∙ ap (λ (r : List ℕ). 34 ∷ r) four) in
-    let from_name : name.0.1
-    ≡ between.blanks ++ (61 ∷ (behind_it.blanks ++ (34 ∷ text_then value.0.0 value.0.1))) =
+    let from_quote : quote.0 ≡ behind_it.blanks ++ (34 ∷ text.0) =
+    behind_it.text ∙ ap (λ (r : List ℕ). behind_it.blanks ++ r) three in
+    let from_name : name.0.1 ≡ between.blanks ++ (61 ∷ (behind_it.blanks ++ (34 ∷ text.0))) =
     between.text
     ∙ ap (λ (r : List ℕ). between.blanks ++ r) (two ∙ ap (λ (r : List ℕ). 61 ∷ r) from_quote) in
     subst (Paired format bytes) (same_value made x value.2)
@@ -224,9 +216,11 @@ pair_takes format bytes x h =
         before = before.blanks;
         between = between.blanks;
         behind = behind_it.blanks;
+        value = text.0;
         before_blank = before.are;
         between_blank = between.are;
         behind_blank = behind_it.are;
+        value_is = four;
         text =
             before.text
             ∙ ap (λ (r : List ℕ). before.blanks ++ r)

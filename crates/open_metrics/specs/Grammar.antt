@@ -1,6 +1,6 @@
 -- What the line of a sample spells: a relation between lines and samples.
 use Rattle.std.specs.Prelude.{◌≡◌, ◌⊎◌, ℕ, ◌<◌, ◌≤◌, ◌==◌, Bool, true, false, List, [], ◌∷◌, ◌++◌}
-use Rattle.std.specs.Prelude.{length, Some, if◌then◌else◌}
+use Rattle.std.specs.Prelude.{length, None, Some, if◌then◌else◌}
 use Rattle.std.specs.List.{AllByRecursion}
 use Rattle.open_metrics.specs.declared.comments.Format.{Format}
 use Rattle.open_metrics.specs.declared.comments.Format.TheVariants.{OpenMetrics, Prometheus}
@@ -10,6 +10,7 @@ use Rattle.open_metrics.specs.declared.tokens.Class.TheVariants.{Metric, Label, 
 use Rattle.open_metrics.specs.Labels.{Pair}
 use Rattle.open_metrics.specs.Lines.{Sampled, Meaning, nothing, end, sampled, time_places}
 use Rattle.open_metrics.specs.Numbers.{number_at}
+use Rattle.open_metrics.specs.Texts.{escaped}
 use Rattle.open_metrics.specs.Tokens.{goes_on, is_begun}
 
 -- the bytes of a word
@@ -31,10 +32,22 @@ escape_then c rest =
     else if c == 10 then 92 ∷ 110 ∷ rest
     else c ∷ rest
 
+-- a backslash in front of these bytes begins no escape
+abbrev pub IsNoEscape : List ℕ → Type 0
+IsNoEscape [] = Unit {0}
+IsNoEscape (c ∷ cs) = escaped c ≡ None
+
+-- a character of a text, and what stands behind it; a backslash that begins no escape stands for
+-- itself
+abbrev pub SpellsChar : ℕ → List ℕ → List ℕ → Type 0
+SpellsChar c rest bytes =
+    (bytes ≡ escape_then c rest) ⊎ ((c ≡ 92) × (bytes ≡ 92 ∷ rest) × IsNoEscape rest)
+
 -- a text, its last quote, and what stands behind it
-abbrev pub text_then : List ℕ → List ℕ → List ℕ
-text_then [] rest = 34 ∷ rest
-text_then (c ∷ cs) rest = escape_then c (text_then cs rest)
+abbrev pub SpellsText : List ℕ → List ℕ → List ℕ → Type 0
+SpellsText [] rest bytes = bytes ≡ 34 ∷ rest
+SpellsText (c ∷ cs) rest bytes =
+    (after : List ℕ) × SpellsChar c after bytes × SpellsText cs rest after
 
 -- blanks where the older text may have them: OpenMetrics has none
 abbrev pub AreBlanks : Format → List ℕ → Type 0
@@ -51,11 +64,12 @@ pub record SpellsPair (format : Format) (p : Pair) (after bytes : List ℕ) : Ty
   pub before : List ℕ
   pub between : List ℕ
   pub behind : List ℕ
+  pub value : List ℕ
   pub before_blank : AreBlanks format before
   pub between_blank : AreBlanks format between
   pub behind_blank : AreBlanks format behind
-  pub text : bytes
-      ≡ before ++ (p.0 ++ (between ++ (61 ∷ (behind ++ (34 ∷ text_then p.1 after)))))
+  pub value_is : SpellsText p.1 after value
+  pub text : bytes ≡ before ++ (p.0 ++ (between ++ (61 ∷ (behind ++ (34 ∷ value)))))
 
 -- what ends labels: a brace, in the older text perhaps behind a comma
 abbrev pub IsClose : Format → List ℕ → Type 0

@@ -32,21 +32,22 @@ escaped c =
     else if c == 110 then Some 10
     else None
 
-abbrev pub or_text : List ℕ → ℕ → Option ℕ → Result (Option ℕ × List ℕ) Fault
-or_text rest left None = Err (At Text left)
-or_text rest left (Some c) = Ok (Some c, rest)
+-- the character of an escape, or the backslash itself, where it begins none
+abbrev pub or_backslash : List ℕ → List ℕ → Option ℕ → ℕ × List ℕ
+or_backslash bytes rest None = (92, bytes)
+or_backslash bytes rest (Some c) = (c, rest)
 
--- what an escape stands for
-unfoldable pub escape_at : List ℕ → Result (Option ℕ × List ℕ) Fault
-escape_at [] = Err (At Text 0)
-escape_at (c ∷ rest) = or_text rest (length (c ∷ rest)) (escaped c)
+-- what a backslash in front of these bytes stands for, and what stands behind it
+unfoldable pub escape_at : List ℕ → ℕ × List ℕ
+escape_at [] = (92, [])
+escape_at (c ∷ rest) = or_backslash (c ∷ rest) rest (escaped c)
 
 -- the next character of a text, or its end
 unfoldable pub char_at : List ℕ → Result (Option ℕ × List ℕ) Fault
 char_at [] = Err (At Text 0)
 char_at (c ∷ rest) =
     if c == 34 then Ok (None, rest)
-    else if c == 92 then escape_at rest
+    else if c == 92 then Ok (Some (escape_at rest).0, (escape_at rest).1)
     else if c == 10 then Err (At Text (length (c ∷ rest)))
     else Ok (Some c, rest)
 

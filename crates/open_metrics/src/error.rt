@@ -17,8 +17,7 @@ pub enum Reason {
     Kind,
     /// `P4`: no label stands here: its name, `=`, and what goes on or ends the labels.
     Label,
-    /// `P5`: the text of a label does not begin or does not end, or has an escape other than `\\`,
-    /// `\"` and `\n`.
+    /// `P5`: the text of a label does not begin, or the line ends before the text does.
     Text,
     /// `P6`: there are more than 64 labels.
     Many,

@@ -7,6 +7,7 @@ ghost use Rattle.open_metrics.specs.Texts.{char_at, escape_at, escaped, text_at,
 use crate::error::{Fault, Reason};
 use std::alloc::Global;
 
+// The character that an escape stands for, if this letter ends one.
 fn escaped(c: u8) -> Option<u8>
     ensures { result ≡ escaped c }
 {
@@ -18,18 +19,18 @@ fn escaped(c: u8) -> Option<u8>
     }
 }
 
-// What an escape stands for.
+// What a backslash in front of these bytes stands for, and what stands behind it.
 #[tactic(auto, unfolding(crate::specs::Texts::escape_at))]
-fn cut_escape(bytes: &[u8]) -> Result<(Option<u8>, &[u8]), Fault>
-    ensures { Gives (λ x. (x.0, x.1.now)) result (escape_at bytes.now) }
+fn cut_escape(bytes: &[u8]) -> (u8, &[u8])
+    ensures { (result.0, result.1.now) ≡ escape_at bytes.now }
 {
     let Some((first, rest)) = bytes.split_first() else {
-        return Err(Fault::At(Reason::Text, 0));
+        return (b'\\', bytes);
     };
-    let Some(c) = escaped(*first) else {
-        return Err(Fault::At(Reason::Text, bytes.len()));
-    };
-    Ok((Some(c), rest))
+    match escaped(*first) {
+        Some(c) => (c, rest),
+        None => (b'\\', bytes),
+    }
 }
 
 // The next character of a text, or its end.
@@ -44,8 +45,8 @@ fn cut_char(bytes: &[u8]) -> Result<(Option<u8>, &[u8]), Fault>
         return Ok((None, rest));
     }
     if *first == b'\\' {
-        let (c, behind) = cut_escape(rest)?;
-        return Ok((c, behind));
+        let (c, behind) = cut_escape(rest);
+        return Ok((Some(c), behind));
     }
     if *first == b'\n' {
         return Err(Fault::At(Reason::Text, bytes.len()));
@@ -71,6 +72,7 @@ fn cut_chars(alloc: Global, bytes: &[u8], count: usize) -> Result<(Vec<u8>, &[u8
 }
 
 /// The text after a quote, up to the next one that no backslash escapes, and what stands behind it.
+/// A backslash that begins no escape stands for itself.
 #[tactic(auto, unfolding(crate::specs::Texts::text_at))]
 pub fn cut_text(alloc: Global, bytes: &[u8]) -> Result<(Vec<u8>, &[u8]), Fault>
     ensures { Gives (λ x. (x.0.items, x.1.now)) result (text_at bytes.now) }
