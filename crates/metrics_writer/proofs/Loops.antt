@@ -23,12 +23,12 @@ moved old new part rest left whole wrote split e =
 pub done : (old left whole : List ℕ) → left ≡ [] → old ++ left ≡ whole → old ≡ whole
 done old left whole none e = sym (append-nil old) ∙ (ap (λ (l : List ℕ). old ++ l) (sym none) ∙ e)
 
-next : {X : Type 0} (xs : List X) (i : ℕ) (x : X) → i < length xs → x ≡ get_or xs i x
+pub next : {X : Type 0} (xs : List X) (i : ℕ) (x : X) → i < length xs → x ≡ get_or xs i x
     → drop i xs ≡ x ∷ drop (i + 1) xs
 next {X} xs i x lt e =
     rw (add-one, drop-cons xs i x) (ap (λ (y : X). y ∷ drop (suc i) xs) (sym e))
 
-gone : {X : Type 0} (xs : List X) (i : ℕ) → length xs ≤ i → drop i xs ≡ []
+pub gone : {X : Type 0} (xs : List X) (i : ℕ) → length xs ≤ i → drop i xs ≡ []
 gone xs i le = nil_from_length (drop i xs) (omega (arith, length-drop i xs))
 
 pub each_next : {X : Type 0} (text : X → List ℕ) (xs : List X) (i : ℕ) (x : X) → i < length xs

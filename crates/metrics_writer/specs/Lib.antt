@@ -1,2 +1,4 @@
+pub mod Groups
 pub mod Numbers
 pub mod Series
+pub mod Texts

@@ -75,12 +75,9 @@ line_text places series s = series ++ fields_text places s ++ 10 ∷ []
 unfoldable pub row_text : ℕ → Row → List ℕ
 row_text places row = flat_map (line_text places (series_text row.0)) row.1
 
--- the lines of all rows, and the end
+-- the lines of rows
 unfoldable pub rows_text : ℕ → List Row → List ℕ
 rows_text places rows = flat_map (row_text places) rows
-
-abbrev pub text_of : ℕ → List Row → List ℕ
-text_of places rows = rows_text places rows ++ codes "# EOF\n"
 
 -- whether a row's label set names a metric
 abbrev pub is_of_metric : Row → Bool

@@ -1,9 +1,10 @@
 //! Rows as OpenMetrics text.
 //!
-//! [`write_text`] writes a line for each sample of the rows, in their order: the name of the metric
-//! is the value of `__name__`, the other labels stand in braces in the order of their names, values
-//! are decimals with as many digits as were asked for, times are seconds with three digits. The
-//! last line is `# EOF`. Rows of which one has no `__name__` that names a metric are refused.
+//! [`write_text`] writes a line for each sample of the rows: the name of the metric is the value of
+//! `__name__`, the other labels stand in braces in the order of their names, values are decimals
+//! with as many digits as were asked for, times are seconds with three digits. The rows stand in
+//! their order, but those of one metric together, as OpenMetrics has it. The last line is `# EOF`.
+//! Rows of which one has no `__name__` that names a metric are refused.
 //!
 //! ```
 //! let pairs = [("__name__", "up"), ("job", "a")];
@@ -20,6 +21,7 @@
 //! OpenMetrics 1.0.
 #![tactic(auto)]
 
+mod groups;
 mod numbers;
 mod rows;
 mod series;

@@ -16,7 +16,7 @@ use Rattle.open_metrics.specs.declared.numbers.Value.{Value}
 use Rattle.open_metrics.specs.declared.numbers.Value.TheVariants.{Parts, Near, Other}
 use Rattle.open_metrics.specs.declared.tokens.Class.{Class}
 use Rattle.open_metrics.specs.declared.tokens.Class.TheVariants.{Metric, Label, Word, Blank}
-use Rattle.open_metrics.specs.Grammar.{AreBlanks, AreIn, IsGap, IsName, escape_then}
+use Rattle.open_metrics.specs.Grammar.{AreBlanks, AreIn, IsGap, IsName}
 use Rattle.open_metrics.specs.Grammar.{SpellsChar, SpellsText}
 use Rattle.open_metrics.specs.Grammar.{SpellsPair, IsClose, SpellsOthers, SpellsLabels}
 use Rattle.open_metrics.specs.Grammar.{IsExemplar, IsTail, IsSample}

@@ -1,0 +1,12 @@
+use Rattle.std.proofs.Common.{◌≡◌, ℕ, List, [], take, map, nat_cmp}
+use Rattle.std.specs.BTreeMap as tree
+use Rattle.std.specs.Cmp.Lexicographic.{slice_cmp}
+use Rattle.std.specs.Option.{option_map_or}
+use Rattle.metrics_writer.specs.Groups.{of_metric}
+use Rattle.metrics_writer.proofs.groups.groups_of.Given as goal
+
+abbrev pub invariant-loop-row : goal.invariant-loop-row
+invariant-loop-row l = (metric : List ℕ)
+    → option_map_or (λ g. map (λ row. row.now) g.items)
+    (tree.get_by (λ k. slice_cmp nat_cmp metric k.now) l.groups) []
+    ≡ of_metric metric (take l.row-index l.rows)

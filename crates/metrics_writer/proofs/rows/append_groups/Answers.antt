@@ -1,0 +1,35 @@
+use Rattle.std.proofs.Common.{◌≡◌, ◌++◌, ◌∷◌, ◌+◌, [], ◌∙◌, ap, map, take}
+use Rattle.std.specs.Borrow.{Bor}
+use Rattle.labels.specs.Labels.{Labels}
+use Rattle.labels.specs.Rows.{Row}
+use Rattle.metrics_writer.specs.Groups.{metrics_of}
+use Rattle.metrics_writer.specs.Series.{metric_of, rows_text}
+use Rattle.metrics_writer.proofs.Grouping.{left_next, left_of, no_rows, take_next, text_next}
+use Rattle.metrics_writer.proofs.rows.append_groups.Goals as goal
+
+pub loop-row-init : goal.loop-row-init
+loop-row-init c = (no_rows c.args.places c.args.out.now.items, c.requires.groups)
+
+pub loop-row-preserved : goal.loop-row-preserved
+loop-row-preserved c =
+    let l = c.loop-row in
+    let rows = c.args.rows.now in
+    let front = take l.row-index rows in
+    let next = take (l.row-index + 1) rows in
+    let row = c.row-item.result in
+    let name = c.metric_of.result.now in
+    let more : next ≡ front ++ row ∷ [] =
+    take_next rows l.row-index row c.loop-row-test.true c.row-item.is in
+    let named : name ≡ metric_of row.0 =
+    c.metric_of.ensures ∙ ap (λ (x : Labels). metric_of x) c.labels.ensures in
+    let group = map (λ (r : Bor Row). r.now) c.take_group-group.result.items in
+    let taken : group ≡ left_of name (metrics_of front) rows =
+    c.take_group-group.ensures.taken ∙ l.invariant.1 name in (
+      text_next c.args.places rows front next row more name named group taken
+          c.args.out.now.items l.out.items c.append_group.new.out.items l.invariant.0
+          (c.in_ok-append_group.ensures
+          ∙ ap (λ g. l.out.items ++ rows_text c.args.places (map (λ (r : Bor Row). r.now) g))
+          c.as_slice.ensures.value),
+      λ q. left_next rows front next row more name named q _ _
+          (c.take_group-group.ensures.left q) (l.invariant.1 q),
+    )
