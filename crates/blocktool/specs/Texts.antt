@@ -31,7 +31,7 @@ use Rattle.blocktool.specs.declared.said.Said.{Said}
 use Rattle.blocktool.specs.Conversion.{capped}
 use Rattle.blocktool.specs.Listed.{IsGivenByRows, content_of_rows}
 use Rattle.reply_reader.specs.Replies.{Told, text_said}
-use Rattle.metrics_writer.specs.Series.{text_of}
+use Rattle.metrics_writer.specs.Texts.{text_of}
 
 -- the text of the merged rows of a reply, whose values have so many digits after the point
 pub record IsTextOfReply (places : ℕ) (reply text : List ℕ) : Type 0 where

@@ -2,7 +2,7 @@
 
 ghost use Rattle.std.specs.Prelude.{◌≡◌, Some, IfOk};
 ghost use Rattle.reply_reader.specs.Replies.{text_said, told_of};
-ghost use Rattle.metrics_writer.specs.Series.{text_of};
+ghost use Rattle.metrics_writer.specs.Texts.{text_of};
 ghost use Rattle.blocktool.specs.Texts.{IsTextOfReply};
 
 use crate::fault::Fault;

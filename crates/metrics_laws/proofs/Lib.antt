@@ -1,8 +1,10 @@
 pub mod Bytes
+pub mod Contents
 pub mod Digits
 pub mod Lines
 pub mod Numbers
 pub mod Pairs
 pub mod Small
 pub mod Texts
+pub mod Together
 pub mod Written

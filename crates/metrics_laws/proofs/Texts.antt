@@ -9,7 +9,8 @@ use Rattle.std.specs.declared.cmp.Ordering.{Ordering}
 use Rattle.std.specs.declared.cmp.Ordering.TheVariants.{Less, Equal, Greater}
 use Rattle.std.specs.FinMap.Entries.{put, below_all, is_sorted}
 use Rattle.std.proofs.lemmas.List.{append-nil, append_cancel_right}
-use Rattle.std.proofs.lemmas.List.Elements.{All-from_recursion}
+use Rattle.std.proofs.lemmas.List.Elements.{All-from_recursion, recursion_from_All}
+use Rattle.std.proofs.lemmas.List.Sorted.{All-permutation}
 use Rattle.std.proofs.lemmas.List.Splits.{slice_split_at}
 use Rattle.labels.specs.Contents.{Content, is_time}
 use Rattle.labels.specs.Labels.{Point, point_cmp}
@@ -17,7 +18,10 @@ use Rattle.labels.specs.Rows.{Row, points_in, points_of}
 use Rattle.labels.proofs.OrderLaws.{point_total}
 use Rattle.labels.proofs.Times.{first_T, second_T}
 use Rattle.metrics_writer.specs.Series.{series_text, fields_text, line_text, row_text}
-use Rattle.metrics_writer.specs.Series.{rows_text, text_of}
+use Rattle.metrics_writer.specs.Groups.{grouped}
+use Rattle.metrics_writer.specs.Series.{rows_text}
+use Rattle.metrics_writer.specs.Texts.{text_of}
+use Rattle.metrics_writer.proofs.Grouping.{grouped_permuted}
 use Rattle.open_metrics.specs.declared.comments.Format.TheVariants.{OpenMetrics}
 use Rattle.open_metrics.specs.Lines.{sampled}
 use Rattle.open_metrics.proofs.Whole.{line_again as read_again}
@@ -26,30 +30,31 @@ use Rattle.exposition.specs.Reading.{Said, AddAll, IsText, eof, lines_in, unsaid
 use Rattle.exposition.specs.Rows.{put_each}
 use Rattle.exposition.proofs.Only.{same_said}
 use Rattle.metrics_laws.specs.Read.{sample_of, IsWritten, IsWritable, said_of}
+use Rattle.metrics_laws.proofs.Contents.{content_grouped, count_grouped}
 use Rattle.metrics_laws.proofs.Bytes.{IsLine, both_lines, series_line, fields_line}
 use Rattle.metrics_laws.proofs.Lines.{line_again}
 use Rattle.metrics_laws.proofs.Pairs.{pairs_are, no_pairs_fault}
 
 -- lines, each with its end
-abbrev joined : List (List ℕ) → List ℕ
+abbrev pub joined : List (List ℕ) → List ℕ
 joined [] = []
 joined (line ∷ lines) = line ++ 10 ∷ joined lines
 
-abbrev AreLines : List (List ℕ) → Type 0
+abbrev pub AreLines : List (List ℕ) → Type 0
 AreLines lines = AllByRecursion IsLine lines
 
-joined_both : (xs ys : List (List ℕ)) → joined (xs ++ ys) ≡ joined xs ++ joined ys
+pub joined_both : (xs ys : List (List ℕ)) → joined (xs ++ ys) ≡ joined xs ++ joined ys
 joined_both [] ys = refl
 joined_both (x ∷ xs) ys =
     ap (λ (r : List ℕ). x ++ 10 ∷ r) (joined_both xs ys)
     ∙ sym (append_assoc x (10 ∷ joined xs) (joined ys))
 
-lines_both : (xs ys : List (List ℕ)) → AreLines xs → AreLines ys → AreLines (xs ++ ys)
+pub lines_both : (xs ys : List (List ℕ)) → AreLines xs → AreLines ys → AreLines (xs ++ ys)
 lines_both [] ys a b = b
 lines_both (x ∷ xs) ys a b = (a.0, lines_both xs ys a.1 b)
 
 -- lines are found again
-split_again : (lines : List (List ℕ)) (rest : List ℕ) → AreLines lines
+pub split_again : (lines : List (List ℕ)) (rest : List ℕ) → AreLines lines
     → lines_in (joined lines ++ rest) ≡ lines ++ lines_in rest
 split_again [] rest are = refl
 split_again (line ∷ lines) rest are =
@@ -108,7 +113,7 @@ points_both old xs ys =
     same_said (with_points (with_points old xs) ys) (with_points old (xs ++ ys))
     (sym (put_both old.content xs ys)) (omega (arith, length-append xs ys)) refl refl
 
-small_time : (t : ℤ) → is_time t ≡ true → unsigned_abs t < 2 ^ 63
+pub small_time : (t : ℤ) → is_time t ≡ true → unsigned_abs t < 2 ^ 63
 small_time t h = grind arith
 
 sample_added : (places : ℕ) (f : Fractions) (row : Row) (s : ℤ × ℤ) (old : Said)
@@ -182,12 +187,21 @@ rows_added places f (row ∷ rows) old all =
     (with_points (with_points old one) (points_of rows)) (row_added places f row old all.0)
     (rows_added places f rows (with_points old one) all.1))
 
+-- what holds of rows holds of them by their metrics
+pub all_grouped : (rows : List Row) → AllByRecursion IsWritable rows
+    → AllByRecursion IsWritable (grouped rows)
+all_grouped rows all =
+    recursion_from_All IsWritable (grouped rows)
+    (All-permutation IsWritable rows (grouped rows) (grouped_permuted rows)
+    (All-from_recursion IsWritable rows all))
+
 pub texts_again : (places : ℕ) (f : Fractions) (rows : List Row) → AllByRecursion IsWritable rows
     → IsText OpenMetrics places f (text_of places rows) (said_of rows)
 texts_again places f rows all =
-    let all_added = rows_added places f rows unsaid all in
+    let all_added = rows_added places f (grouped rows) unsaid (all_grouped rows all) in
     let is =
-    same_said (with_points unsaid (points_of rows)) (said_of rows) refl (omega arith) refl refl in
+    same_said (with_points unsaid (points_of (grouped rows))) (said_of rows) (content_grouped rows)
+    (omega (arith, count_grouped rows)) refl refl in
     record {
       lines = all_added.lines;
       cut = record {

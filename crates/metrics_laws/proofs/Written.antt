@@ -15,7 +15,7 @@ use Rattle.labels.specs.LabelSets.{IsLabelSet, IsMadeOf, has_value, with_values}
 use Rattle.labels.specs.Rows.{Row, AreFull, AreRows, points_in, points_of}
 use Rattle.labels.proofs.OrderLaws.{point_total}
 use Rattle.metrics_writer.specs.Series.{in_metric, is_metric, is_of_metric, metric_of, name_label}
-use Rattle.metrics_writer.specs.Series.{text_of}
+use Rattle.metrics_writer.specs.Texts.{text_of}
 use Rattle.open_metrics.specs.declared.comments.Format.{Format}
 use Rattle.open_metrics.specs.declared.comments.Format.TheVariants.{OpenMetrics}
 use Rattle.open_metrics.specs.declared.numbers.Value.{Value}

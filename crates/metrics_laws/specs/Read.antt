@@ -1,6 +1,6 @@
 -- The sample that is read of a line that was written, and what is read of a whole text.
 use Rattle.std.specs.Prelude.{◌≡◌, ◌^◌, ◌<◌, ◌≤◌, ℕ, ℤ, T, not, true, false, List, []}
-use Rattle.std.specs.Prelude.{◌+◌, length, filter}
+use Rattle.std.specs.Prelude.{◌∷◌, ◌++◌, ◌+◌, length, filter, map}
 use Rattle.std.specs.Prelude.{unsigned_abs}
 use Rattle.std.specs.FinMap.Entries.{is_sorted}
 use Rattle.std.specs.List.{AllByRecursion, list_all}
@@ -9,14 +9,16 @@ use Rattle.labels.specs.Labels.{Labels, point_cmp}
 use Rattle.labels.specs.LabelSets.{IsLabelSet}
 use Rattle.labels.specs.Rows.{Row, AreRows, points_of}
 use Rattle.metrics_writer.specs.Numbers.{number_text}
-use Rattle.metrics_writer.specs.Series.{is_metric, is_name_label, is_of_metric, metric_of, text_of}
+use Rattle.metrics_writer.specs.Series.{is_metric, is_name_label, is_of_metric, metric_of}
+use Rattle.metrics_writer.specs.Texts.{text_of}
+use Rattle.open_metrics.specs.Grammar.{IsSample}
 use Rattle.open_metrics.specs.Lines.{Sampled}
 use Rattle.open_metrics.specs.declared.comments.Format.{Format}
 use Rattle.open_metrics.specs.declared.comments.Format.TheVariants.{OpenMetrics}
 use Rattle.open_metrics.specs.declared.numbers.Value.TheVariants.{Parts}
 use Rattle.exposition.specs.declared.text.Fractions.{Fractions}
 use Rattle.exposition.specs.Faults.{are_utf8}
-use Rattle.exposition.specs.Reading.{Said, IsText}
+use Rattle.exposition.specs.Reading.{Said, IsCutInto, IsText, lines_in}
 use Rattle.exposition.specs.Rows.{put_each}
 use Rattle.exposition.specs.Runs.{count_of}
 
@@ -61,6 +63,34 @@ abbrev pub AreReadAgain : Type 0
 AreReadAgain = (places : ℕ) (fractions : Fractions) (rows : List Row) → places ≤ 9
     → AllByRecursion IsWritable rows
     → IsText OpenMetrics places fractions (text_of places rows) (said_of rows)
+
+-- each line spells its sample
+abbrev pub AreSpelled : ℕ → List (List ℕ) → List Sampled → Type 0
+AreSpelled places [] [] = Unit {0}
+AreSpelled places [] (s ∷ ss) = ⊥
+AreSpelled places (line ∷ lines) [] = ⊥
+AreSpelled places (line ∷ lines) (s ∷ ss) =
+    IsSample OpenMetrics places line s × AreSpelled places lines ss
+
+-- between two lines of one metric stand only lines of this metric
+abbrev pub AreTogether : List (List ℕ) → Type 0
+AreTogether names = (before between after : List (List ℕ)) (name : List ℕ)
+    → names ≡ before ++ (name ∷ (between ++ name ∷ after))
+    → AllByRecursion (λ (n : List ℕ). n ≡ name) between
+
+-- before its end a text of OpenMetrics has samples alone, and the lines of each metric stand
+-- together
+pub record IsGroupedText (places : ℕ) (text : List ℕ) : Type 0 where
+  pub lines : List (List ℕ)
+  pub cut : IsCutInto OpenMetrics (lines_in text) lines
+  pub samples : List Sampled
+  pub spelled : AreSpelled places lines samples
+  pub together : AreTogether (map (λ s. s.name) samples)
+
+-- in the text that is written for rows the lines of each metric stand together
+abbrev pub AreGroupedTexts : Type 0
+AreGroupedTexts = (places : ℕ) (rows : List Row) → places ≤ 9 → AllByRecursion IsWritable rows
+    → IsGroupedText places (text_of places rows)
 
 -- the samples of the rows of a content are the content
 abbrev pub AreAllSaid : Type 0

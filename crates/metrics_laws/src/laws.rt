@@ -10,7 +10,8 @@ ghost use Rattle.open_metrics.specs.Grammar.{IsSample};
 ghost use Rattle.open_metrics.specs.Numbers.{number_at};
 ghost use Rattle.open_metrics.specs.declared.comments.Format.TheVariants.{OpenMetrics};
 ghost use Rattle.open_metrics.specs.declared.numbers.Value.TheVariants.{Parts};
-ghost use Rattle.metrics_laws.specs.Read.{AreAllSaid, AreReadAgain, AreWrittenAgain, sample_of};
+ghost use Rattle.metrics_laws.specs.Read.{AreAllSaid, AreGroupedTexts, AreReadAgain};
+ghost use Rattle.metrics_laws.specs.Read.{AreWrittenAgain, sample_of};
 
 /// A number that is written is read again, exactly.
 pub fn numbers_are_read_again()
@@ -32,6 +33,12 @@ pub fn lines_are_read_again()
 /// The text that is written for rows says exactly their samples. So what reads it gives them.
 pub fn texts_are_read_again()
     ensures { AreReadAgain }
+{}
+
+/// In the text that is written for rows each line before the end spells a sample, and between two
+/// lines of one metric stand only lines of this metric, as OpenMetrics has it.
+pub fn texts_are_grouped()
+    ensures { AreGroupedTexts }
 {}
 
 /// The samples that are read of the rows of a content are the content.
