@@ -1,5 +1,5 @@
 -- What rows say, whether those of one metric stand together or not.
-use Rattle.std.proofs.Common.{◌≡◌, ℕ, ℤ, Bool, true, false, List, [], ◌∷◌, ◌++◌, length}
+use Rattle.std.proofs.Common.{◌≡◌, ℤ, Bool, true, false, List, [], ◌∷◌, ◌++◌, length}
 use Rattle.std.proofs.Common.{refl, sym, ap, subst, ◌∙◌, inl, inr, Some, cond}
 use Rattle.std.specs.Prelude.{T, filter}
 use Rattle.std.specs.List.{flat_map, sum_by}

@@ -1,5 +1,5 @@
 -- In texts that are written the lines of each metric stand together.
-use Rattle.std.proofs.Common.{◌≡◌, ◌⊎◌, ℕ, ℤ, true, false, not, List, [], ◌∷◌, ◌++◌}
+use Rattle.std.proofs.Common.{◌≡◌, ◌⊎◌, ℕ, ℤ, true, false, List, [], ◌∷◌, ◌++◌}
 use Rattle.std.proofs.Common.{refl, sym, ap, subst, ◌∙◌, inl, inr}
 use Rattle.std.specs.Prelude.{codes, map}
 use Rattle.std.specs.List.{AllByRecursion, flat_map}
@@ -39,9 +39,9 @@ Stand (n ∷ ns) = (BeginsWith n ns ⊎ IsGone n ns) × Stand ns
 
 not_gone : (m : List ℕ) (xs after : List (List ℕ)) → IsGone m (xs ++ m ∷ after) → ⊥
 not_gone m [] after gone = absurd (
-  let a = gone.0 in
-  let b = bytes_self m in
-  cc)
+    let a = gone.0 in
+    let b = bytes_self m in
+    cc)
 not_gone m (x ∷ xs) after gone = not_gone m xs after gone.1
 
 from_first : (m : List ℕ) (between after : List (List ℕ)) → Stand (m ∷ (between ++ m ∷ after))
@@ -49,8 +49,11 @@ from_first : (m : List ℕ) (between after : List (List ℕ)) → Stand (m ∷ (
 from_first m [] after stand = tt
 from_first m (x ∷ xs) after stand =
     elim stand.0 [
-      | inl e ↦ (e, from_first m xs after
-          (subst (λ (n : List ℕ). Stand (n ∷ (xs ++ m ∷ after))) e stand.1))
+      | inl e ↦ (
+        e,
+        from_first m xs after
+            (subst (λ (n : List ℕ). Stand (n ∷ (xs ++ m ∷ after))) e stand.1),
+      )
       | inr gone ↦ absurd (not_gone m (x ∷ xs) after gone)
     ]
 
