@@ -3,6 +3,7 @@ use Rattle.std.specs.Prelude.{◌≡◌, ℕ, Bool, true, false, List, Option, R
 use Rattle.std.specs.Prelude.{OnOk, IfSome}
 use Rattle.std.specs.Io.KnownBytes.{Appends, Keeps}
 use Rattle.clap.specs.Words.{Text}
+use Rattle.page_claims.specs.Claiming as claims
 use Rattle.page.specs.declared.write.Page.{Page}
 use Rattle.audit_command.specs.Reading.{Host}
 use Rattle.audit_command.specs.Running as audits
@@ -21,7 +22,7 @@ pub record IsWritten (reads : Host) (input : Option (List ℕ)) (asked : Asked)
   pub page : Page
   pub is : IsAnswer reads input asked page
   pub written : Appends old new page.bytes.items
-  pub claim : is_shown ≡ page.claim.is_shown
+  pub claim : is_shown ≡ claims.is_shown page.claim.completeness
 
 -- the writer holds what it held, unless it failed
 abbrev pub KeepsAt : Fault → Option (List ℕ) → Option (List ℕ) → Type 0

@@ -1,6 +1,6 @@
 -- What a page shows, and why there is none.
 use Rattle.std.specs.Prelude.{◌≡◌, ℕ, Bool, true, false, List, [], ◌∷◌, Option, None, Some, length}
-use Rattle.std.specs.Prelude.{option_map}
+use Rattle.std.specs.Prelude.{map, option_map}
 use Rattle.std.specs.List.{flat_map}
 use Rattle.std.specs.Option.{option_copied}
 use Rattle.labels.specs.Labels.{Labels}
@@ -11,6 +11,7 @@ use Rattle.auditor.specs.Judgements.{AreLines, answers_of}
 use Rattle.auditor.specs.declared.judgement.BlockTable.{BlockTable}
 use Rattle.auditor.specs.declared.judgement.Line.{Line}
 use Rattle.sha2.specs.Sha256.{sha256}
+use Rattle.page_claims.specs.Judging.{place_of}
 use Rattle.page_claims.specs.declared.told.Told.{Told}
 use Rattle.page.specs.Pages.{IsPageOf, IsTextOf}
 use Rattle.page.specs.declared.shown.Shown.{Shown}
@@ -55,10 +56,11 @@ abbrev pub IsAuditFault : (AuditFault → Type 0) → Fault → Type 0
 IsAuditFault cause (Audit fault) = cause fault
 IsAuditFault cause NoSeries = ⊥
 
--- the answers and the rows of the reply that the text says
+-- what was done with each part of the reply that the text says, its answers and its rows
 pub record IsToldIn (text : List ℕ) (told : Told) : Type 0 where
   pub reply : Reply
   pub says : text_said text ≡ Some (told_of reply)
+  pub places : told.places.items ≡ map place_of reply.parts.items
   pub answers : told.answers.items ≡ flat_map answers_of reply.parts.items
   pub rows : told.rows ≡ reply.rows
 

@@ -29,7 +29,7 @@ fn write_answer<F: ReadFiles, R: Read, W: Write>(
 {
     let page = answer(alloc, files, asked, input)?;
     send(out, page.bytes.as_slice())?;
-    Ok(page.claim.is_shown)
+    Ok(page.claim.completeness.is_shown())
 }
 
 fn execute<F: ReadFiles, R: Read, W: Write>(

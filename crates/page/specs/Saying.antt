@@ -1,47 +1,74 @@
 -- The claim of a page, in words.
-use Rattle.std.specs.Prelude.{ℕ, true, false, List, [], ◌++◌, codes}
-use Rattle.page.specs.declared.claim_text.Saying.{Saying}
-use Rattle.page.specs.declared.claim_text.Saying.TheVariants.{Judged, Certified, NotShown}
+use Rattle.std.specs.Prelude.{ℕ, List, [], ◌∷◌, ◌++◌, codes}
+use Rattle.std.specs.List.{flat_map}
+use Rattle.postings.specs.declared.part_name.PartName.{PartName}
+use Rattle.auditor.specs.Judgements.{subject_text}
+use Rattle.auditor.specs.declared.judgement.Subject.TheVariants.{Part}
+use Rattle.page_claims.specs.declared.claim.Completeness.{Completeness}
+use Rattle.page_claims.specs.declared.claim.Completeness.TheVariants.{Judged, DirectoriesJudged}
+use Rattle.page_claims.specs.declared.claim.Completeness.TheVariants.{Certified, NotShown}
 
--- a green box for a claim that is made, a red one for a claim that is not
-unfoldable pub claim_front : Saying → List ℕ
+-- a green box for a claim that a judge stands behind, a red one for a claim that is not made, and
+-- else a plain one
+unfoldable pub claim_front : Completeness → List ℕ
 claim_front Judged = codes "<div class=\"say ok\">"
-claim_front (Certified several asked) = codes "<div class=\"say ok\">"
+claim_front DirectoriesJudged = codes "<div class=\"say ok\">"
+claim_front Certified = codes "<div class=\"say plain\">"
 claim_front NotShown = codes "<div class=\"say bad\">"
 
-unfoldable pub claim_mark : Saying → List ℕ
+unfoldable pub claim_mark : Completeness → List ℕ
 claim_mark Judged = codes "&#10003;</span> "
-claim_mark (Certified several asked) = codes "&#10003;</span> "
+claim_mark DirectoriesJudged = codes "&#10003;</span> "
+claim_mark Certified = codes "&#9675;</span> "
 claim_mark NotShown = codes "&#10007;</span> "
 
-unfoldable pub claim_words : Saying → List ℕ
+unfoldable pub claim_words : Completeness → List ℕ
 claim_words Judged = codes "No series is missing. The auditor found no flaw."
-claim_words (Certified false asked) = codes "No series is missing, by the certificate below."
-claim_words (Certified true asked) = codes "No series is missing, by the certificates below."
+claim_words DirectoriesJudged =
+    codes "No series of these directories is missing. The auditor found no flaw."
+claim_words Certified = codes "No series is missing, by the certificates below."
 claim_words NotShown = codes "This reply does not show that no series is missing."
 
-unfoldable pub claim_more : Saying → List ℕ
-claim_more Judged = []
-claim_more (Certified several false) = []
-claim_more (Certified several true) = codes " The auditor found no flaw in what it judged."
-claim_more NotShown = []
+-- a part after another
+abbrev pub later_name : PartName → List ℕ
+later_name name = codes ", " ++ subject_text (Part name)
+
+-- the parts that nobody judged; if there are none, what else is wanting for a stronger claim
+unfoldable pub unjudged_words : List PartName → List ℕ
+unjudged_words [] = codes "The reply does not name the head and each block once."
+unjudged_words (name ∷ names) =
+    codes "Nobody judged: " ++ subject_text (Part name) ++ flat_map later_name names ++ codes "."
 
 -- what stands before the mark of a claim
 unfoldable pub mark_front : List ℕ
 mark_front = codes "<p class=\"big\"><span class=\"mark\" aria-hidden=\"true\">"
 
 -- a box that is open still, with the mark of the claim
-unfoldable pub claim_box : Saying → List ℕ
-claim_box saying = claim_front saying ++ mark_front ++ claim_mark saying
+unfoldable pub claim_box : Completeness → List ℕ
+claim_box completeness = claim_front completeness ++ mark_front ++ claim_mark completeness
 
--- the claim, and on what it rests
-unfoldable pub claim_sentence : Saying → List ℕ
-claim_sentence saying = claim_words saying ++ claim_more saying
+-- what nobody judged, in a paragraph; none if all was judged, or if the claim is not made
+unfoldable pub claim_note : Completeness → List PartName → List ℕ
+claim_note Judged unjudged = []
+claim_note DirectoriesJudged unjudged =
+    codes "<p>The reply tells of a head without series, which nobody judged.</p>\n"
+claim_note Certified unjudged = codes "<p>" ++ unjudged_words unjudged ++ codes "</p>\n"
+claim_note NotShown unjudged = []
 
--- the claim, in a box that is open still
-unfoldable pub claim_text : Saying → List ℕ
-claim_text saying = claim_box saying ++ claim_sentence saying ++ codes "</p>\n"
+-- the claim, and what nobody judged, in a box that is open still
+unfoldable pub claim_text : Completeness → List PartName → List ℕ
+claim_text completeness unjudged =
+    claim_box completeness ++ claim_words completeness ++ codes "</p>\n"
+    ++ claim_note completeness unjudged
+
+-- what nobody judged, for a terminal: the parts say themselves if nobody judged them
+unfoldable pub plain_note : Completeness → List ℕ
+plain_note Judged = []
+plain_note DirectoriesJudged =
+    codes "The reply tells of a head without series, which nobody judged.\n"
+plain_note Certified = []
+plain_note NotShown = []
 
 -- the claim on lines of its own
-unfoldable pub plain_claim : Saying → List ℕ
-plain_claim saying = claim_sentence saying ++ codes "\n"
+unfoldable pub plain_claim : Completeness → List ℕ
+plain_claim completeness = claim_words completeness ++ codes "\n" ++ plain_note completeness

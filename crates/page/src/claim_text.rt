@@ -1,87 +1,131 @@
 //! The claim of a page, in words.
 
 ghost use Rattle.std.specs.Prelude.{◌≡◌, ◌++◌, codes, OnOk};
-ghost use Rattle.page.specs.Saying.{claim_text, claim_front, claim_mark, claim_words, claim_more};
-ghost use Rattle.page.specs.Saying.{mark_front, claim_box, claim_sentence, plain_claim};
-ghost use Rattle.page.specs.Pages.{saying_of};
+ghost use Rattle.std.specs.List.{flat_map};
+ghost use Rattle.auditor.specs.Judgements.{subject_text};
+ghost use Rattle.auditor.specs.declared.judgement.Subject.TheVariants.{Part};
+ghost use Rattle.page.specs.Saying.{claim_text, claim_front, claim_mark, claim_words, claim_note};
+ghost use Rattle.page.specs.Saying.{later_name, unjudged_words, mark_front, claim_box, plain_note};
+ghost use Rattle.page.specs.Saying.{plain_claim};
 
-use crate::shown::Shown;
-use page_claims::Claim;
-use std::alloc::AllocError;
+use auditor::Subject;
+use page_claims::Completeness;
+use postings::PartName;
+use std::alloc::{AllocError, Global};
 
-/// What a claim says.
-#[derive(Clone, Copy, Debug, PartialEq, Eq, Drop)]
-pub enum Saying {
-    /// No series is missing, as the auditor judged each part.
-    Judged,
-    /// No series is missing, by the certificates; the auditor judged some parts, or none.
-    Certified { several: bool, asked: bool },
-    /// It is not shown that no series is missing.
-    NotShown,
-}
-
-/// What a claim says of what is shown.
-pub(crate) fn saying_of(shown: &Shown<'_>, claim: Claim) -> Saying
-    ensures { result ≡ saying_of shown.now claim }
-{
-    let asked = !shown.lines.is_empty();
-    if !claim.is_shown {
-        Saying::NotShown
-    } else if claim.is_judged && asked {
-        Saying::Judged
-    } else {
-        Saying::Certified {
-            several: shown.told.answers.len() > 1,
-            asked,
-        }
-    }
-}
-
-/// What begins the box of a claim: green for one that is made, red for one that is not.
+/// What begins the box of a claim: green for one that a judge stands behind, red for one that is
+/// not made, else plain.
 #[tactic(auto, unfolding(crate::specs::Saying::claim_front))]
-fn front(saying: Saying) -> &'static [u8]
-    ensures { result.now ≡ claim_front saying }
+fn front(completeness: Completeness) -> &'static [u8]
+    ensures { result.now ≡ claim_front completeness }
 {
-    match saying {
-        Saying::Judged | Saying::Certified { .. } => b"<div class=\"say ok\">",
-        Saying::NotShown => b"<div class=\"say bad\">",
+    match completeness {
+        Completeness::Judged | Completeness::DirectoriesJudged => b"<div class=\"say ok\">",
+        Completeness::Certified => b"<div class=\"say plain\">",
+        Completeness::NotShown => b"<div class=\"say bad\">",
     }
 }
 
 /// The mark of a claim.
 #[tactic(auto, unfolding(crate::specs::Saying::claim_mark))]
-fn mark(saying: Saying) -> &'static [u8]
-    ensures { result.now ≡ claim_mark saying }
+fn mark(completeness: Completeness) -> &'static [u8]
+    ensures { result.now ≡ claim_mark completeness }
 {
-    match saying {
-        Saying::Judged | Saying::Certified { .. } => b"&#10003;</span> ",
-        Saying::NotShown => b"&#10007;</span> ",
+    match completeness {
+        Completeness::Judged | Completeness::DirectoriesJudged => b"&#10003;</span> ",
+        Completeness::Certified => b"&#9675;</span> ",
+        Completeness::NotShown => b"&#10007;</span> ",
     }
 }
 
 /// The claim in words, and on what it rests.
 #[tactic(auto, unfolding(crate::specs::Saying::claim_words))]
-fn words(saying: Saying) -> &'static [u8]
-    ensures { result.now ≡ claim_words saying }
+fn words(completeness: Completeness) -> &'static [u8]
+    ensures { result.now ≡ claim_words completeness }
 {
-    match saying {
-        Saying::Judged => b"No series is missing. The auditor found no flaw.",
-        Saying::Certified { several: false, .. } =>
-            b"No series is missing, by the certificate below.",
-        Saying::Certified { several: true, .. } =>
-            b"No series is missing, by the certificates below.",
-        Saying::NotShown => b"This reply does not show that no series is missing.",
+    match completeness {
+        Completeness::Judged => b"No series is missing. The auditor found no flaw.",
+        Completeness::DirectoriesJudged =>
+            b"No series of these directories is missing. The auditor found no flaw.",
+        Completeness::Certified => b"No series is missing, by the certificates below.",
+        Completeness::NotShown => b"This reply does not show that no series is missing.",
     }
 }
 
-/// What the auditor adds to a claim that rests on certificates.
-#[tactic(auto, unfolding(crate::specs::Saying::claim_more))]
-fn more_words(saying: Saying) -> &'static [u8]
-    ensures { result.now ≡ claim_more saying }
+/// What nobody judged, for a terminal.
+#[tactic(auto, unfolding(crate::specs::Saying::plain_note))]
+fn plain_note(completeness: Completeness) -> &'static [u8]
+    ensures { result.now ≡ plain_note completeness }
 {
-    match saying {
-        Saying::Certified { asked: true, .. } => b" The auditor found no flaw in what it judged.",
-        Saying::Certified { asked: false, .. } | Saying::Judged | Saying::NotShown => b"",
+    match completeness {
+        Completeness::DirectoriesJudged =>
+            b"The reply tells of a head without series, which nobody judged.\n",
+        Completeness::Judged | Completeness::Certified | Completeness::NotShown => b"",
+    }
+}
+
+/// Appends the name of a part.
+fn append_name(alloc: Global, out: &mut Vec<u8>, name: PartName) -> Result<(), AllocError>
+    ensures { OnOk result (out.new.items ≡ out.old.items ++ subject_text (Part name)) }
+{
+    let part = Subject::Part(name);
+    let text = format!(in alloc; "{part}")?;
+    out.extend_from_slice(text.as_bytes())
+}
+
+/// Appends the names of parts that stand after another.
+fn append_later_names(
+    alloc: Global,
+    out: &mut Vec<u8>,
+    names: &[PartName],
+) -> Result<(), AllocError>
+    ensures { OnOk result (out.new.items ≡ out.old.items ++ flat_map later_name names.now) }
+{
+    for name in names {
+        out.extend_from_slice(b", ")?;
+        append_name(alloc, out, *name)?;
+    }
+    Ok(())
+}
+
+/// Appends which parts nobody judged.
+#[tactic(auto, unfolding(crate::specs::Saying::unjudged_words))]
+fn append_unjudged(
+    alloc: Global,
+    out: &mut Vec<u8>,
+    unjudged: &[PartName],
+) -> Result<(), AllocError>
+    ensures { OnOk result (out.new.items ≡ out.old.items ++ unjudged_words unjudged.now) }
+{
+    let Some((name, names)) = unjudged.split_first() else {
+        return out.extend_from_slice(b"The reply does not name the head and each block once.");
+    };
+    out.extend_from_slice(b"Nobody judged: ")?;
+    append_name(alloc, out, *name)?;
+    append_later_names(alloc, out, names)?;
+    out.extend_from_slice(b".")
+}
+
+/// Appends a paragraph that says what nobody judged, if that belongs to the claim.
+#[tactic(auto, unfolding(crate::specs::Saying::claim_note))]
+fn append_note(
+    alloc: Global,
+    out: &mut Vec<u8>,
+    completeness: Completeness,
+    unjudged: &[PartName],
+) -> Result<(), AllocError>
+    ensures { OnOk result (out.new.items ≡ out.old.items ++ claim_note completeness unjudged.now) }
+{
+    match completeness {
+        Completeness::Judged | Completeness::NotShown => Ok(()),
+        Completeness::DirectoriesJudged => out.extend_from_slice(
+            b"<p>The reply tells of a head without series, which nobody judged.</p>\n",
+        ),
+        Completeness::Certified => {
+            out.extend_from_slice(b"<p>")?;
+            append_unjudged(alloc, out, unjudged)?;
+            out.extend_from_slice(b"</p>\n")
+        }
     }
 }
 
@@ -95,31 +139,28 @@ fn append_mark_front(out: &mut Vec<u8>) -> Result<(), AllocError>
 
 /// Appends what begins the box of a claim, and its mark.
 #[tactic(auto, unfolding(crate::specs::Saying::claim_box))]
-fn append_box(out: &mut Vec<u8>, saying: Saying) -> Result<(), AllocError>
-    ensures { OnOk result (out.new.items ≡ out.old.items ++ claim_box saying) }
+fn append_box(out: &mut Vec<u8>, completeness: Completeness) -> Result<(), AllocError>
+    ensures { OnOk result (out.new.items ≡ out.old.items ++ claim_box completeness) }
 {
-    out.extend_from_slice(front(saying))?;
+    out.extend_from_slice(front(completeness))?;
     append_mark_front(out)?;
-    out.extend_from_slice(mark(saying))
+    out.extend_from_slice(mark(completeness))
 }
 
-/// Appends the claim in words, and on what it rests.
-#[tactic(auto, unfolding(crate::specs::Saying::claim_sentence))]
-fn append_sentence(out: &mut Vec<u8>, saying: Saying) -> Result<(), AllocError>
-    ensures { OnOk result (out.new.items ≡ out.old.items ++ claim_sentence saying) }
-{
-    out.extend_from_slice(words(saying))?;
-    out.extend_from_slice(more_words(saying))
-}
-
-/// Appends the claim, in a box that is open still.
+/// Appends the claim and what nobody judged, in a box that is open still.
 #[tactic(auto, unfolding(crate::specs::Saying::claim_text))]
-pub(crate) fn append_claim(out: &mut Vec<u8>, saying: Saying) -> Result<(), AllocError>
-    ensures { OnOk result (out.new.items ≡ out.old.items ++ claim_text saying) }
+pub(crate) fn append_claim(
+    alloc: Global,
+    out: &mut Vec<u8>,
+    completeness: Completeness,
+    unjudged: &[PartName],
+) -> Result<(), AllocError>
+    ensures { OnOk result (out.new.items ≡ out.old.items ++ claim_text completeness unjudged.now) }
 {
-    append_box(out, saying)?;
-    append_sentence(out, saying)?;
-    out.extend_from_slice(b"</p>\n")
+    append_box(out, completeness)?;
+    out.extend_from_slice(words(completeness))?;
+    out.extend_from_slice(b"</p>\n")?;
+    append_note(alloc, out, completeness, unjudged)
 }
 
 /// Appends what ends the box of a claim.
@@ -131,9 +172,13 @@ pub(crate) fn append_claim_end(out: &mut Vec<u8>) -> Result<(), AllocError>
 
 /// Appends the claim on lines of its own.
 #[tactic(auto, unfolding(crate::specs::Saying::plain_claim))]
-pub(crate) fn append_plain_claim(out: &mut Vec<u8>, saying: Saying) -> Result<(), AllocError>
-    ensures { OnOk result (out.new.items ≡ out.old.items ++ plain_claim saying) }
+pub(crate) fn append_plain_claim(
+    out: &mut Vec<u8>,
+    completeness: Completeness,
+) -> Result<(), AllocError>
+    ensures { OnOk result (out.new.items ≡ out.old.items ++ plain_claim completeness) }
 {
-    append_sentence(out, saying)?;
-    out.extend_from_slice(b"\n")
+    out.extend_from_slice(words(completeness))?;
+    out.extend_from_slice(b"\n")?;
+    out.extend_from_slice(plain_note(completeness))
 }

@@ -11,7 +11,7 @@ use crate::words::{classed, long_text, plural, word};
 use auditor::Line;
 use cover::PartAnswer;
 use labels::LabelSet;
-use page_claims::{Place, checks_of};
+use page_claims::{Completeness, Place, checks_of};
 use page_text::{Attribute, Key, Subject, Tag};
 use postings::PartName;
 
@@ -81,6 +81,36 @@ fn matches_say(pen: &mut Pen, view: &View<'_>, matches: u64) {
     plural(pen, told.rows.len() as u64, " row. ", " rows. ");
 }
 
+/// How many blocks were skipped of which a judge found that the query selects nothing, and how many
+/// are told to be skipped.
+fn skips_say(pen: &mut Pen, view: &View<'_>) {
+    let (mut silent, mut told) = (0u64, 0u64);
+    for place in view.shown.told.places.as_slice() {
+        if let Place::Skipped(number) = *place {
+            if view.is_silent(number) {
+                silent = silent.saturating_add(1);
+            } else {
+                told = told.saturating_add(1);
+            }
+        }
+    }
+    if silent == 0 && told == 0 {
+        return pen.word("No part was skipped.");
+    }
+    if silent > 0 {
+        let one = " part was skipped: the query selects nothing of it. ";
+        let many = " parts were skipped: the query selects nothing of them. ";
+        plural(pen, silent, one, many);
+    }
+    if told > 0 {
+        let (one, many) = (
+            " part is told to be skipped.",
+            " parts are told to be skipped.",
+        );
+        plural(pen, told, one, many);
+    }
+}
+
 fn counts(pen: &mut Pen, view: &View<'_>) {
     let told = view.shown.told;
     let searched = told.answers.len() as u64;
@@ -88,18 +118,15 @@ fn counts(pen: &mut Pen, view: &View<'_>) {
     if searched == 0 {
         pen.word("No part was searched. ");
     } else if view.intervals == 0 {
-        pen.word("The searched parts have no series. ");
+        pen.word(if matches!(view.claim.completeness, Completeness::Judged) {
+            "The searched parts have no series. "
+        } else {
+            "The searched parts are told to have no series. "
+        });
     } else {
         intervals_say(pen, view);
     }
-    match (told.places.len() as u64).saturating_sub(searched) {
-        0 => pen.word("No part was skipped."),
-        1 => pen.word("1 part was skipped: its times do not meet the range."),
-        skipped => {
-            pen.counted(skipped);
-            pen.word(" parts were skipped: their times do not meet the range.");
-        }
-    }
+    skips_say(pen, view);
     pen.close();
 }
 
@@ -161,7 +188,7 @@ fn failures(pen: &mut Pen, view: &View<'_>) {
 
 /// What stands below the claim: counts, or what does not hold.
 pub(crate) fn details(pen: &mut Pen, view: &View<'_>) {
-    if view.claim.is_shown {
+    if view.claim.completeness.is_shown() {
         counts(pen, view)
     } else {
         failures(pen, view)
@@ -183,13 +210,13 @@ fn auditor_line(pen: &mut Pen, line: &Line) {
     pen.close();
 }
 
-/// The searched parts that the auditor did not judge.
+/// The parts that the auditor did not judge.
 fn unjudged(pen: &mut Pen, view: &View<'_>) {
     let mut named = false;
-    for answer in view.shown.told.answers.as_slice() {
-        if judgement_of(view.shown.lines, answer.part).is_none() {
+    for name in view.claim.unjudged.as_slice() {
+        if judgement_of(view.shown.lines, *name).is_none() {
             pen.word(if named { ", " } else { " Not judged: " });
-            part_name(pen, answer.part);
+            part_name(pen, *name);
             named = true;
         }
     }

@@ -44,6 +44,5 @@ mod words;
 mod write;
 
 pub use asked::{Asked, ask};
-pub use claim_text::Saying;
 pub use shown::Shown;
 pub use write::{MOST_BYTES, Page, write_page, write_text};

@@ -2,7 +2,7 @@
 
 use crate::groups::groups;
 use crate::header::part_name;
-use crate::judgements::{first_series, judgement, table_of};
+use crate::judgements::{first_series, judgement, judgement_of, table_of};
 use crate::map::draw_map;
 use crate::pen::Pen;
 use crate::sayings::{sayings, seen, text_of};
@@ -333,7 +333,11 @@ fn article(pen: &mut Pen, view: &View<'_>, at: usize, answer: &PartAnswer) {
     flaws(pen, answer, view.matchers().len());
     judgement(pen, view, answer.part);
     if answer.cover.certificate.is_empty() {
-        let none = "This part has no series, so it needs no interval.";
+        let none = if view.is_valid(answer.part) {
+            "This part has no series, so it needs no interval."
+        } else {
+            "This part is told to have no series, so it needs no interval."
+        };
         word(pen, Tag::P, none);
     } else {
         figure(pen, &strip_of(answer, view.few), answer.part);
@@ -347,17 +351,12 @@ fn article(pen: &mut Pen, view: &View<'_>, at: usize, answer: &PartAnswer) {
     pen.line();
 }
 
-/// Whether the auditor was given the block of a part that was skipped.
-fn is_known(view: &View<'_>, number: usize) -> bool {
-    !view.shown.lines.is_empty() && number < view.shown.tables.len()
-}
-
 /// The names of the parts that were skipped.
 fn skipped_names(pen: &mut Pen, view: &View<'_>) {
     let mut first = true;
     for (at, place) in view.shown.told.places.iter().enumerate() {
         if let Place::Skipped(number) = *place {
-            pen.word(if first { "Skipped: " } else { ", " });
+            pen.word(if first { "Told to be skipped: " } else { ", " });
             first = false;
             pen.with(Attribute::Named(Key::Id, "p", at as u64));
             pen.open(Tag::Span);
@@ -367,22 +366,27 @@ fn skipped_names(pen: &mut Pen, view: &View<'_>) {
     }
 }
 
+/// What the auditor found of a block that was skipped.
+fn skip_judged(view: &View<'_>, number: usize) -> &'static str {
+    if view.is_silent(number) {
+        ": the auditor found that the query selects nothing of it."
+    } else if judgement_of(view.shown.lines, PartName::Block(number)).is_some() {
+        ": the auditor names a flaw of this: see above."
+    } else {
+        ": not judged, as the auditor was given no block for it."
+    }
+}
+
 /// Which skips the auditor judged, and which it could not.
 fn skips_judged(pen: &mut Pen, view: &View<'_>) {
     if view.shown.lines.is_empty() {
-        return pen.word(
-            " The reply has no certificate for it; the auditor checks the skip against the block.",
-        );
+        return pen.word(" Nobody judged it; the auditor checks a skip against the block.");
     }
     for place in view.shown.told.places.as_slice() {
         if let Place::Skipped(number) = *place {
             pen.word(" ");
             part_name(pen, PartName::Block(number));
-            pen.word(if is_known(view, number) {
-                ": the auditor judged the skip against the block."
-            } else {
-                ": not judged, as the auditor was given no block for it."
-            });
+            pen.word(skip_judged(view, number));
         }
     }
 }
@@ -397,10 +401,7 @@ fn skipped(pen: &mut Pen, view: &View<'_>) {
     skipped_names(pen, view);
     pen.close();
     pen.open(Tag::P);
-    pen.word(
-        "Not searched: the times of the block do not meet the range of the query, so no sample of \
-         it can be an answer.",
-    );
+    pen.word("The reply has no certificate for a block that is told to be skipped.");
     skips_judged(pen, view);
     pen.close();
     pen.close();

@@ -3,7 +3,8 @@
 use auditor::{BlockTable, Line};
 use labels::{LabelSet, Sample};
 use matchers::{Matcher, Query};
-use page_claims::{Claim, Told};
+use page_claims::{Claim, Told, is_found_silent, is_found_valid};
+use postings::PartName;
 use std::alloc::Global;
 
 /// What a page shows: a question, the reply to it, what the auditor knows and said of it, and
@@ -46,6 +47,16 @@ pub(crate) struct View<'a> {
 impl<'a> View<'a> {
     pub(crate) fn matchers(&self) -> &'a [Matcher] {
         self.shown.query.matchers()
+    }
+
+    /// Whether a judge found the answer of a part valid.
+    pub(crate) fn is_valid(&self, name: PartName) -> bool {
+        is_found_valid(self.shown.lines, name)
+    }
+
+    /// Whether a judge found that the query selects nothing of a block that was skipped.
+    pub(crate) fn is_silent(&self, number: usize) -> bool {
+        is_found_silent(self.shown.tables, self.shown.lines, number)
     }
 
     /// How many intervals have a verdict of a slot.

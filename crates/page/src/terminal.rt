@@ -2,6 +2,7 @@
 
 use crate::asked::Asked;
 use crate::header::{auditor_text, part_name};
+use crate::judgements::judgement_of;
 use crate::pen::Pen;
 use crate::sayings::{Check, sayings, seen};
 use crate::shown::View;
@@ -130,6 +131,19 @@ fn flaws(pen: &mut Pen, view: &View<'_>, answer: &PartAnswer) {
     }
 }
 
+/// What is told of a part that no judge found valid.
+fn unjudged(pen: &mut Pen, view: &View<'_>, answer: &PartAnswer) {
+    if judgement_of(view.shown.lines, answer.part).is_some() {
+        return;
+    }
+    pen.word(if answer.cover.certificate.is_empty() {
+        "  told to have no series, which nobody judged"
+    } else {
+        "  nobody judged it"
+    });
+    pen.line();
+}
+
 fn part(pen: &mut Pen, view: &View<'_>, answer: &PartAnswer) {
     let intervals = answer.cover.certificate.as_slice();
     part_name(pen, answer.part);
@@ -147,6 +161,7 @@ fn part(pen: &mut Pen, view: &View<'_>, answer: &PartAnswer) {
         }
     }
     pen.line();
+    unjudged(pen, view, answer);
     letters(pen, intervals);
     flaws(pen, view, answer);
 }
@@ -157,7 +172,11 @@ fn parts(pen: &mut Pen, view: &View<'_>) {
         match *place {
             Place::Skipped(number) => {
                 part_name(pen, PartName::Block(number));
-                pen.word(": skipped, outside the range");
+                pen.word(if view.is_silent(number) {
+                    ": skipped, the query selects nothing of it"
+                } else {
+                    ": told to be skipped"
+                });
                 pen.line();
             }
             Place::Searched => {

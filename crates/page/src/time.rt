@@ -299,7 +299,7 @@ fn part_row(pen: &mut Pen, view: &View<'_>, at: usize, answer: &PartAnswer, most
     cells(pen, view, answer.rows.as_slice(), intervals, most);
 }
 
-fn skipped_row(pen: &mut Pen, at: usize, number: usize) {
+fn skipped_row(pen: &mut Pen, view: &View<'_>, at: usize, number: usize) {
     open_row(pen, "unsearched");
     part_link(pen, at, PartName::Block(number));
     pen.close();
@@ -316,7 +316,11 @@ fn skipped_row(pen: &mut Pen, at: usize, number: usize) {
     pen.with(Attribute::Word(Key::Class, "skipw"));
     pen.with(Attribute::Number(Key::Colspan, 4));
     pen.open(Tag::Td);
-    pen.word("skipped: outside the range");
+    pen.word(if view.is_silent(number) {
+        "skipped: the query selects nothing of it"
+    } else {
+        "told to be skipped"
+    });
     pen.close();
     pen.close();
     pen.line();
@@ -364,7 +368,7 @@ fn part_rows(pen: &mut Pen, view: &View<'_>, most: u64) {
     let mut answers = view.shown.told.answers.as_slice();
     for (at, place) in view.shown.told.places.iter().enumerate() {
         match *place {
-            Place::Skipped(number) => skipped_row(pen, at, number),
+            Place::Skipped(number) => skipped_row(pen, view, at, number),
             Place::Searched => {
                 if let Some((answer, later)) = answers.split_first() {
                     answers = later;

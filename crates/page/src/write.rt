@@ -10,7 +10,7 @@ ghost use Rattle.page.specs.Pages.{wanted_marks, wanted_counts};
 ghost use Rattle.page.specs.Saying.{plain_claim};
 
 use crate::asked::{Asked, ask};
-use crate::claim_text::{Saying, append_claim, append_claim_end, append_plain_claim, saying_of};
+use crate::claim_text::{append_claim, append_claim_end, append_plain_claim};
 use crate::header::{details, heading, summary};
 use crate::help::help;
 use crate::key::key;
@@ -20,7 +20,7 @@ use crate::rows::rows;
 use crate::shown::{Shown, View, axis_of, samples_in};
 use crate::terminal::terminal;
 use crate::time::time;
-use page_claims::{Claim, find_claim};
+use page_claims::{Claim, Completeness, find_claim};
 use page_marks::{FEW_PARTS, page_marks, text_marks};
 use page_style::{append_back, append_front};
 use page_text::{Mark, Piece, Tag, marks_of, print, print_plain, same_marks};
@@ -31,7 +31,7 @@ fn view_of<'a>(alloc: Global, shown: &'a Shown<'a>) -> Result<View<'a>, AllocErr
     ensures { IfOk result (λ view. IsClaimOf shown.now view.claim) }
 {
     let matchers = shown.query.matchers().len();
-    let claim = find_claim(alloc, matchers, shown.told, shown.lines)?;
+    let claim = find_claim(alloc, matchers, shown.told, shown.tables, shown.lines)?;
     let mut intervals = 0u64;
     for answer in shown.told.answers.as_slice() {
         intervals = intervals.saturating_add(answer.cover.certificate.len() as u64);
@@ -152,12 +152,17 @@ fn append_page_front(out: &mut Vec<u8>) -> Result<(), AllocError>
 
 /// Appends what begins each page, the heading and the claim.
 #[tactic(auto, unfolding(crate::specs::Pages::page_top))]
-fn append_top(out: &mut Vec<u8>, saying: Saying, heading: &[Piece]) -> Result<(), AllocError>
-    ensures { OnOk result (out.new.items ≡ out.old.items ++ page_top saying heading.now) }
+fn append_top(
+    alloc: Global,
+    out: &mut Vec<u8>,
+    claim: &Claim,
+    heading: &[Piece],
+) -> Result<(), AllocError>
+    ensures { OnOk result (out.new.items ≡ out.old.items ++ page_top claim.now heading.now) }
 {
     append_page_front(out)?;
     print(out, heading)?;
-    append_claim(out, saying)
+    append_claim(alloc, out, claim.completeness, claim.unjudged.as_slice())
 }
 
 /// Appends what stands with the claim and below it, and what ends each page.
@@ -175,17 +180,17 @@ fn append_rest(out: &mut Vec<u8>, details: &[Piece], sections: &[Piece]) -> Resu
 #[tactic(auto, unfolding(crate::specs::Pages::page_bytes))]
 fn bytes_of(
     alloc: Global,
-    saying: Saying,
+    claim: &Claim,
     heading: &[Piece],
     details: &[Piece],
     sections: &[Piece],
 ) -> Result<Vec<u8>, AllocError>
     ensures text { IfOk result (λ bytes. bytes.items
-        ≡ page_bytes saying heading.now details.now sections.now) }
+        ≡ page_bytes claim.now heading.now details.now sections.now) }
     ensures few { IfOk result (λ bytes. length bytes.items ≤ 268435456) }
 {
     let mut bytes = Vec::new(alloc);
-    append_top(&mut bytes, saying, heading)?;
+    append_top(alloc, &mut bytes, claim, heading)?;
     append_rest(&mut bytes, details, sections)?;
     if bytes.len() > MOST_BYTES {
         return Err(AllocError);
@@ -197,8 +202,10 @@ fn bytes_of(
 /// question, reply, tables and lines.
 ///
 /// It claims that no series is missing exactly if each part passes the checks that need no series,
-/// the rows are the merged rows of the parts, and no line of the auditor names a flaw. Below the
-/// claim its marks, the counts and tiles that it tells of, are exactly those of the reply
+/// the rows are the merged rows of the parts, and no line of the auditor names a flaw. The box of
+/// the claim is green only if a judge found no flaw in each part, or in each but a head that is
+/// told to have no series, which the box then says. Else it is plain, and names the parts that
+/// nobody judged. Below the claim its marks, the counts and tiles that it tells of, are exactly those of the reply
 /// (`page_marks`).
 ///
 /// It has at most 268,435,456 bytes, and at most 4,000,000 pieces each above the claim, with it and
@@ -214,10 +221,9 @@ pub fn write_page(alloc: Global, shown: &Shown<'_>) -> Result<Page, AllocError>
     let sections = sections_of(alloc, &view, asked.as_ref())?;
     let wanted = wanted_marks(alloc, shown)?;
     check_marks(alloc, sections.as_slice(), wanted.as_slice())?;
-    let saying = saying_of(shown, view.claim);
     let bytes = bytes_of(
         alloc,
-        saying,
+        &view.claim,
         heading.as_slice(),
         details.as_slice(),
         sections.as_slice(),
@@ -242,13 +248,17 @@ fn lines_of(alloc: Global, view: &View<'_>, asked: Option<&Asked>) -> Result<Vec
 }
 
 /// The claim, and the texts and numbers of the lines.
-fn plain_of(alloc: Global, saying: Saying, lines: &[Piece]) -> Result<Vec<u8>, AllocError>
+fn plain_of(
+    alloc: Global,
+    completeness: Completeness,
+    lines: &[Piece],
+) -> Result<Vec<u8>, AllocError>
     ensures text { IfOk result (λ bytes. bytes.items
-        ≡ plain_claim saying ++ plain_text lines.now) }
+        ≡ plain_claim completeness ++ plain_text lines.now) }
     ensures few { IfOk result (λ bytes. length bytes.items ≤ 268435456) }
 {
     let mut bytes = Vec::new(alloc);
-    append_plain_claim(&mut bytes, saying)?;
+    append_plain_claim(&mut bytes, completeness)?;
     print_plain(&mut bytes, lines)?;
     if bytes.len() > MOST_BYTES {
         return Err(AllocError);
@@ -267,7 +277,7 @@ pub fn write_text(alloc: Global, shown: &Shown<'_>) -> Result<Page, AllocError>
     let lines = lines_of(alloc, &view, asked.as_ref())?;
     let wanted = wanted_counts(alloc, shown)?;
     check_marks(alloc, lines.as_slice(), wanted.as_slice())?;
-    let bytes = plain_of(alloc, saying_of(shown, view.claim), lines.as_slice())?;
+    let bytes = plain_of(alloc, view.claim.completeness, lines.as_slice())?;
     Ok(Page {
         heading: Vec::new(alloc),
         claim: view.claim,

@@ -3,3 +3,4 @@ pub mod Checking
 pub mod Claiming
 pub mod Counting
 pub mod Figuring
+pub mod Judging

@@ -1,28 +1,65 @@
 //! The claim.
 
-ghost use Rattle.std.specs.Prelude.{◌≡◌, ◌↔◌, ◌||◌, ◌==◌, length, IsTrue, IfOk};
+ghost use Rattle.std.specs.Prelude.{◌≡◌, ◌↔◌, ◌||◌, ◌==◌, not, length, IsTrue, IfOk};
 ghost use Rattle.labels.specs.Rows.{AreRows};
 ghost use Rattle.auditor.specs.Listing.{last_listed};
-ghost use Rattle.page_claims.specs.Claiming.{are_checked, are_faultless, IsShown, same_name};
-ghost use Rattle.page_claims.specs.Claiming.{is_valid, is_of, is_judged, are_judged};
+ghost use Rattle.postings.specs.declared.part_name.PartName.TheVariants.{Head};
+ghost use Rattle.page_claims.specs.declared.claim.Completeness.TheVariants.{NotShown};
+ghost use Rattle.page_claims.specs.Claiming.{are_checked, are_faultless, IsShown, is_judged};
+ghost use Rattle.page_claims.specs.Claiming.{is_head_empty, is_head_alone, are_directories_judged};
+ghost use Rattle.page_claims.specs.Claiming.{IsFarAs, IsClaimed};
+ghost use Rattle.page_claims.specs.Judging.{same_name, unjudged_of};
 
 use crate::checks::is_checked;
+use crate::judged::{names_each, names_of, same_name, times_named, unjudged_of};
 use crate::told::Told;
-use auditor::{Flaw, Judgement, Line, Subject, audit_merge};
+use auditor::{BlockTable, Flaw, Line, audit_merge};
 use cover::PartAnswer;
 use labels::Row;
 use postings::PartName;
 use std::alloc::{AllocError, Global};
 
-/// What is claimed.
+/// How far a reply shows that no series is missing.
 #[derive(Clone, Copy, Debug, PartialEq, Eq, Drop)]
+pub enum Completeness {
+    /// No series is missing: the reply names the head once and each block once, and a judge found
+    /// no flaw in any.
+    Judged,
+    /// No series of the blocks with a directory is missing: the reply names each of them once, and
+    /// a judge found no flaw in any. It names one part more, the head. The head is told to have no
+    /// series, and nobody judged that.
+    DirectoriesJudged,
+    /// No series is missing, by the certificates: neither of these holds.
+    Certified,
+    /// It is not shown that no series is missing.
+    NotShown,
+}
+
+impl Completeness {
+    ghost use Rattle.page_claims.specs.Claiming.{is_shown};
+
+    /// Whether it is said that no series is missing.
+    pub fn is_shown(self) -> bool
+        ensures { result ≡ is_shown self }
+    {
+        match self {
+            Completeness::Judged | Completeness::DirectoriesJudged => true,
+            Completeness::Certified => true,
+            Completeness::NotShown => false,
+        }
+    }
+}
+
+/// What is claimed.
+#[derive(Debug, Drop)]
 pub struct Claim {
-    /// No series is missing, so far as the checks go.
-    pub is_shown: bool,
+    /// How far the reply shows that no series is missing.
+    pub completeness: Completeness,
     /// The rows of all are the merged rows of the parts.
     pub is_merged: bool,
-    /// The auditor found each part valid that is said to have series.
-    pub is_judged: bool,
+    /// The parts that the reply names and that no judge found right: nobody judged them, unless a
+    /// line names a flaw of theirs.
+    pub unjudged: Vec<PartName>,
 }
 
 fn are_checked(answers: &[PartAnswer], matchers: usize) -> bool
@@ -57,90 +94,126 @@ fn is_merged(alloc: Global, answers: &[PartAnswer], rows: &[Row]) -> Result<bool
     }
 }
 
-fn same_name(name: PartName, other: PartName) -> bool
-    ensures { result ≡ same_name name other }
+/// Whether a reply whose rows are the merged rows of the parts, or are not, passes all checks.
+fn is_shown(is_merged: bool, matchers: usize, told: &Told, lines: &[Line]) -> bool
+    requires { IsTrue is_merged ↔ AreRows told.now.rows.items (last_listed told.now.answers.items) }
+    ensures { IsTrue result
+        ↔ IsShown matchers told.now.answers.items told.now.rows.items lines.now }
 {
-    match (name, other) {
-        (PartName::Block(m), PartName::Block(n)) => m == n,
-        (PartName::Head, PartName::Head) => true,
-        (PartName::Block(_), PartName::Head) | (PartName::Head, PartName::Block(_)) => false,
-    }
+    let are_checked = are_checked(told.answers.as_slice(), matchers);
+    let are_faultless = are_faultless(lines);
+    is_merged && are_checked && are_faultless
 }
 
-fn is_valid(judgement: Judgement) -> bool
-    ensures { result ≡ is_valid judgement }
+fn is_empty_unless_block(answer: &PartAnswer) -> bool
+    ensures { result ≡ (not (same_name Head answer.now.part)
+        || length answer.now.cover.certificate.items == 0) }
 {
-    match judgement {
-        Judgement::Valid => true,
-        Judgement::Skipped | Judgement::Flawed(_) | Judgement::Refused(_) => false,
-    }
+    !same_name(PartName::Head, answer.part) || answer.cover.certificate.is_empty()
 }
 
-fn is_of(name: PartName, subject: Subject) -> bool
-    ensures { result ≡ is_of name subject }
-{
-    match subject {
-        Subject::Part(other) => same_name(name, other),
-        Subject::Rows => false,
-    }
-}
-
-/// Whether the auditor found a part valid.
-fn is_judged(lines: &[Line], name: PartName) -> bool
-    ensures { result ≡ is_judged lines.now name }
-{
-    for line in lines {
-        if is_of(name, line.subject) && is_valid(line.judgement) {
-            return true;
-        }
-    }
-    false
-}
-
-fn is_certain(lines: &[Line], answer: &PartAnswer) -> bool
-    ensures { result ≡ ((length answer.now.cover.certificate.items == 0)
-        || is_judged lines.now answer.now.part) }
-{
-    answer.cover.certificate.is_empty() || is_judged(lines, answer.part)
-}
-
-fn are_judged(lines: &[Line], answers: &[PartAnswer]) -> bool
-    ensures { result ≡ are_judged lines.now answers.now }
+/// Whether the head, if a part is the head, has no interval.
+fn is_head_empty(answers: &[PartAnswer]) -> bool
+    ensures { result ≡ is_head_empty answers.now }
 {
     for answer in answers {
-        if !is_certain(lines, answer) {
+        if !is_empty_unless_block(answer) {
             return false;
         }
     }
     true
 }
 
-/// What a reply to a selector of so many matchers allows to claim, with what the auditor said of
-/// it: no line, if it was not asked.
+fn is_head_alone(names: &[PartName]) -> bool
+    ensures { result ≡ is_head_alone names.now }
+{
+    names.len() == 1 && times_named(PartName::Head, names) == 1
+}
+
+/// Whether the parts that a reply names are the head and each block, once each, those with a
+/// directory among them, and none of them is unjudged.
+fn is_judged(directories: usize, names: &[PartName], unjudged: &[PartName]) -> bool
+    ensures { result ≡ is_judged directories names.now unjudged.now }
+{
+    let blocks = names.len().saturating_sub(1);
+    directories <= blocks && names_each(blocks, names) && unjudged.is_empty()
+}
+
+/// Whether there is a directory, the parts that a reply names are the head and the block of each
+/// directory, once each, and the head alone is unjudged, which has no interval.
+fn are_directories_judged(
+    directories: usize,
+    names: &[PartName],
+    unjudged: &[PartName],
+    answers: &[PartAnswer],
+) -> bool
+    ensures { result ≡ are_directories_judged directories names.now unjudged.now answers.now }
+{
+    directories > 0
+        && names_each(directories, names)
+        && is_head_alone(unjudged)
+        && is_head_empty(answers)
+}
+
+/// How far a reply that passes all checks, or does not, shows that no series is missing.
+fn completeness_of(
+    is_shown: bool,
+    directories: usize,
+    names: &[PartName],
+    unjudged: &[PartName],
+    answers: &[PartAnswer],
+) -> Completeness
+    ensures not_shown { (IsTrue is_shown → ⊥) → result ≡ NotShown }
+    ensures shown { IsTrue is_shown
+        → IsFarAs directories names.now unjudged.now answers.now result }
+{
+    if !is_shown {
+        Completeness::NotShown
+    } else if is_judged(directories, names, unjudged) {
+        Completeness::Judged
+    } else if are_directories_judged(directories, names, unjudged, answers) {
+        Completeness::DirectoriesJudged
+    } else {
+        Completeness::Certified
+    }
+}
+
+/// What a reply to a selector of so many matchers allows to claim, with what is known of the blocks
+/// in directories, and with what the auditor said of it: no table and no line, if it was not asked.
 ///
 /// That no series is missing is claimed exactly where each part passes the checks that need no
-/// series, the rows are the merged rows of the parts, and no line names a flaw or a refusal. The
-/// merge takes memory for a list of what is listed.
+/// series, the rows are the merged rows of the parts, and no line names a flaw or a refusal. A part
+/// counts as judged if a line finds its answer valid, or if it was skipped, its block's table is
+/// there, and its line names no flaw. It takes memory for a list of what is listed and for the
+/// names of the parts, and time in proportion to the parts times the lines.
 pub fn find_claim(
     alloc: Global,
     matchers: usize,
     told: &Told,
+    tables: &[BlockTable],
     lines: &[Line],
 ) -> Result<Claim, AllocError>
-    ensures shown { IfOk result (λ claim. IsTrue claim.is_shown
-        ↔ IsShown matchers told.now.answers.items told.now.rows.items lines.now) }
+    ensures claimed { IfOk result
+        (λ claim. IsClaimed matchers told.now tables.now lines.now claim.completeness) }
     ensures merged { IfOk result (λ claim. IsTrue claim.is_merged
         ↔ AreRows told.now.rows.items (last_listed told.now.answers.items)) }
-    ensures judged { IfOk result (λ claim. claim.is_judged
-        ≡ are_judged lines.now told.now.answers.items) }
+    ensures unjudged { IfOk result (λ claim. claim.unjudged.items
+        ≡ unjudged_of tables.now lines.now told.now) }
 {
     let answers = told.answers.as_slice();
     let is_merged = is_merged(alloc, answers, told.rows.as_slice())?;
-    let are_checked = are_checked(answers, matchers);
-    let are_faultless = are_faultless(lines);
+    let names = names_of(alloc, told)?;
+    let unjudged = unjudged_of(alloc, tables, lines, told)?;
+    let completeness = completeness_of(
+        is_shown(is_merged, matchers, told, lines),
+        tables.len(),
+        names.as_slice(),
+        unjudged.as_slice(),
+        answers,
+    );
     Ok(Claim {
-        is_shown: is_merged && are_checked && are_faultless,
+        completeness,
         is_merged,
-        is_judged: are_judged(lines, answers),
+        unjudged,
     })
 }

@@ -5,12 +5,14 @@
 //! chain without a hole, each verdict names a matcher that is there, there are as many rows as
 //! matches, the separators lie one in each interval, the rows of all are the merged rows of the
 //! parts, and the auditor, if it was asked, named no flaw (`IsShown`). None of this shows that a
-//! reason is true of the series: that is the auditor's.
+//! reason is true of the series: that is the auditor's. So the claim says how far it goes
+//! ([`Completeness`]): whether a judge found no flaw in all parts, or in all but the head, or
+//! whether it rests on the certificates alone. Which parts nobody judged stands beside it.
 //!
 //! ```
 //! let told = Told::of(alloc, Reply::read(alloc, text)?)?;
-//! let claim = find_claim(alloc, query.matchers().len(), &told, None)?;
-//! assert!(rt; claim.is_shown);
+//! let claim = find_claim(alloc, query.matchers().len(), &told, &[], &[])?;
+//! assert_eq!(rt; claim.completeness, Completeness::Certified);
 //! ```
 //!
 //! It stands on the auditor for what a reply is, for merged rows and for judgements, and on the
@@ -22,11 +24,13 @@ mod checks;
 mod claim;
 mod counts;
 mod figures;
+mod judged;
 mod told;
 
 pub use about::{rejecting, row_with};
 pub use checks::{Checks, checks_of};
-pub use claim::{Claim, find_claim};
+pub use claim::{Claim, Completeness, find_claim};
 pub use counts::{SLOTS, count_in, counts_law, shown_of, slot_of};
 pub use figures::{Figures, figures_of};
+pub use judged::{is_found_silent, is_found_valid};
 pub use told::{Place, Told};

@@ -1,8 +1,9 @@
 //! A reply, taken apart.
 
-ghost use Rattle.std.specs.Prelude.{◌≡◌, IfOk};
+ghost use Rattle.std.specs.Prelude.{◌≡◌, map, IfOk};
 ghost use Rattle.std.specs.List.{flat_map};
 ghost use Rattle.auditor.specs.Judgements.{answers_of};
+ghost use Rattle.page_claims.specs.Judging.{place_of};
 
 use auditor::{Reply, ToldPart};
 use cover::PartAnswer;
@@ -30,6 +31,7 @@ pub struct Told {
 impl Told {
     /// A reply, taken apart.
     pub fn of(alloc: Global, reply: Reply) -> Result<Told, AllocError>
+        ensures places { IfOk result (λ told. told.places.items ≡ map place_of reply.parts.items) }
         ensures answers { IfOk result
             (λ told. told.answers.items ≡ flat_map answers_of reply.parts.items) }
         ensures rows { IfOk result (λ told. told.rows ≡ reply.rows) }

@@ -12,7 +12,7 @@ const HEAD: &str = r#"<!doctype html>
 <head>
 <meta charset="utf-8">
 <meta http-equiv="Content-Security-Policy" content="default-src 'none';
-style-src 'sha256-iPLVZizSMyHEO/miG3OyAJ5uh0LgpVNebIbyd1mTEV8='; base-uri 'none';
+style-src 'sha256-GhEGZNYchVZTcmR7LcWFXbIp3/TPG5A7NC9oB5jOhFI='; base-uri 'none';
 form-action 'none'">
 <meta name="viewport" content="width=device-width,initial-scale=1">
 <meta name="color-scheme" content="light dark">

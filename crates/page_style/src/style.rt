@@ -43,6 +43,8 @@ border-left-width:6px;background:var(--okbg)}
 
 /// A piece of the style.
 pub(crate) const STYLE_1: &str = r#".say.bad .mark,.no{color:var(--bad)}
+.say.plain{border-color:var(--mute);background:var(--panel)}
+.say.plain .mark{color:var(--mute)}
 .yes{color:var(--ok)}
 .audit{font-size:14px}
 .about{margin:14px 0;padding:10px 18px;border-radius:6px;border:1px solid var(--line);

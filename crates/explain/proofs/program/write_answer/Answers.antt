@@ -21,5 +21,5 @@ returns g c = record {
   is = c.in_ok-page.ensures.ok;
   written = subst (λ (bytes : List ℕ). Appends (g.W.Write.contents c.args.out.now) (g.W.Write.contents c.send.new.out) bytes)
       c.as_slice.ensures.value c.in_ok-send.ensures;
-  claim = refl;
+  claim = c.is_shown.ensures;
 }

@@ -1,0 +1,238 @@
+//! Which parts a reply names, and which of them nobody judged.
+
+ghost use Rattle.std.specs.Prelude.{◌≡◌, ◌≤◌, ◌==◌, ◌&&◌, not, length, map, option_map, slice_get, IfOk};
+ghost use Rattle.std.specs.List.{list_all, flat_map};
+ghost use Rattle.page_claims.specs.Judging.{skipped_in, names_of, same_name, times_named, is_among};
+ghost use Rattle.page_claims.specs.Judging.{names_each, is_of, is_valid, is_skip, is_found_valid};
+ghost use Rattle.page_claims.specs.Judging.{is_told_skipped, is_table, is_found_silent};
+ghost use Rattle.page_claims.specs.Judging.{unjudged_answer, unjudged_skip, unjudged_of};
+
+use crate::told::{Place, Told};
+use auditor::{BlockTable, Judgement, Line, Subject};
+use cover::PartAnswer;
+use postings::PartName;
+use std::alloc::{AllocError, Global};
+
+fn searched_names(alloc: Global, answers: &[PartAnswer]) -> Result<Vec<PartName>, AllocError>
+    ensures { IfOk result (λ names. names.items ≡ map (λ a. a.part) answers.now) }
+{
+    let mut names = Vec::with_capacity(alloc, answers.len())?;
+    for answer in answers {
+        names.push(answer.part)?;
+    }
+    Ok(names)
+}
+
+fn skipped_names(alloc: Global, places: &[Place]) -> Result<Vec<PartName>, AllocError>
+    ensures { IfOk result (λ names. names.items ≡ flat_map skipped_in places.now) }
+{
+    let mut names = Vec::new(alloc);
+    for place in places {
+        if let Place::Skipped(number) = *place {
+            names.push(PartName::Block(number))?;
+        }
+    }
+    Ok(names)
+}
+
+/// The parts that a reply names: those that were searched, and those that were skipped.
+pub(crate) fn names_of(alloc: Global, told: &Told) -> Result<Vec<PartName>, AllocError>
+    ensures { IfOk result (λ names. names.items ≡ names_of told.now) }
+{
+    let mut names = searched_names(alloc, told.answers.as_slice())?;
+    let mut skipped = skipped_names(alloc, told.places.as_slice())?;
+    names.append(&mut skipped)?;
+    Ok(names)
+}
+
+pub(crate) fn same_name(name: PartName, other: PartName) -> bool
+    ensures { result ≡ same_name name other }
+{
+    match (name, other) {
+        (PartName::Block(m), PartName::Block(n)) => m == n,
+        (PartName::Head, PartName::Head) => true,
+        (PartName::Block(_), PartName::Head) | (PartName::Head, PartName::Block(_)) => false,
+    }
+}
+
+/// How often a part is named.
+pub(crate) fn times_named(name: PartName, names: &[PartName]) -> usize
+    ensures value { result ≡ times_named name names.now }
+    ensures within { result ≤ length names.now }
+{
+    let mut count = 0;
+    for other in names {
+        if same_name(name, *other) {
+            count += 1;
+        }
+    }
+    count
+}
+
+/// Whether a part is the head, or one of so many blocks from block 0 on.
+fn is_among(blocks: usize, name: PartName) -> bool
+    ensures { result ≡ is_among blocks name }
+{
+    match name {
+        PartName::Block(number) => number < blocks,
+        PartName::Head => true,
+    }
+}
+
+/// Whether each part is the head or one of so many blocks, and named once.
+fn are_among(blocks: usize, names: &[PartName]) -> bool
+    ensures { result ≡ list_all (λ name. is_among blocks name
+        && times_named name names.now == 1) names.now }
+{
+    for name in names {
+        if !(is_among(blocks, *name) && times_named(*name, names) == 1) {
+            return false;
+        }
+    }
+    true
+}
+
+/// Whether the parts that are named are the head and so many blocks from block 0 on, each named
+/// once.
+pub(crate) fn names_each(blocks: usize, names: &[PartName]) -> bool
+    ensures { result ≡ names_each blocks names.now }
+{
+    times_named(PartName::Head, names) == 1
+        && names.len().saturating_sub(1) == blocks
+        && are_among(blocks, names)
+}
+
+fn is_of(name: PartName, subject: Subject) -> bool
+    ensures { result ≡ is_of name subject }
+{
+    match subject {
+        Subject::Part(other) => same_name(name, other),
+        Subject::Rows => false,
+    }
+}
+
+fn is_valid(judgement: Judgement) -> bool
+    ensures { result ≡ is_valid judgement }
+{
+    match judgement {
+        Judgement::Valid => true,
+        Judgement::Skipped | Judgement::Flawed(_) | Judgement::Refused(_) => false,
+    }
+}
+
+fn is_skip(judgement: Judgement) -> bool
+    ensures { result ≡ is_skip judgement }
+{
+    match judgement {
+        Judgement::Skipped => true,
+        Judgement::Valid | Judgement::Flawed(_) | Judgement::Refused(_) => false,
+    }
+}
+
+/// Whether a judge found the answer of a part valid, by the lines of an audit.
+pub fn is_found_valid(lines: &[Line], name: PartName) -> bool
+    ensures { result ≡ is_found_valid lines.now name }
+{
+    for line in lines {
+        if is_of(name, line.subject) && is_valid(line.judgement) {
+            return true;
+        }
+    }
+    false
+}
+
+/// Whether a line says of a part that it was skipped.
+fn is_told_skipped(lines: &[Line], name: PartName) -> bool
+    ensures { result ≡ is_told_skipped lines.now name }
+{
+    for line in lines {
+        if is_of(name, line.subject) && is_skip(line.judgement) {
+            return true;
+        }
+    }
+    false
+}
+
+fn is_table(table: Option<&BlockTable>) -> bool
+    ensures { result ≡ is_table (option_map (λ t. t.now) table.entry) }
+{
+    match table {
+        Some(BlockTable::Walked(_)) => true,
+        Some(BlockTable::Refused(_)) | None => false,
+    }
+}
+
+fn is_walked(tables: &[BlockTable], number: usize) -> bool
+    ensures { result ≡ is_table (slice_get tables.now number) }
+{
+    is_table(tables.get(number))
+}
+
+/// Whether a judge found that the query selects nothing of the block of a number, which was
+/// skipped: its table was walked, and its line names no flaw. The same line stands of a block
+/// without a table, which nobody judged.
+pub fn is_found_silent(tables: &[BlockTable], lines: &[Line], number: usize) -> bool
+    ensures { result ≡ is_found_silent tables.now lines.now number }
+{
+    is_walked(tables, number) && is_told_skipped(lines, PartName::Block(number))
+}
+
+fn is_unjudged(lines: &[Line], answer: &PartAnswer) -> bool
+    ensures { result ≡ not (is_found_valid lines.now answer.now.part) }
+{
+    !is_found_valid(lines, answer.part)
+}
+
+/// The parts of answers that no judge found valid.
+fn unjudged_answers(
+    alloc: Global,
+    lines: &[Line],
+    answers: &[PartAnswer],
+) -> Result<Vec<PartName>, AllocError>
+    ensures { IfOk result
+        (λ names. names.items ≡ flat_map (unjudged_answer lines.now) answers.now) }
+{
+    let mut names = Vec::new(alloc);
+    for answer in answers {
+        if is_unjudged(lines, answer) {
+            names.push(answer.part)?;
+        }
+    }
+    Ok(names)
+}
+
+/// The blocks that were skipped and of which no judge found that the query selects nothing.
+fn unjudged_skips(
+    alloc: Global,
+    tables: &[BlockTable],
+    lines: &[Line],
+    places: &[Place],
+) -> Result<Vec<PartName>, AllocError>
+    ensures { IfOk result
+        (λ names. names.items ≡ flat_map (unjudged_skip tables.now lines.now) places.now) }
+{
+    let mut names = Vec::new(alloc);
+    for place in places {
+        if let Place::Skipped(number) = *place {
+            if !is_found_silent(tables, lines, number) {
+                names.push(PartName::Block(number))?;
+            }
+        }
+    }
+    Ok(names)
+}
+
+/// The parts that a reply names and that nobody judged.
+pub(crate) fn unjudged_of(
+    alloc: Global,
+    tables: &[BlockTable],
+    lines: &[Line],
+    told: &Told,
+) -> Result<Vec<PartName>, AllocError>
+    ensures { IfOk result (λ names. names.items ≡ unjudged_of tables.now lines.now told.now) }
+{
+    let mut names = unjudged_answers(alloc, lines, told.answers.as_slice())?;
+    let mut skips = unjudged_skips(alloc, tables, lines, told.places.as_slice())?;
+    names.append(&mut skips)?;
+    Ok(names)
+}
