@@ -1,6 +1,6 @@
 //! Writing a number at the end of a vector.
 
-ghost use Rattle.std.specs.Prelude.{◌≡◌, ◌++◌, length, OnErr, OnOk};
+ghost use Rattle.std.specs.Prelude.{◌≡◌, ◌≤◌, ◌++◌, length, OnErr, OnOk};
 ghost use Rattle.wire.specs.Spelling.{uvarint};
 ghost use Rattle.varints.specs.Varint.{IsVarint};
 
@@ -25,7 +25,8 @@ pub fn put_varint(out: &mut Vec<u8>, n: u64) -> Result<(), AllocError>
 
 /// How many bytes the shortest spelling of a number has, 1 to 10.
 pub fn varint_len(n: u64) -> usize
-    ensures { result ≡ length (uvarint n) }
+    ensures exact { result ≡ length (uvarint n) }
+    ensures few { result ≤ 10 }
 {
     let mut left = n;
     let mut len = 1;

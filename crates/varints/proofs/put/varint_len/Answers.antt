@@ -19,8 +19,8 @@ loop-left-preserved c =
     let l = c.loop-left in
     next l.invariant.0 l.left l.len _ c.loop-left-test.true l.invariant.2 l.invariant.1 l.invariant.3
 
-pub returns : goal.returns
-returns c =
+pub returns-clause-exact : goal.returns-clause-exact
+returns-clause-exact c =
     let l = c.loop-left in
     let e = ap (length {A = ℕ}) (groups_last l.invariant.0 l.left (omega arith)) in
     let h = l.invariant.3 in
