@@ -1,0 +1,3 @@
+pub mod Codes
+pub mod Format
+pub mod Reading

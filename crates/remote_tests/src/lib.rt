@@ -1,0 +1,17 @@
+//! Tests from outside of what a Prometheus sends and is sent: Snappy's streams, bodies of remote
+//! write and of remote read, doubles as whole numbers.
+//!
+//! Expected values are those of public documents, of Debian's libsnappy and protobuf (Python), and
+//! of bodies that were captured from Prometheus 2.42.
+#![tactic(auto)]
+
+#[cfg(test)]
+mod doubles;
+#[cfg(test)]
+mod numbers;
+#[cfg(test)]
+mod queries;
+#[cfg(test)]
+mod requests;
+#[cfg(test)]
+mod streams;
