@@ -1,11 +1,11 @@
 -- What a crash leaves, call by call.
-use Rattle.std.proofs.Common.{inl, inr, ⊎_elim, ℕ, List, Option, Some, arith, Ok}
+use Rattle.std.proofs.Common.{inl, inr, ⊎_elim, ℕ, ◌≤◌, List, Option, Some, arith, Ok}
 use Rattle.std.proofs.Common.{Err, Result}
 use Rattle.std.specs.Prelude.{OnOk}
 use Rattle.journal.specs.Media.{MayLeave}
 use Rattle.journal.specs.Media as media
-use Rattle.data_folder.specs.Folders.{Elapses, KeepsOthers, Left, LeavesOnly, LeavesOthers}
-use Rattle.data_folder.specs.Folders.{MayGrow}
+use Rattle.data_folder.specs.Folders.{Elapses, KeepsAll, KeepsOthers, Left, LeavesAll, LeavesOnly}
+use Rattle.data_folder.specs.Folders.{LeavesOthers, MayGrow, Untouched}
 use Rattle.data_folder.specs.JournalFile.{journal_name, JournalLeft}
 use Rattle.data_folder.specs.JournalLaws.{StaysBeside, left_now}
 
@@ -48,6 +48,48 @@ module _ {F : Type 0} (shows : F → List ℕ → Option (List ℕ) → Type 0)
               during.1.others name x n away away shown durable,
         ))
         (time.nothing_else t left le had);
+  }
+
+module _ {F : Type 0} (shows : F → List ℕ → Option (List ℕ) → Type 0)
+    (kept : F → List ℕ → ℕ → Type 0) (moment : F → ℕ) (left_since : F → ℕ → Left → Type 0) where
+  -- where no call was made
+  pub untouched : (f : F) → Untouched shows kept moment left_since f f
+  untouched f = record {
+    all = record { same = λ name x shown. shown; durable = λ name n durable. durable };
+    time = record {
+      later = omega arith;
+      nothing_else = λ t left le had. inl had;
+      keeps = λ t left le had. had;
+    };
+  }
+
+  -- nor by one call more
+  pub untouched_on : ((f : F) (t u : ℕ) (left : Left) → t ≤ u → u ≤ moment f → left_since f u left
+      → left_since f t left)
+      → (old mid new : F) → Untouched shows kept moment left_since old mid
+      → KeepsAll shows kept mid new
+      → Elapses (moment mid) (moment new) (left_since mid) (left_since new)
+      (LeavesAll shows kept mid) → Untouched shows kept moment left_since old new
+  untouched_on earlier old mid new first all time = record {
+    all = record {
+      same = λ name x shown. all.same name x (first.all.same name x shown);
+      durable = λ name n durable. all.durable name n (first.all.durable name n durable);
+    };
+    time = record {
+      later = omega (arith, first.time.later, time.later);
+      nothing_else = λ t left le had. ⊎_elim
+          (λ past. ⊎_elim (λ old. inl old)
+          (λ now. inr (time.keeps (moment old) left first.time.later now.0, now.1))
+          (first.time.nothing_else t left le past))
+          (λ now. inr (
+            earlier new (moment old) (moment mid) left first.time.later time.later now.0,
+            λ name x n shown durable. now.1 name x n (first.all.same name x shown)
+                (first.all.durable name n durable),
+          ))
+          (time.nothing_else t left (omega (arith, le, first.time.later)) had);
+      keeps = λ t left le had. time.keeps t left (omega (arith, le, first.time.later))
+          (first.time.keeps t left le had);
+    };
   }
 
 module _ {F : Type 0} (moment : F → ℕ) (left_since : F → ℕ → Left → Type 0) where
