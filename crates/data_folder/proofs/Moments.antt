@@ -6,7 +6,7 @@ use Rattle.std.proofs.Common.{Err, Result}
 use Rattle.std.specs.Prelude.{OnOk}
 use Rattle.journal.specs.Media.{MayLeave}
 use Rattle.journal.specs.Media as media
-use Rattle.data_folder.specs.Folders.{Elapses, KeepsAll, KeepsOthers, Left, LeavesAll, LeavesOnly}
+use Rattle.data_folder.specs.Folders.{Elapses, KeepsOthers, Left, LeavesOnly}
 use Rattle.data_folder.specs.Folders.{HasFile, LeavesOthers, MayGrow, MayLeaveOf, Untouched}
 use Rattle.data_folder.specs.JournalFile.{journal_name, JournalLeft}
 use Rattle.data_folder.specs.JournalLaws.{StaysBeside, left_now}

@@ -1,7 +1,7 @@
 -- A store over every schedule: what is on the disk, the process that answers, and what leads from
 -- one to another.
 use Rattle.std.specs.Prelude.{◌≡◌, ◌⊎◌, List, [], ◌∷◌, ◌++◌, Ok}
-use Rattle.head.specs.Worlds.{Event, World, stepped, replayed}
+use Rattle.head.specs.Worlds.{Event, World, replayed}
 
 -- what outlives a crash: the world that the head of the journal says, and the events of the whole
 -- records after it
