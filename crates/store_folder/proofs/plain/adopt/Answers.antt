@@ -1,5 +1,6 @@
-use Rattle.std.proofs.Common.{inl, ap, map, subst, sym, ◌∙◌}
+use Rattle.std.proofs.Common.{◌≡◌, ℕ, inl, ap, map, rules, subst, sym}
 use Rattle.block.specs.Blocks.{Shown}
+use Rattle.data_folder.specs.Folders.{HasFile}
 use Rattle.data_folder.specs.JournalFile.{journal_name}
 use Rattle.data_folder.proofs.Moments.{started}
 use Rattle.event_journal.specs.Holding.{contents_with}
@@ -43,3 +44,22 @@ returns-in-Err-clause-any_moment g c =
     (λ left had. inl (whole_left file (left journal_name)
     (g.met.F.Folder.only_now c.args.folder.now journal_name (Some file) (length file) left
     c.requires.has.shown c.requires.has.durable had)))
+
+pub returns-in-Ok-change_journal-clause-found : goal.returns-in-Ok-change_journal-clause-found
+returns-in-Ok-change_journal-clause-found g c =
+    let f = g.F.Folder in
+    let text = c.in-Ok.plain.0.items in
+    let len : c.len.result ≡ length text = search rules in
+    found_headed f.shows f.kept c.change_journal.new.folder
+    (record {
+      head = c.nothing.result;
+      events = c.in-Ok.plain.1;
+      len = c.len.result;
+      torn = 0;
+    })
+    (map part_in c.new.result.items) c.args.file.now text
+    (subst (λ (bytes : List ℕ).
+    HasFile f.shows f.kept journal_name bytes c.change_journal.new.folder) c.deref.ensures.value
+    c.in-Ok-change_journal.ensures.changed)
+    c.nothing.ensures len c.in-Ok.ensures.events c.in-Ok.ensures.saved c.in-Ok.ensures.text
+    (ap (λ (bs : List Shown). map part_in bs) c.new.ensures.items)

@@ -87,8 +87,8 @@ returns-in-Ok-open_file-clause-others g c =
     others_after f.shows f.kept f.failed f.moment f.left_since next_name journal_name old read
     c.open_file.new.folder c.read.ensures.all c.open_file.ensures.others
 
-pub returns-in-Err-open_file-clause-only : goal.returns-in-Err-open_file-clause-only
-returns-in-Err-open_file-clause-only g c tells file saved parts events has other is at =
+pub returns-in-Some-clause-only : goal.returns-in-Some-clause-only
+returns-in-Some-clause-only g c tells file saved parts events has other is at =
     let f = g.F.Folder in
     let old = c.args.folder.now in
     let read = c.read.new.self in
@@ -101,22 +101,22 @@ returns-in-Err-open_file-clause-only g c tells file saved parts events has other
     (subst (λ (bytes : List ℕ). IsJournalOf bytes saved events) (sym same) is)
     (blocks_kept f.shows f.kept saved.places parts old read c.read.ensures.all at)
 
-pub returns-in-Err-open_file-clause-told : goal.returns-in-Err-open_file-clause-told
-returns-in-Err-open_file-clause-told g c is =
+pub returns-in-Some-clause-told : goal.returns-in-Some-clause-told
+returns-in-Some-clause-told g c is =
     let f = g.F.Folder in
     ⊎_elim (λ d. store_refused f.shows f.kept f.failed c.open_file.new.folder c.in-Err-open_file.error is d)
     (λ d. plain_refused d.0 c.in-Err-open_file.error d.3) c.in-Err-open_file.ensures.refused
 
-pub returns-in-Err-open_file-clause-unchanged : goal.returns-in-Err-open_file-clause-unchanged
-returns-in-Err-open_file-clause-unchanged g c unless =
+pub returns-in-Some-clause-unchanged : goal.returns-in-Some-clause-unchanged
+returns-in-Some-clause-unchanged g c unless =
     let f = g.F.Folder in
     let old = c.args.folder.now in
     let read = c.read.new.self in
     untouched_on f.shows f.kept f.moment f.left_since g.met.F.Folder.earlier old read
     c.open_file.new.folder (record { all = c.read.ensures.all; time = c.read.ensures.time }) (c.in-Err-open_file.ensures.unchanged unless)
 
-pub returns-in-Err-open_file-clause-whole : goal.returns-in-Err-open_file-clause-whole
-returns-in-Err-open_file-clause-whole g c tells x shown other =
+pub returns-in-Some-clause-whole : goal.returns-in-Some-clause-whole
+returns-in-Some-clause-whole g c tells x shown other =
     let f = g.F.Folder in
     let old = c.args.folder.now in
     let read = c.read.new.self in
@@ -129,8 +129,8 @@ returns-in-Err-open_file-clause-whole g c tells x shown other =
     untouched_on f.shows f.kept f.moment f.left_since g.met.F.Folder.earlier old read
     c.open_file.new.folder (record { all = c.read.ensures.all; time = c.read.ensures.time }) (c.open_file.ensures.whole whole)
 
-pub returns-in-Err-open_file-clause-any_moment : goal.returns-in-Err-open_file-clause-any_moment
-returns-in-Err-open_file-clause-any_moment g c tells file has =
+pub returns-in-Some-clause-any_moment : goal.returns-in-Some-clause-any_moment
+returns-in-Some-clause-any_moment g c tells file has =
     let f = g.F.Folder in
     let old = c.args.folder.now in
     let read = c.read.new.self in
@@ -146,8 +146,8 @@ returns-in-Err-open_file-clause-any_moment g c tells file has =
     (subst (λ (bytes : List ℕ). LeavesOnly f.moment f.left_since read c.open_file.new.folder
     (HasEither bytes)) same c.open_file.ensures.any_moment)
 
-pub returns-in-Err-open_file-clause-others : goal.returns-in-Err-open_file-clause-others
-returns-in-Err-open_file-clause-others g c =
+pub returns-in-Some-clause-others : goal.returns-in-Some-clause-others
+returns-in-Some-clause-others g c =
     let f = g.F.Folder in
     let old = c.args.folder.now in
     let read = c.read.new.self in
@@ -156,16 +156,16 @@ returns-in-Err-open_file-clause-others g c =
 
 -- no journal was found, or it was not read
 
-pub returns-in-None-clause-nothing : goal.returns-in-None-clause-nothing
-returns-in-None-clause-nothing g c is =
+pub returns-in-Ok-clause-nothing : goal.returns-in-Ok-clause-nothing
+returns-in-Ok-clause-nothing g c is =
     record { all = c.read.ensures.all; time = c.read.ensures.time }
 
-pub returns-in-None-clause-whole : goal.returns-in-None-clause-whole
-returns-in-None-clause-whole g c tells x shown other =
+pub returns-in-Ok-clause-whole : goal.returns-in-Ok-clause-whole
+returns-in-Ok-clause-whole g c tells x shown other =
     record { all = c.read.ensures.all; time = c.read.ensures.time }
 
-pub returns-in-None-clause-any_moment : goal.returns-in-None-clause-any_moment
-returns-in-None-clause-any_moment g c tells file has =
+pub returns-in-Ok-clause-any_moment : goal.returns-in-Ok-clause-any_moment
+returns-in-Ok-clause-any_moment g c tells file has =
     let f = g.F.Folder in
     let old = c.args.folder.now in
     let read = c.read.new.self in
@@ -173,20 +173,20 @@ returns-in-None-clause-any_moment g c tells file has =
     (λ name y n left. g.met.F.Folder.only_now old name y n left) has
     (record { all = c.read.ensures.all; time = c.read.ensures.time })
 
-pub returns-in-None-clause-others : goal.returns-in-None-clause-others
-returns-in-None-clause-others g c =
+pub returns-in-Ok-clause-others : goal.returns-in-Ok-clause-others
+returns-in-Ok-clause-others g c =
     let f = g.F.Folder in
     let old = c.args.folder.now in
     let read = c.read.new.self in
     others_stay f.shows f.kept f.failed f.moment f.left_since next_name journal_name old read
     c.read.ensures.all
 
-pub returns-in-Err-clause-whole : goal.returns-in-Err-clause-whole
-returns-in-Err-clause-whole g c tells x shown other =
+pub returns-clause-whole : goal.returns-clause-whole
+returns-clause-whole g c tells x shown other =
     record { all = c.read.ensures.all; time = c.read.ensures.time }
 
-pub returns-in-Err-clause-any_moment : goal.returns-in-Err-clause-any_moment
-returns-in-Err-clause-any_moment g c tells file has =
+pub returns-clause-any_moment : goal.returns-clause-any_moment
+returns-clause-any_moment g c tells file has =
     let f = g.F.Folder in
     let old = c.args.folder.now in
     let read = c.read.new.self in
@@ -194,14 +194,14 @@ returns-in-Err-clause-any_moment g c tells file has =
     (λ name y n left. g.met.F.Folder.only_now old name y n left) has
     (record { all = c.read.ensures.all; time = c.read.ensures.time })
 
-pub returns-in-Err-clause-others : goal.returns-in-Err-clause-others
-returns-in-Err-clause-others g c =
+pub returns-clause-others : goal.returns-clause-others
+returns-clause-others g c =
     let f = g.F.Folder in
     let old = c.args.folder.now in
     let read = c.read.new.self in
     others_stay f.shows f.kept f.failed f.moment f.left_since next_name journal_name old read
     c.read.ensures.all
 
-pub returns-in-Err-clause-unchanged : goal.returns-in-Err-clause-unchanged
-returns-in-Err-clause-unchanged g c unless =
+pub returns-clause-unchanged : goal.returns-clause-unchanged
+returns-clause-unchanged g c unless =
     record { all = c.read.ensures.all; time = c.read.ensures.time }
