@@ -1,14 +1,14 @@
 -- What is changed while a store is opened.
-use Rattle.std.proofs.Common.{◌≡◌, ◌⊎◌, inl, inr, ⊎_elim, ℕ, ◌≤◌, Bool, true, false, List, Option}
-use Rattle.std.proofs.Common.{None, Some, Result, Ok, Err, ap, length, refl, sym, subst, ◌∙◌}
+use Rattle.std.proofs.Common.{◌≡◌, ◌⊎◌, inl, inr, ℕ, Bool, true, false, List, Option}
+use Rattle.std.proofs.Common.{Some, Result, Ok, Err, length, sym, subst}
 use Rattle.std.specs.Prelude.{IfErr, IfOk}
 use Rattle.data_folder.specs.Folders.{HasFile, KeepsAll, KeepsOthers, Left, LeavesOnly, MayLeaveOf}
 use Rattle.data_folder.specs.Folders.{Untouched}
 use Rattle.data_folder.specs.JournalFile.{journal_name}
-use Rattle.data_folder.proofs.Moments.{joined, untouched, untouched_left}
+use Rattle.data_folder.proofs.Moments.{untouched, untouched_left}
 use Rattle.store_folder.specs.declared.error.StartError.{StartError}
 use Rattle.store_folder.specs.declared.error.StartError.TheVariants as errors
-use Rattle.store_folder.specs.Faults.{DeniesStore, TellsFiles}
+use Rattle.store_folder.specs.Faults.{DeniesStore}
 use Rattle.store_folder.specs.Plain.{DeniesFolder, DeniesText, HasEither, begins_plain, may_be_plain}
 use Rattle.store_folder.proofs.Plains.{as_it_was}
 

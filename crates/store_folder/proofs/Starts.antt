@@ -1,7 +1,7 @@
 -- A store that goes on, and one that begins.
 use Rattle.std.proofs.Common.{◌≡◌, ℕ, zero, suc, ◌≤◌, Bool, true, false, List, [], ◌++◌, Option}
 use Rattle.std.proofs.Common.{None, Some, length, take, Result, Ok, Err, refl, sym, ap, subst, subst₂, ◌∙◌}
-use Rattle.std.proofs.Common.{inl, inr, ⊎_elim, ℤ, Vec, arith}
+use Rattle.std.proofs.Common.{inl, inr, ⊎_elim, ℤ, Vec}
 use Rattle.std.specs.declared.alloc.Global.{Global}
 use Rattle.std.specs.Prelude.{IfOk, IfErr}
 use Rattle.std.proofs.lemmas.List.{append-nil}
@@ -132,8 +132,7 @@ module _ {F : Type 0} (shows : F → List ℕ → Option (List ℕ) → Type 0)
       (ap fine begins)
       (blocks_left shows kept j.head.places parts f left h.blocks
       (λ n x k away shown durable. only_now f n x k left shown durable had))
-      h.journal.is.stands.each
-      (
+      h.journal.is.stands.each (
         h.file,
         whole_left h.file (left journal_name)
             (only_now f journal_name (Some h.file) (length h.file) left h.has.shown h.has.durable

@@ -1,6 +1,6 @@
 -- What a crash leaves of a store that is kept in a folder, and what a start finds of it.
 use Rattle.std.specs.Prelude.{◌≡◌, ℕ, Bool, true, false, List, [], ◌++◌, Option, None, Some, Ok}
-use Rattle.std.specs.Prelude.{Result, length}
+use Rattle.std.specs.Prelude.{length}
 use Rattle.std.proofs.Common.{inl, inr, refl, sym, ap, subst, ◌∙◌, append_assoc}
 use Rattle.std.specs.List.{AllByRecursion}
 use Rattle.data_folder.specs.declared.journal_file.JournalFile.{JournalFile}

@@ -1,5 +1,5 @@
 -- What a start answers, and what a crash leaves meanwhile.
-use Rattle.std.specs.Prelude.{◌≡◌, ◌==◌, ◌⊎◌, ◌&&◌, ◌||◌, ℕ, Bool, false, not, nat_lt, List, [], ◌++◌}
+use Rattle.std.specs.Prelude.{◌≡◌, ◌==◌, ◌⊎◌, ◌&&◌, ◌||◌, ℕ, Bool, false, not, nat_lt, List, []}
 use Rattle.std.specs.Prelude.{Option, None, Ok, length}
 use Rattle.data_folder.specs.declared.journal_file.JournalFile.{JournalFile}
 use Rattle.data_folder.specs.Folders.{Left, LeavesOnly}

@@ -1,13 +1,12 @@
 use Rattle.std.proofs.Common.{◌≡◌, ⊎_elim, ℕ, false, List, [], Some, ap, rules, subst, sym, ◌∙◌}
-use Rattle.data_folder.specs.Folders.{HasFile, LeavesOnly, Untouched}
+use Rattle.data_folder.specs.Folders.{HasFile, LeavesOnly}
 use Rattle.data_folder.specs.JournalFile.{journal_name, next_name}
 use Rattle.data_folder.proofs.Moments.{joined, untouched_on}
 use Rattle.event_journal.specs.Holding.{Stands}
-use Rattle.store_folder.specs.Faults.{TellsFiles}
 use Rattle.store_folder.specs.Journals.{IsJournalOf}
 use Rattle.store_folder.specs.Plain.{HasEither, begins_plain}
-use Rattle.store_folder.proofs.Files.{blocks_kept, file_stays}
-use Rattle.store_folder.proofs.Openings.{if_err, journal_left, others_after, others_stay, plain_found}
+use Rattle.store_folder.proofs.Files.{blocks_kept}
+use Rattle.store_folder.proofs.Openings.{journal_left, others_after, others_stay, plain_found}
 use Rattle.store_folder.proofs.Openings.{same_file}
 use Rattle.store_folder.proofs.Refusals.{plain_refused, store_refused}
 use Rattle.store_folder.proofs.reading.open_store.Goals as goal
