@@ -1,11 +1,13 @@
 -- What a crash leaves, call by call.
-use Rattle.std.proofs.Common.{inl, inr, ⊎_elim, ℕ, List, Option, Some, arith, Ok}
+use Rattle.std.proofs.Common.{◌≡◌, inl, inr, ⊎_elim, ℕ, ◌≤◌, List, Option, Some, arith, Ok, ap}
+use Rattle.std.proofs.Common.{length, ◌∙◌}
+use Rattle.std.proofs.lemmas.List.{take_all}
 use Rattle.std.proofs.Common.{Err, Result}
 use Rattle.std.specs.Prelude.{OnOk}
 use Rattle.journal.specs.Media.{MayLeave}
 use Rattle.journal.specs.Media as media
-use Rattle.data_folder.specs.Folders.{Elapses, KeepsOthers, Left, LeavesOnly, LeavesOthers}
-use Rattle.data_folder.specs.Folders.{MayGrow}
+use Rattle.data_folder.specs.Folders.{Elapses, KeepsOthers, Left, LeavesOnly}
+use Rattle.data_folder.specs.Folders.{HasFile, LeavesOthers, MayGrow, MayLeaveOf, Untouched}
 use Rattle.data_folder.specs.JournalFile.{journal_name, JournalLeft}
 use Rattle.data_folder.specs.JournalLaws.{StaysBeside, left_now}
 
@@ -50,6 +52,88 @@ module _ {F : Type 0} (shows : F → List ℕ → Option (List ℕ) → Type 0)
         (time.nothing_else t left le had);
   }
 
+whole_left : (bytes : List ℕ) (found : Option (List ℕ))
+    → MayLeaveOf (length bytes) (Some bytes) found → found ≡ Some bytes
+whole_left bytes found m =
+    m.1 ∙ ap (λ (x : List ℕ). Some x) (m.2.front ∙ take_all m.2.n bytes m.2.kept)
+
+module _ {F : Type 0} (shows : F → List ℕ → Option (List ℕ) → Type 0)
+    (kept : F → List ℕ → ℕ → Type 0) (moment : F → ℕ) (left_since : F → ℕ → Left → Type 0) where
+  -- where no call was made
+  pub untouched : (f : F) → Untouched shows kept moment left_since f f
+  untouched f = record {
+    all = record { same = λ name x shown. shown; durable = λ name n durable. durable };
+    time = record {
+      later = omega arith;
+      nothing_else = λ t left le had. inl had;
+      keeps = λ t left le had. had;
+    };
+  }
+
+  -- nor by one call more
+  pub untouched_on : ((f : F) (t u : ℕ) (left : Left) → t ≤ u → u ≤ moment f → left_since f u left
+      → left_since f t left)
+      → (old mid new : F) → Untouched shows kept moment left_since old mid
+      → Untouched shows kept moment left_since mid new
+      → Untouched shows kept moment left_since old new
+  untouched_on earlier old mid new first second = record {
+    all = record {
+      same = λ name x shown. second.all.same name x (first.all.same name x shown);
+      durable = λ name n durable. second.all.durable name n (first.all.durable name n durable);
+    };
+    time = record {
+      later = omega (arith, first.time.later, second.time.later);
+      nothing_else = λ t left le had. ⊎_elim
+          (λ past. ⊎_elim (λ old. inl old)
+          (λ now. inr (second.time.keeps (moment old) left first.time.later now.0, now.1))
+          (first.time.nothing_else t left le past))
+          (λ now. inr (
+            earlier new (moment old) (moment mid) left first.time.later second.time.later now.0,
+            λ name x n shown durable. now.1 name x n (first.all.same name x shown)
+                (first.all.durable name n durable),
+          ))
+          (second.time.nothing_else t left (omega (arith, le, first.time.later)) had);
+      keeps = λ t left le had. second.time.keeps t left (omega (arith, le, first.time.later))
+          (first.time.keeps t left le had);
+    };
+  }
+
+  -- what lies there for good is left, whatever call comes
+  pub untouched_left : (old new : F) (name bytes : List ℕ) → HasFile shows kept name bytes old
+      → ((left : Left) → left_since old (moment old) left
+      → MayLeaveOf (length bytes) (Some bytes) (left name))
+      → Untouched shows kept moment left_since old new
+      → LeavesOnly moment left_since old new (λ (left : Left). left name ≡ Some bytes)
+  untouched_left old new name bytes has now same = record {
+    later = same.time.later;
+    each = λ left had. whole_left bytes (left name)
+        (⊎_elim (λ past. now left past)
+        (λ may. may.1 name (Some bytes) (length bytes) has.shown has.durable)
+        (same.time.nothing_else (moment old) left (omega arith) had));
+    before = λ t left le had. ⊎_elim (λ past. inl past)
+        (λ may. inr (whole_left bytes (left name)
+        (may.1 name (Some bytes) (length bytes) has.shown has.durable)))
+        (same.time.nothing_else t left le had);
+  }
+
+module _ {F : Type 0} (shows : F → List ℕ → Option (List ℕ) → Type 0)
+    (kept : F → List ℕ → ℕ → Type 0) where
+  -- a file was written, and took the place of another
+  pub both_kept : (from to : List ℕ) (old mid new : F)
+      → KeepsOthers shows kept from from old mid → KeepsOthers shows kept from to mid new
+      → KeepsOthers shows kept from to old new
+  both_kept from to old mid new first second = record {
+    same = λ name x a b shown. second.same name x a b (first.same name x a a shown);
+    durable = λ name n a b durable. second.durable name n a b (first.durable name n a a durable);
+  }
+
+  pub first_kept : (from to : List ℕ) (old new : F) → KeepsOthers shows kept from from old new
+      → KeepsOthers shows kept from to old new
+  first_kept from to old new first = record {
+    same = λ name x a b shown. first.same name x a a shown;
+    durable = λ name n a b durable. first.durable name n a a durable;
+  }
+
 module _ {F : Type 0} (moment : F → ℕ) (left_since : F → ℕ → Left → Type 0) where
   -- before the first call
   pub started : (old : F) (P : Left → Type 0) → ((left : Left) → left_since old (moment old) left
@@ -58,6 +142,16 @@ module _ {F : Type 0} (moment : F → ℕ) (left_since : F → ℕ → Left → 
     later = omega arith;
     each = here;
     before = λ t left le had. inl had;
+  }
+
+  -- what has P has Q
+  pub weaker : (old new : F) (P Q : Left → Type 0) → ((left : Left) → P left → Q left)
+      → LeavesOnly moment left_since old new P → LeavesOnly moment left_since old new Q
+  weaker old new P Q f leaves = record {
+    later = leaves.later;
+    each = λ left had. f left (leaves.each left had);
+    before = λ t left le had. ⊎_elim (λ past. inl past) (λ now. inr (f left now))
+        (leaves.before t left le had);
   }
 
   -- one call more, after which a crash leaves what has P

@@ -53,6 +53,15 @@ LeavesAll shows kept old left =
     (name : List ℕ) (x : Option (List ℕ)) (n : ℕ) → shows old name x → kept old name n
     → MayLeaveOf n x (left name)
 
+-- Nothing is changed: all names have what they had, and a crash at any moment since old leaves of
+-- each what it might have left of it then.
+pub record Untouched {F : Type 0} (shows : F → List ℕ → Option (List ℕ) → Type 0)
+    (kept : F → List ℕ → ℕ → Type 0) (moment : F → ℕ) (left_since : F → ℕ → Left → Type 0)
+    (old new : F) : Type 0 where
+  pub all : KeepsAll shows kept old new
+  pub time : Elapses (moment old) (moment new) (left_since old) (left_since new)
+      (LeavesAll shows kept old)
+
 -- a crash leaves of names other than these two what it may leave, and what it leaves has P
 pub record LeavesOthers {F : Type 0} (shows : F → List ℕ → Option (List ℕ) → Type 0)
     (kept : F → List ℕ → ℕ → Type 0) (a b : List ℕ) (old : F) (P : Left → Type 0)

@@ -1,17 +1,13 @@
 -- What is left of a journal, by what is left under its name, and what stays beside it.
 use Rattle.std.specs.Prelude.{◌≡◌, ◌≢◌, ◌⊎◌, ◌≤◌, ℕ, List, Option, Some}
-use Rattle.std.proofs.Common.{inl, inr, ⊎_elim, subst, sym, ◌∙◌, arith}
+use Rattle.std.proofs.Common.{inl, inr, ⊎_elim, ap, subst, sym, ◌∙◌, arith}
 use Rattle.journal.specs.Media.{MayLeave}
 use Rattle.data_folder.specs.Folders.{Left, MayLeaveOf}
-use Rattle.data_folder.specs.JournalFile.{journal_name}
+use Rattle.data_folder.specs.JournalFile.{journal_name, bytes_in}
 
-same_bytes : (a b : List ℕ) → Some a ≡ Some b → a ≡ b
-same_bytes a b e = cc
-
-pub left_now : (n : ℕ) (bytes left : List ℕ) (found : Option (List ℕ)) → found ≡ Some left
+pub left_now : (n : ℕ) (bytes left : List ℕ) (found : Option (List ℕ)) → bytes_in found ≡ left
     → MayLeaveOf n (Some bytes) found → MayLeave n bytes left
-left_now n bytes left found is m =
-    subst (MayLeave n bytes) (same_bytes m.0 left (sym m.1 ∙ is)) m.2
+left_now n bytes left found is m = subst (MayLeave n bytes) (sym (ap bytes_in m.1) ∙ is) m.2
 
 -- a crash leaves of names other than the journal's what it may leave
 abbrev pub LeavesBeside : {F : Type 0} → (F → List ℕ → Option (List ℕ) → Type 0)

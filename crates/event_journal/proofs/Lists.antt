@@ -13,7 +13,7 @@ use Rattle.event_text.specs.Outcome.{FollowsFrom}
 use Rattle.event_text.specs.Reading.{event_of}
 use Rattle.event_text.specs.Spelling.{event_text, Spells}
 use Rattle.journal.specs.Contents.{contents_in}
-use Rattle.event_journal.specs.Finding.{same_texts}
+use Rattle.event_journal.specs.FindingLaws.{same_texts}
 use Rattle.event_journal.specs.Holding.{Spell}
 use Rattle.event_journal.specs.Outcome.{MayRefuse, RefusesAt}
 use Rattle.keeper.specs.Together.{IsKept, texts_of}

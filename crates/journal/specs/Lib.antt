@@ -5,6 +5,7 @@ pub mod Media
 pub mod MemoryMedium
 pub mod Outcome
 pub mod Past
+pub mod PastLaws
 pub mod Reading
 pub mod Records
 pub mod Writing

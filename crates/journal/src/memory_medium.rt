@@ -2,7 +2,8 @@
 
 ghost use Rattle.std.specs.Prelude.{◌≡◌, ◌≤◌, ◌++◌, ◌∷◌, [], ℕ, true, not, length, take, OnOk};
 ghost use Rattle.std.specs.Prelude.{OnErr};
-ghost use Rattle.journal.specs.Past.{Since, only_since, since_earlier};
+ghost use Rattle.journal.specs.Past.{Since};
+ghost use Rattle.journal.specs.PastLaws.{only_since, since_earlier};
 
 use crate::medium::{Medium, MediumError};
 use std::alloc::{AllocError, Global};

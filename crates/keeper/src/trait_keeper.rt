@@ -4,7 +4,8 @@ ghost use Rattle.std.specs.Prelude.{◌≡◌, ◌⊎◌, ◌++◌, ℕ, Bool, L
 ghost use Rattle.std.specs.Prelude.{None, OnErr, IsErrOf, Ok};
 ghost use Rattle.head.specs.Heads.{SnapshotParts, world_of};
 ghost use Rattle.head.specs.Worlds.{Event as Change, World};
-ghost use Rattle.keeper.specs.Finding.{FindsOnly, IsOfAll, IsOfAllAndMore, IsOfAllAndSome};
+ghost use Rattle.keeper.specs.Finding.{AreAll, AreAllAndMore, AreAllAndSome, IsOfAll};
+ghost use Rattle.keeper.specs.Finding.{LeavesEvents, StandsForSome};
 ghost use Rattle.keeper.specs.Together.{SpellTogether};
 
 use crate::error::KeepError;
@@ -14,8 +15,10 @@ use std::alloc::Global;
 /// Keeps events for good, each before it is published. It is handed their records, which can be
 /// made before a lock is taken.
 ///
-/// What a start finds is told by its world, since what is kept may be begun anew: a head then says
-/// the world of the events before it, and these are gone.
+/// What a crash leaves stands for events ([`Keeper::stands`]). A start that finds it makes of it
+/// the world of these, if they are accepted, each after those before it (`finds`), and no other
+/// world (`finds_only`). What is kept may be begun anew: a head then says the world of the events
+/// before it, and these are gone, though what is left still stands for them.
 pub trait Keeper {
     /// The world before all events.
     ghost first: { World };
@@ -41,8 +44,17 @@ pub trait Keeper {
     /// The moment, as a number that does not fall.
     ghost moment: { Self → ℕ };
 
-    /// The world that a start might find after a crash at some moment from that one on.
-    ghost found_since: { Self → ℕ → World → Type 0 };
+    /// What a crash may leave.
+    ghost Left: { Type 0 };
+
+    /// What a crash at some moment from that one on might have left, during a call or between two.
+    ghost left_since: { Self → ℕ → Left → Type 0 };
+
+    /// What is left stands for these events, in order, those before a head among them.
+    ghost stands: { Left → List Change → Type 0 };
+
+    /// A start that finds this makes this world of it.
+    ghost makes: { Left → World → Type 0 };
 
     /// Whether keepers of this kind keep nothing, so that no record need be made.
     ghost idle: { Bool };
@@ -69,8 +81,8 @@ pub trait Keeper {
         // A crash at any moment of the call leaves all that it kept, and the first few of these.
         ensures any_moment { (events more : List Change) → holds self.old events
             → SpellTogether records.now more → closed self.old ≡ false
-            → FindsOnly moment found_since self.old self.new
-            (IsOfAllAndSome first events more) }
+            → LeavesEvents moment left_since stands self.old self.new
+            (AreAllAndSome events more) }
         // It is open after `Ok`. Where it is closed it says so, and nowhere else, and does nothing.
         ensures open { OnOk result (closed self.new ≡ false) }
         ensures closed { closed self.old ≡ true → (result ≡ Err KeepError.Closed)
@@ -83,15 +95,15 @@ pub trait Keeper {
         ensures lost { closed self.new ≡ true
             → (closed self.old ≡ true) ⊎ (failed self.new ≡ true) };
 
-    /// The events that were kept last are not published: it takes nothing more, and a start may
-    /// find these events or not.
+    /// The events that were kept last are not published: it takes nothing more, and a start finds
+    /// the first few of these events, or none, after all before them.
     fn close(&mut self)
         requires { closed self.old ≡ false }
         ensures held { (events more : List Change) → kept_last self.old events more
             → holds self.new events }
         ensures any_moment { (events more : List Change) → kept_last self.old events more
-            → FindsOnly moment found_since self.old self.new
-            (IsOfAllAndSome first events more) }
+            → LeavesEvents moment left_since stands self.old self.new
+            (AreAllAndSome events more) }
         ensures closed { idle ≡ false → closed self.new ≡ true };
 
     /// Saves what the kept events make, in their place, if that is worth it: a start then has less
@@ -108,7 +120,7 @@ pub trait Keeper {
         ensures any_moment { (events : List Change) → holds self.old events
             → (idle ≡ false → IsOfAll first events (world_of snapshot.now))
             → closed self.old ≡ false
-            → FindsOnly moment found_since self.old self.new (IsOfAll first events) }
+            → LeavesEvents moment left_since stands self.old self.new (AreAll events) }
         // If it is not worth it, nothing is done; else it is saved, or refused.
         ensures rests { due self.old snapshot.now ≡ false
             → (result ≡ Ok None) × (self.new ≡ self.old) }
@@ -122,13 +134,23 @@ pub trait Keeper {
         ensures lost { closed self.new ≡ true
             → (closed self.old ≡ true) ⊎ (failed self.new ≡ true) };
 
-    /// A crash at this moment leaves all that it keeps.
-    ghost now: { (k : Self) (events : List Change) (w : World) → holds k events
-        → found_since k (moment k) w → IsOfAllAndMore first events w };
+    /// A crash at this moment leaves all that it keeps, and more at most, though it be closed.
+    ghost now: { (k : Self) (events : List Change) (left : Left) → holds k events
+        → left_since k (moment k) left → StandsForSome stands (AreAllAndMore events) left };
 
     /// While it is open, a crash between two calls leaves exactly what it keeps.
-    ghost settled: { (k : Self) (events : List Change) (w : World) → holds k events
-        → closed k ≡ false → found_since k (moment k) w → IsOfAll first events w };
+    ghost settled: { (k : Self) (events : List Change) (left : Left) → holds k events
+        → closed k ≡ false → left_since k (moment k) left
+        → StandsForSome stands (AreAll events) left };
+
+    /// A start finds the world of the events for which there stands what is left, if they are
+    /// accepted.
+    ghost finds: { (left : Left) (events : List Change) (w : World) → stands left events
+        → IsOfAll first events w → makes left w };
+
+    /// It finds no other world.
+    ghost finds_only: { (left : Left) (events : List Change) (w : World) → stands left events
+        → makes left w → IsOfAll first events w };
 }
 
 /// Keeps nothing beside what is in memory. Of crashes it says nothing.
@@ -160,7 +182,13 @@ impl Keeper for NoKeeper {
 
     ghost moment = { λ k. 0 };
 
-    ghost found_since = { λ k t w. ⊥ };
+    ghost Left = { ⊥ };
+
+    ghost left_since = { λ k t left. ⊥ };
+
+    ghost stands = { λ left events. ⊥ };
+
+    ghost makes = { λ left w. ⊥ };
 
     fn is_idle() -> bool {
         true
@@ -180,7 +208,11 @@ impl Keeper for NoKeeper {
         Ok(None)
     }
 
-    ghost now = { λ k events w held none. absurd none };
+    ghost now = { λ k events left held none. absurd none };
 
-    ghost settled = { λ k events w held opened none. absurd none };
+    ghost settled = { λ k events left held opened none. absurd none };
+
+    ghost finds = { λ left events w none world. absurd none };
+
+    ghost finds_only = { λ left events w none made. absurd none };
 }

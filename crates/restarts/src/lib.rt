@@ -10,24 +10,23 @@
 //! only grows (`grows`): at each moment it begins with the list of any moment before, so what was
 //! seen once stays.
 //!
-//! It stands on `head` for what a world, an event and its step are. The moves are those of the
-//! crates that keep a store: an event is kept; a failure or a crash leaves whole records; the next
-//! journal is written beside the journal, and takes its name.
+//! It stands on `head` for what a world, an event and its step are. The moves are a relation over
+//! what is on the disk and the process that answers (`Leads`): they are those of the crates that
+//! keep a store.
 #![tactic(auto)]
 
 ghost use Rattle.std.specs.Prelude.{◌≡◌, List, [], ◌++◌};
 ghost use Rattle.std.specs.List.{AllByRecursion};
 ghost use Rattle.head.specs.Worlds.{World};
-ghost use Rattle.restarts.specs.Machine.{Move, Begins, Keeps, left_by, opened, run};
+ghost use Rattle.restarts.specs.Machine.{Begins, Keeps, Move, Runs, Store, history, left_by, opened};
 
 /// What every run of a store keeps.
 pub fn every_run()
-    ensures keeps { (opening : World) (moves : List Move)
-        → Keeps opening (run moves (opened opening)) }
-    ensures grows { (opening : World) (moves later : List Move)
-        → Begins (run moves (opened opening)).effects
-        (run (moves ++ later) (opened opening)).effects }
-    ensures exact { (opening : World) (moves : List Move)
+    ensures keeps { (opening : World) (moves : List Move) (s : Store)
+        → Runs moves (opened opening) s → Keeps opening (history moves) s }
+    ensures grows { (moves later : List Move)
+        → Begins (history moves).seen (history (moves ++ later)).seen }
+    ensures exact { (moves : List Move)
         → AllByRecursion (λ (m : Move). left_by m ≡ []) moves
-        → (run moves (opened opening)).effects ≡ (run moves (opened opening)).told }
+        → (history moves).seen ≡ (history moves).told }
 {}

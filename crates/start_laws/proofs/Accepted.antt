@@ -6,20 +6,6 @@ use Rattle.head.specs.Refusals.{Refusal}
 use Rattle.head.specs.Worlds.{Event, World, replayed, replayed_from, stepped}
 use Rattle.keeper.specs.Finding.{IsOfAll}
 
-later_from : (r : Result World Refusal) (early late : List Event) (v w : World)
-    → replayed_from r early ≡ Ok v → replayed_from r (early ++ late) ≡ Ok w
-    → replayed v late ≡ Ok w
-later_from r [] late v w one all =
-    subst (λ (x : Result World Refusal). replayed_from x late ≡ Ok w) one all
-later_from (Ok u) (e ∷ early) late v w one all = later_from (stepped u e) early late v w one all
-later_from (Err f) (e ∷ early) late v w one all = absurd cc
-
--- the late events lead from the world of the early ones to the world of all
-pub later : (first : World) (early late : List Event) (v w : World)
-    → replayed first early ≡ Ok v → replayed first (early ++ late) ≡ Ok w
-    → replayed v late ≡ Ok w
-later first early late v w one all = later_from (Ok first) early late v w one all
-
 refused : (f : Refusal) (events : List Event) → replayed_from (Err f) events ≡ Err f
 refused f [] = refl
 refused f (e ∷ events) = refl

@@ -1,3 +1,2 @@
 pub mod Accepted
-pub mod Stores
-pub mod Written
+pub mod Again

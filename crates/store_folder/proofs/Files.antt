@@ -14,16 +14,6 @@ use Rattle.store_folder.specs.StoreLaws.{blocks_stay}
 
 module _ {F : Type 0} (shows : F → List ℕ → Option (List ℕ) → Type 0)
     (kept : F → List ℕ → ℕ → Type 0) where
-  pub none_changed : (f : F) → KeepsAll shows kept f f
-  none_changed f = record { same = λ name x shown. shown; durable = λ name n durable. durable }
-
-  pub then_kept : (a b c : F) → KeepsAll shows kept a b → KeepsAll shows kept b c
-      → KeepsAll shows kept a c
-  then_kept a b c first second = record {
-    same = λ name x shown. second.same name x (first.same name x shown);
-    durable = λ name n durable. second.durable name n (first.durable name n durable);
-  }
-
   pub file_stays : (name bytes : List ℕ) (a b : F) → KeepsAll shows kept a b
       → HasFile shows kept name bytes a → HasFile shows kept name bytes b
   file_stays name bytes a b k h = record {

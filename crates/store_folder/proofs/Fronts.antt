@@ -135,8 +135,8 @@ module _ {F : Type 0} (shows : F → List ℕ → Option (List ℕ) → Type 0)
       stays holds is =
       inr (record {
         is_closed = same;
-        finds = λ w had. now_found shows kept sound moment left_since only_now first new len closed
-            events w holds had;
+        leaves = λ left had. now_found shows kept sound moment left_since only_now first new len
+            closed events left holds had;
       })
   failed_like first old mid new was mid_len len shut false closed events places held blocks h same
       goes stays holds is =

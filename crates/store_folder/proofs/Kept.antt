@@ -1,23 +1,24 @@
 -- Events more, kept in a folder.
 use Rattle.std.proofs.Common.{◌≡◌, ◌≢◌, ◌⊎◌, inl, inr, ⊎_elim, ℕ, ◌≤◌, Bool, List, ◌++◌, take}
-use Rattle.std.proofs.Common.{Option, Some, Ok, ap, ◌∙◌, append_assoc}
+use Rattle.std.proofs.Common.{Option, Some, Ok, ap, refl, ◌∙◌, append_assoc}
 use Rattle.std.proofs.Common.{arith}
 use Rattle.data_folder.specs.declared.journal_file.JournalFile.{JournalFile}
-use Rattle.data_folder.specs.Folders.{Left, MayLeaveOf}
-use Rattle.data_folder.specs.JournalFile.{journal_name, JournalLeft}
+use Rattle.data_folder.specs.Folders.{Left, LeavesOnly, MayLeaveOf}
+use Rattle.data_folder.specs.JournalFile.{bytes_in, journal_name, JournalLeft}
 use Rattle.data_folder.specs.JournalLaws.{StaysBeside}
 use Rattle.event_journal.specs.Holding.{Holds, StandsAndSome}
 use Rattle.head.specs.Heads.{BlockPart, world_of}
 use Rattle.head.specs.Worlds.{Event, World, replayed}
 use Rattle.head_record.specs.Saved.{Place, Saved}
 use Rattle.head_record.specs.Spelling.{head_texts, IsSaved}
-use Rattle.journal.specs.Media.{LeavesOnly}
-use Rattle.keeper.specs.Finding.{IsOfAllAndSome}
-use Rattle.store_folder.specs.Holding.{AreAt, FoundSince, HoldsAfterHead, HoldsLike, KeptLast}
-use Rattle.store_folder.specs.Holding.{LastLike}
-use Rattle.store_folder.specs.KeeperLaws.{regrouped}
-use Rattle.store_folder.specs.States.{StartsWith, started}
-use Rattle.store_folder.specs.StoreLaws.{blocks_left, blocks_stay, found_store}
+use Rattle.journal.specs.Media as media
+use Rattle.keeper.specs.Finding.{AreAll, AreAllAndSome, StandsForSome}
+use Rattle.store_folder.specs.Holding.{AreAt, BytesSince, BytesStandFor, HoldsAfterHead, HoldsLike}
+use Rattle.store_folder.specs.Holding.{KeptLast, LastLike, StandsForThese}
+use Rattle.store_folder.specs.KeeperLaws.{has_journal, regrouped, stands_for}
+use Rattle.store_folder.specs.Starting.{StartFinds}
+use Rattle.store_folder.specs.States.{started}
+use Rattle.store_folder.specs.StoreLaws.{blocks_left, blocks_stay}
 
 module _ {F : Type 0} (shows : F → List ℕ → Option (List ℕ) → Type 0)
     (kept : F → List ℕ → ℕ → Type 0) (sound : F → Bool) (moment : F → ℕ)
@@ -160,58 +161,71 @@ module _ {F : Type 0} (shows : F → List ℕ → Option (List ℕ) → Type 0)
   like_given_up first old new len new_len was closed events more places blocks h beside j =
       (given_up first old new len new_len was closed events more h.0 beside j, h.1, h.2)
 
-  -- what a start finds of what is left at a moment of a call
+  -- what is left at a moment of a call
 
-  at_a_moment : (first w : World) (f : F) (saved : Saved) (parts : List BlockPart)
-      (early late events more : List Event) (left : Left) (bytes : List ℕ)
-      → events ≡ early ++ late → IsSaved saved
-      → replayed first early ≡ Ok (world_of (started saved parts))
-      → AreAt shows kept saved.places parts f
-      → ((n : List ℕ) (x : Option (List ℕ)) (k : ℕ) → n ≢ journal_name → shows f n x → kept f n k
-      → MayLeaveOf k x (left n))
-      → left journal_name ≡ Some bytes → StandsAndSome (head_texts saved) late more bytes
-      → StartsWith left w → IsOfAllAndSome first events more w
-  at_a_moment first w f saved parts early late events more left bytes all head begins at may has s
-      found = (
-        s.0,
-        regrouped first w events early late (take s.0 more) all
-            (found_store first w saved parts early (late ++ take s.0 more) bytes left head begins
-            (blocks_left shows kept saved.places parts f left at may) has s.1 found),
-      )
-
-  pub store_finds : (first : World) (old new : JournalFile F) (saved : Saved)
+  pub store_leaves : (first : World) (old new : JournalFile F) (saved : Saved)
       (parts : List BlockPart) (early late events more : List Event)
       → events ≡ early ++ late → IsSaved saved
       → replayed first early ≡ Ok (world_of (started saved parts))
       → AreAt shows kept saved.places parts old.folder
       → StaysBeside shows kept moment left_since old.folder new.folder
-      → LeavesOnly (λ (j : JournalFile F). moment j.folder)
+      → media.LeavesOnly (λ (j : JournalFile F). moment j.folder)
       (λ (j : JournalFile F) (t : ℕ) (bytes : List ℕ). JournalLeft left_since j.folder t bytes)
       old new (StandsAndSome (head_texts saved) late more)
-      → (moment old.folder ≤ moment new.folder)
-      × ((w : World) → FoundSince left_since new.folder (moment old.folder) w
-      → IsOfAllAndSome first events more w)
-      × ((t : ℕ) (w : World) → t ≤ moment old.folder → FoundSince left_since new.folder t w
-      → FoundSince left_since old.folder t w ⊎ IsOfAllAndSome first events more w)
-  store_finds first old new saved parts early late events more all head begins at beside moments = (
-    beside.later,
-    λ w had. since_then w had.0 had.1 had.2
-        (λ n x k away shown durable. ⊎_elim
-        (λ past. only_now old.folder n x k had.0 shown durable past)
-        (λ now. now.1 n x k away shown durable)
-        (beside.before (moment old.folder) had.0 (omega arith) had.1)),
-    λ t w le had. ⊎_elim (λ past. inl (had.0, past, had.2))
-        (λ now. inr (since_then w had.0 now.0 had.2 now.1))
-        (beside.before t had.0 le had.1),
-  )
+      → LeavesOnly moment left_since old.folder new.folder
+      (StandsForThese first (AreAllAndSome events more))
+  store_leaves first old new saved parts early late events more all head begins at beside moments =
+      record {
+        later = beside.later;
+        each = λ left since. since_then left since
+            (λ n x k away shown durable. ⊎_elim
+            (λ past. only_now old.folder n x k left shown durable past)
+            (λ now. now.1 n x k away shown durable)
+            (beside.before (moment old.folder) left (omega arith) since));
+        before = λ t left le had. ⊎_elim (λ past. inl past)
+            (λ now. inr (since_then left now.0 now.1)) (beside.before t left le had);
+      }
     where
-      since_then : (w : World) (left : Left) → left_since new.folder (moment old.folder) left
-          → StartsWith left w
+      since_then : (left : Left) → left_since new.folder (moment old.folder) left
           → ((n : List ℕ) (x : Option (List ℕ)) (k : ℕ) → n ≢ journal_name
           → shows old.folder n x → kept old.folder n k → MayLeaveOf k x (left n))
-          → IsOfAllAndSome first events more w
-      since_then w left since found may =
-          let state = found.1.3 in
-          at_a_moment first w old.folder saved parts early late events more left state.journal.0 all
-          head begins at may state.journal.1
-          (moments.each state.journal.0 (left, since, state.journal.1)) found
+          → StandsForThese first (AreAllAndSome events more) left
+      since_then left since may =
+          let s = moments.each (bytes_in (left journal_name)) (left, since, refl) in
+          let few = take s.0 more in (
+            events ++ few,
+            stands_for first (events ++ few) early (late ++ few) saved parts left
+                (regrouped events early late few all) head begins
+                (blocks_left shows kept saved.places parts old.folder left at may) s.1.each
+                (has_journal left (head_texts saved) (late ++ few) s.1),
+            (s.0, refl),
+          )
+
+-- as a keeper says it
+module _ {F : Type 0} (moment : F → ℕ) (left_since : F → ℕ → Left → Type 0) where
+  pub each_kept : (first : World) (old new : F) (P : List Event → Type 0)
+      → LeavesOnly moment left_since old new (StandsForThese first P) → (left : Left)
+      → BytesSince left_since new (moment old) left
+      → StandsForSome (λ (l : Left) (es : List Event). BytesStandFor first l es) P left
+  each_kept first old new P h left had =
+      let s = h.each left had.0 in (s.0, (had.1, s.1), s.2)
+
+  pub before_kept : (first : World) (old new : F) (P : List Event → Type 0)
+      → LeavesOnly moment left_since old new (StandsForThese first P) → (t : ℕ) (left : Left)
+      → t ≤ moment old → BytesSince left_since new t left
+      → BytesSince left_since old t left
+      ⊎ StandsForSome (λ (l : Left) (es : List Event). BytesStandFor first l es) P left
+  before_kept first old new P h t left le had =
+      ⊎_elim (λ past. inl (past, had.1)) (λ s. inr (s.0, (had.1, s.1), s.2))
+      (h.before t left le had.0)
+
+  -- exactly these events
+  pub these_alone : (first : World) (events : List Event) (old new : F)
+      → StartFinds moment left_since old new first events
+      → LeavesOnly moment left_since old new (StandsForThese first (AreAll events))
+  these_alone first events old new h = record {
+    later = h.later;
+    each = λ left had. (events, h.each left had, refl);
+    before = λ t left le had. ⊎_elim (λ past. inl past) (λ s. inr (events, s, refl))
+        (h.before t left le had);
+  }

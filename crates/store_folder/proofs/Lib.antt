@@ -4,6 +4,7 @@ pub mod Files
 pub mod Fronts
 pub mod Kept
 pub mod OpenedBlocks
+pub mod Openings
 pub mod Plains
 pub mod Refusals
 pub mod Rolls

@@ -15,7 +15,7 @@ use Rattle.store_folder.specs.Codes.{block_cause, cause_of}
 use Rattle.store_folder.specs.Faults.{DeniesBlock, DeniesOne, DeniesStore}
 use Rattle.store_folder.specs.Finding.{IsFoundStore}
 use Rattle.store_folder.specs.Holding.{AreAt}
-use Rattle.store_folder.specs.Plain.{DeniesAdopting}
+use Rattle.store_folder.specs.Plain.{DeniesText}
 use Rattle.store_folder.specs.Refusals.{AreSpelled, IsFileFault, IsRefusal}
 use Rattle.store_folder.specs.Starting.{DeniesStart}
 
@@ -99,12 +99,10 @@ module _ {F : Type 0} (shows : F → List ℕ → Option (List ℕ) → Type 0)
   store_refused failed f (errors.Head e) is d = absurd d
   store_refused failed f (errors.Event refused) is d = absurd d
 
-module _ {F : Type 0} (failed : F → Bool) where
-  -- a journal of events alone is given no head
-  pub plain_refused : (f : F) (file : List ℕ) (e : StartError) → cause_of e ≡ Refused
-      → DeniesAdopting failed f file e → IsRefusal e
-  plain_refused f file errors.Medium is d = no_refusal is
-  plain_refused f file (errors.Journal e) is d = (file, inr d)
-  plain_refused f file (errors.Block unread) is d = absurd d
-  plain_refused f file (errors.Head e) is d = absurd d
-  plain_refused f file (errors.Event refused) is d = inr (file, d.0, d.1, d.2)
+-- a journal of events alone is given no head
+pub plain_refused : (file : List ℕ) (e : StartError) → DeniesText file e → IsRefusal e
+plain_refused file errors.Medium d = absurd d
+plain_refused file (errors.Journal e) d = (file, inr d)
+plain_refused file (errors.Block unread) d = absurd d
+plain_refused file (errors.Head e) d = absurd d
+plain_refused file (errors.Event refused) d = inr (file, d.0, d.1, d.2)

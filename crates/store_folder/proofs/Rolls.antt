@@ -12,24 +12,23 @@ use Rattle.data_folder.specs.Folders.{HasFile, Left, LeavesOnly, MayLeaveOf}
 use Rattle.data_folder.specs.JournalFile.{journal_name, next_name, JournalLeft}
 use Rattle.data_folder.specs.JournalLaws.{left_now}
 use Rattle.data_folder.specs.Rolls as rolls
-use Rattle.data_folder.specs.States.{AreThere, HasFiles, HasJournal, IsApart, IsOldOrNew, Named}
-use Rattle.event_journal.specs.Holding.{Stands, contents_with}
+use Rattle.data_folder.specs.States.{AreThere, HasFiles, IsApart, IsOldOrNew, Named}
+use Rattle.data_folder.proofs.Moments.{joined as joined_calls, started as before_all, weaker}
+use Rattle.event_journal.specs.Holding.{contents_with}
 use Rattle.event_journal.proofs.Kept.{holds_open}
 use Rattle.head.specs.Heads.{BlockPart, world_of}
 use Rattle.head.specs.Worlds.{Event, World, replayed}
 use Rattle.head_record.specs.Saved.{Place, Saved}
 use Rattle.head_record.specs.Spelling.{head_texts, IsSaved}
 use Rattle.head_record.proofs.Worlds.{in_front}
-use Rattle.keeper.specs.Finding.{IsOfAll}
 use Rattle.keeper.specs.Together.{IsKept}
 use Rattle.store_folder.specs.declared.error.RollFault.TheVariants as fault
 use Rattle.store_folder.specs.Blocks.{BlockFiles, named_files}
 use Rattle.store_folder.specs.Holding.{AreAt, HoldsAfterHead, HoldsAt, HoldsStore}
-use Rattle.store_folder.specs.KeeperLaws.{settled_found}
+use Rattle.store_folder.specs.KeeperLaws.{settled_found, stands_for}
 use Rattle.store_folder.specs.Rolls.{MayRoll}
 use Rattle.store_folder.specs.Starting.{StartFinds}
-use Rattle.store_folder.specs.States.{LieAt, StartsWith, started}
-use Rattle.store_folder.specs.StoreLaws.{found_store}
+use Rattle.store_folder.specs.States.{LieAt, StandsFor, started}
 
 -- lists, one after another
 
@@ -140,15 +139,6 @@ module _ {F : Type 0} (shows : F → List ℕ → Option (List ℕ) → Type 0)
       joined IsApart (files_at a old f first) (files_at b new f second) (apart_at a old f first)
       (apart_at b new f second)
 
-pub stands_in : (saved : Saved) (events : List Event) (left : Left)
-    (h : HasJournal (contents_with (head_texts saved) events) left)
-    → AllByRecursion IsKept events → Stands (head_texts saved) h.0 events
-stands_in saved events left h each = record {
-  before = in_front saved;
-  each = each;
-  recovers = h.2;
-}
-
 module _ {F : Type 0} (shows : F → List ℕ → Option (List ℕ) → Type 0)
     (kept : F → List ℕ → ℕ → Type 0) (sound : F → Bool) (moment : F → ℕ)
     (left_since : F → ℕ → Left → Type 0)
@@ -230,28 +220,25 @@ module _ {F : Type 0} (shows : F → List ℕ → Option (List ℕ) → Type 0)
 
   -- what is left meanwhile
 
-  finds_one : (first w : World) (old : JournalFile F) (len : ℕ) (was : Bool) (saved : Saved)
+  old_or_new : (first : World) (old : JournalFile F) (len : ℕ) (was : Bool) (saved : Saved)
       (parts : List BlockPart) (events : List Event) (left : Left)
       (h : HoldsAll first old len was events)
       (m : May first old len was events saved parts) → IsSaved saved
       → IsOldOrNew
       (files_of_both shows kept h.saved.places saved.places h.parts parts old.folder h.blocks m.blocks)
       (contents_with (head_texts h.saved) h.late) (contents_with (head_texts saved) []) left
-      → StartsWith left w → IsOfAll first events w
-  finds_one first w old len was saved parts events left h m head is found =
+      → StandsFor first events left
+  old_or_new first old len was saved parts events left h m head is =
       let split =
       parted (λ (file : Named). left file.0 ≡ Some file.1)
       (files_at shows kept h.saved.places h.parts old.folder h.blocks)
       (files_at shows kept saved.places parts old.folder m.blocks) is.files in
       ⊎_elim
-      (λ had. subst (λ (x : List Event). IsOfAll first x w) (sym h.all)
-      (found_store first w h.saved h.parts h.early h.late had.0 left h.head h.begins
-      (lie_at shows kept h.saved.places h.parts old.folder left h.blocks split.0) had.1
-      (stands_in h.saved h.late left had h.journal.each) found))
-      (λ has. subst (λ (x : List Event). IsOfAll first x w) (append-nil events)
-      (found_store first w saved parts events [] has.0 left head m.world
-      (lie_at shows kept saved.places parts old.folder left m.blocks split.1) has.1
-      (stands_in saved [] left has tt) found))
+      (λ had. stands_for first events h.early h.late h.saved h.parts left h.all h.head h.begins
+      (lie_at shows kept h.saved.places h.parts old.folder left h.blocks split.0) h.journal.each
+      had)
+      (λ has. stands_for first events events [] saved parts left (sym (append-nil events)) head
+      m.world (lie_at shows kept saved.places parts old.folder left m.blocks split.1) tt has)
       is.journal
 
   pub roll_finds : (first : World) (old new : JournalFile F) (len : ℕ) (was : Bool)
@@ -262,26 +249,19 @@ module _ {F : Type 0} (shows : F → List ℕ → Option (List ℕ) → Type 0)
       (files_of_both shows kept h.saved.places saved.places h.parts parts old.folder h.blocks m.blocks)
       (contents_with (head_texts h.saved) h.late) (contents_with (head_texts saved) []))
       → StartFinds moment left_since old.folder new.folder first events
-  roll_finds first old new len was saved parts events h m head leaves = record {
-    later = leaves.later;
-    each = λ w had. finds_one first w old len was saved parts events had.0 h m head
-        (leaves.each had.0 had.1) had.2;
-    before = λ t w le had. ⊎_elim (λ past. inl (had.0, past, had.2))
-        (λ now. inr (finds_one first w old len was saved parts events had.0 h m head now had.2))
-        (leaves.before t had.0 le had.1);
-  }
+  roll_finds first old new len was saved parts events h m head leaves =
+      weaker moment left_since old.folder new.folder _ (StandsFor first events)
+      (λ left is. old_or_new first old len was saved parts events left h m head is) leaves
 
   -- where nothing was done
   pub stays_so : (first : World) (m : JournalFile F) (len : ℕ) (closed : Bool)
       (events : List Event)
       → HoldsStore shows kept sound moment left_since first m len closed events → closed ≡ false
       → StartFinds moment left_since m.folder m.folder first events
-  stays_so first m len closed events h opened = record {
-    later = omega arith;
-    each = λ w had. settled_found shows kept sound moment left_since only_now first m len closed
-        events w h opened had;
-    before = λ t w le had. inl had;
-  }
+  stays_so first m len closed events h opened =
+      before_all moment left_since m.folder (StandsFor first events)
+      (λ left had. settled_found shows kept sound moment left_since only_now first m len closed
+      events left h opened had)
 
   -- after an error, if the old journal goes on, its head is the one before
   pub same_head : (first : World) (old new : JournalFile F) (len new_len : ℕ)
@@ -315,15 +295,12 @@ module _ {F : Type 0} (shows : F → List ℕ → Option (List ℕ) → Type 0)
   not_rolled first old new len new_len was true events h k stay finds =
       inr (record {
         is_closed = refl;
-        finds = λ w had. (
+        leaves = λ left had. (
           [],
-          subst (λ (x : List Event). IsOfAll first x w) (sym (append-nil events))
-              (finds.each w (
-                had.0,
-                earlier new.folder (moment old.folder) (moment new.folder) had.0 finds.later
-                    (omega arith) had.1,
-                had.2,
-              )),
+          subst (λ (x : List Event). StandsFor first x left) (sym (append-nil events))
+              (finds.each left
+              (earlier new.folder (moment old.folder) (moment new.folder) left finds.later
+              (omega arith) had)),
         );
       })
 
@@ -332,13 +309,8 @@ module _ {F : Type 0} (moment : F → ℕ) (left_since : F → ℕ → Left → 
   pub finds_on : (first : World) (events : List Event) (a b c : F)
       → StartFinds moment left_since a b first events → StartFinds moment left_since b c first events
       → StartFinds moment left_since a c first events
-  finds_on first events a b c one two = record {
-    later = omega (arith, one.later, two.later);
-    each = λ w had. ⊎_elim (λ past. one.each w past) (λ now. now)
-        (two.before (moment a) w one.later had);
-    before = λ t w le had. ⊎_elim (λ past. one.before t w le past) (λ now. inr now)
-        (two.before t w (omega (arith, le, one.later)) had);
-  }
+  finds_on first events a b c one two =
+      joined_calls moment left_since a b c (StandsFor first events) one two
 
 -- a journal that is not lost goes on
 pub goes_on : {A : Type 0} (r : Result A RollError) (e : RollError) (was closed failed : Bool)

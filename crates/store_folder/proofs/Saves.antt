@@ -12,7 +12,8 @@ use Rattle.head_record.specs.Saved.{Place, Saved, save}
 use Rattle.labels.specs.Parts.{rows_in}
 use Rattle.labels.specs.Rows.{points_of}
 use Rattle.store_folder.specs.Holding.{AreAt, HoldsAt}
-use Rattle.store_folder.specs.Rewriting.{HaveSame, same_replay}
+use Rattle.store_folder.specs.Rewriting.{HaveSame}
+use Rattle.store_folder.specs.RewritingLaws.{same_replay}
 use Rattle.store_folder.specs.Rolls.{MayRoll}
 use Rattle.store_folder.specs.Saving.{MaySave}
 use Rattle.store_folder.specs.Starting.{StartFinds}

@@ -1,7 +1,7 @@
 -- A store that goes on, and one that begins.
 use Rattle.std.proofs.Common.{◌≡◌, ℕ, zero, suc, ◌≤◌, Bool, true, false, List, [], ◌++◌, Option}
 use Rattle.std.proofs.Common.{None, Some, length, take, Result, Ok, Err, refl, sym, ap, subst, subst₂, ◌∙◌}
-use Rattle.std.proofs.Common.{inl, inr, ⊎_elim, ℤ, Vec, arith}
+use Rattle.std.proofs.Common.{inl, inr, ⊎_elim, ℤ, Vec}
 use Rattle.std.specs.declared.alloc.Global.{Global}
 use Rattle.std.specs.Prelude.{IfOk, IfErr}
 use Rattle.std.proofs.lemmas.List.{append-nil}
@@ -28,19 +28,20 @@ use Rattle.journal.specs.Contents.{contents_in}
 use Rattle.journal.specs.Group.{IsJournalText}
 use Rattle.journal.specs.Media as media
 use Rattle.journal.proofs.Moments as journal
-use Rattle.keeper.specs.Finding.{IsOfAll, IsOfAllAndSome}
+use Rattle.keeper.specs.Finding.{AreAllAndSome}
 use Rattle.store_folder.specs.declared.error.StartError.{StartError}
 use Rattle.store_folder.specs.declared.journals.FoundJournal.{FoundJournal}
 use Rattle.store_folder.specs.Finding.{IsFoundStore}
-use Rattle.store_folder.specs.Holding.{FoundSince, HoldsAfterHead, HoldsAt, HoldsLike}
+use Rattle.store_folder.specs.Holding.{HoldsAfterHead, HoldsAt, HoldsLike, StandsForThese}
+use Rattle.store_folder.specs.KeeperLaws.{stands_for}
 use Rattle.store_folder.specs.Starting.{DeniesStart, GoesOn, IsNoneOrNothing}
 use Rattle.store_folder.specs.Starting.{IsRefusedEvent}
 use Rattle.store_folder.specs.Starting.{StartFinds}
 use Rattle.store_folder.specs.Starting.{nothing_saved}
-use Rattle.store_folder.specs.States.{HasWorld, started}
-use Rattle.store_folder.specs.StoreLaws.{blocks_left, blocks_stay, found_store, whole_left}
+use Rattle.store_folder.specs.States.{HasWorld, StandsFor, started}
+use Rattle.store_folder.specs.StoreLaws.{blocks_left, blocks_stay, whole_left}
 use Rattle.store_folder.specs.Writing.{AreLike}
-use Rattle.store_folder.proofs.Kept.{store_finds}
+use Rattle.store_folder.proofs.Kept.{store_leaves}
 
 -- the snapshot of a head and blocks, and the events after it
 
@@ -100,11 +101,9 @@ take_none : (n : ℕ) → take n no_events ≡ []
 take_none zero = refl
 take_none (suc n) = refl
 
-nothing_more : (first w : World) (events : List Event) → IsOfAllAndSome first events [] w
-    → IsOfAll first events w
-nothing_more first w events h =
-    subst (λ (x : List Event). replayed first x ≡ Ok w)
-    (ap (λ (x : List Event). events ++ x) (take_none h.0) ∙ append-nil events) h.1
+nothing_more : (events found : List Event) → AreAllAndSome events [] found → found ≡ events
+nothing_more events found h =
+    h.1 ∙ (ap (λ (x : List Event). events ++ x) (take_none h.0) ∙ append-nil events)
 
 stands_so : (front : List (List ℕ)) (events : List Event) (bytes : List ℕ)
     → Stands front bytes events → StandsAndSome front events [] bytes
@@ -124,27 +123,29 @@ module _ {F : Type 0} (shows : F → List ℕ → Option (List ℕ) → Type 0)
       (λ (j : JournalFile F) (t : ℕ) (bytes : List ℕ). JournalLeft left_since j.folder t bytes)
       front m len closed events
 
-  -- a start finds the world of what the folder has
-  found_now : (first : World) (f : F) (j : FoundJournal) (parts : List BlockPart) (w : World)
+  -- what a crash leaves of what the folder has
+  found_now : (first : World) (f : F) (j : FoundJournal) (parts : List BlockPart) (left : Left)
       → IsFoundStore shows kept j parts f → first ≡ world_of (started j.head parts)
-      → FoundSince left_since f (moment f) w → IsOfAll first j.events.items w
-  found_now first f j parts w h begins had =
-      found_store first w j.head parts [] j.events.items h.file had.0 h.journal.is.head
+      → left_since f (moment f) left → StandsFor first j.events.items left
+  found_now first f j parts left h begins had =
+      stands_for first j.events.items [] j.events.items j.head parts left refl h.journal.is.head
       (ap fine begins)
-      (blocks_left shows kept j.head.places parts f had.0 h.blocks
-      (λ n x k away shown durable. only_now f n x k had.0 shown durable had.1))
-      (whole_left h.file (had.0 journal_name)
-      (only_now f journal_name (Some h.file) (length h.file) had.0 h.has.shown h.has.durable had.1))
-      h.journal.is.stands had.2
+      (blocks_left shows kept j.head.places parts f left h.blocks
+      (λ n x k away shown durable. only_now f n x k left shown durable had))
+      h.journal.is.stands.each (
+        h.file,
+        whole_left h.file (left journal_name)
+            (only_now f journal_name (Some h.file) (length h.file) left h.has.shown h.has.durable
+            had),
+        h.journal.is.stands.recovers,
+      )
 
   pub stays_found : (first : World) (f : F) (j : FoundJournal) (parts : List BlockPart)
       → IsFoundStore shows kept j parts f → first ≡ world_of (started j.head parts)
       → StartFinds moment left_since f f first j.events.items
-  stays_found first f j parts h begins = record {
-    later = omega arith;
-    each = λ w had. found_now first f j parts w h begins had;
-    before = λ t w le had. inl had;
-  }
+  stays_found first f j parts h begins =
+      folder.started moment left_since f (StandsFor first j.events.items)
+      (λ left had. found_now first f j parts left h begins had)
 
   -- the journal has the events that were found
   pub events_found : (m : JournalFile F) (j : FoundJournal) (parts : List BlockPart)
@@ -189,19 +190,17 @@ module _ {F : Type 0} (shows : F → List ℕ → Option (List ℕ) → Type 0)
       → StartFinds moment left_since old.folder new.folder first j.events.items
   resume_finds first old new j parts h begins beside moments =
       let events = j.events.items in
-      let found = store_finds shows kept sound moment left_since only_now first old new j.head parts
+      folder.weaker moment left_since old.folder new.folder
+      (StandsForThese first (AreAllAndSome events [])) (StandsFor first events)
+      (λ left s. subst (λ (es : List Event). StandsFor first es left)
+      (nothing_more events s.0 s.2) s.1)
+      (store_leaves shows kept sound moment left_since only_now first old new j.head parts
       [] events events [] refl h.journal.is.head (ap fine begins) h.blocks beside
       (journal.weaker (λ (x : JournalFile F). moment x.folder)
       (λ (x : JournalFile F) (t : ℕ) (bytes : List ℕ). JournalLeft left_since x.folder t bytes)
       old new (λ (left : List ℕ). Stands (head_texts j.head) left events)
       (λ (left : List ℕ). StandsAndSome (head_texts j.head) events [] left)
-      (λ left s. stands_so (head_texts j.head) events left s) moments) in
-      record {
-        later = found.0;
-        each = λ w had. nothing_more first w events (found.1 w had);
-        before = λ t w le had. ⊎_elim (λ past. inl past)
-            (λ now. inr (nothing_more first w events now)) (found.2 t w le had);
-      }
+      (λ left s. stands_so (head_texts j.head) events left s) moments))
 
 -- a store that begins
 

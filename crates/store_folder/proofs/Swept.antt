@@ -1,5 +1,5 @@
 -- Files that are not the store's are removed.
-use Rattle.std.proofs.Common.{◌≡◌, inl, inr, ⊎_elim, ℕ, ◌≤◌, Bool, true, false, List, [], ◌∷◌, ◌++◌}
+use Rattle.std.proofs.Common.{◌≡◌, ℕ, ◌≤◌, Bool, true, false, List, [], ◌∷◌, ◌++◌}
 use Rattle.std.proofs.Common.{Option, refl, sym, ap, subst, ◌∙◌, append_assoc}
 use Rattle.std.specs.declared.alloc.Global.{Global}
 use Rattle.std.specs.declared.string.String.{String}
@@ -11,20 +11,20 @@ use Rattle.data_folder.specs.declared.journal_file.JournalFile.{JournalFile}
 use Rattle.data_folder.specs.Folders.{HasFile, Left, MayLeaveOf}
 use Rattle.data_folder.specs.States.{AreThere, HasStore, Named}
 use Rattle.data_folder.specs.Sweeping.{AreAmong, KeepsStore, is_among, names_in}
+use Rattle.data_folder.proofs.Moments.{weaker}
 use Rattle.event_journal.specs.Holding.{contents_with}
 use Rattle.head.specs.Heads.{BlockPart}
 use Rattle.head.specs.Worlds.{Event, World}
 use Rattle.head_record.specs.Saved.{Place}
 use Rattle.head_record.specs.Spelling.{head_texts}
-use Rattle.keeper.specs.Finding.{IsOfAll}
 use Rattle.store_folder.specs.Blocks.{BlockFiles, name_in, named_files}
 use Rattle.store_folder.specs.Holding.{AreAt, HoldsAfterHead, HoldsAt}
 use Rattle.store_folder.specs.Starting.{StartFinds}
-use Rattle.store_folder.specs.States.{StartsWith}
-use Rattle.store_folder.specs.StoreLaws.{found_store}
+use Rattle.store_folder.specs.KeeperLaws.{stands_for}
+use Rattle.store_folder.specs.States.{StandsFor}
 use Rattle.store_folder.specs.Sweeps.{names_at, names_of}
 use Rattle.store_folder.proofs.Rolls.{after_head, files_at, joined, keeps_now, lie_at, parted}
-use Rattle.store_folder.proofs.Rolls.{stands_in, there_at}
+use Rattle.store_folder.proofs.Rolls.{there_at}
 
 -- names among names
 
@@ -210,16 +210,14 @@ module _ {F : Type 0} (shows : F → List ℕ → Option (List ℕ) → Type 0)
         at.2,
       )
 
-  left_so : (first w : World) (old : JournalFile F) (len : ℕ) (closed : Bool)
+  left_so : (first : World) (old : JournalFile F) (len : ℕ) (closed : Bool)
       (events : List Event) (h : HoldsAll first old len closed events) (left : Left)
       → HasStore (files_at shows kept h.saved.places h.parts old.folder h.blocks)
-      (contents_with (head_texts h.saved) h.late) left → StartsWith left w
-      → IsOfAll first events w
-  left_so first w old len closed events h left has found =
-      subst (λ (x : List Event). IsOfAll first x w) (sym h.all)
-      (found_store first w h.saved h.parts h.early h.late has.journal.0 left h.head h.begins
-      (lie_at shows kept h.saved.places h.parts old.folder left h.blocks has.files) has.journal.1
-      (stands_in h.saved h.late left has.journal h.journal.each) found)
+      (contents_with (head_texts h.saved) h.late) left → StandsFor first events left
+  left_so first old len closed events h left has =
+      stands_for first events h.early h.late h.saved h.parts left h.all h.head h.begins
+      (lie_at shows kept h.saved.places h.parts old.folder left h.blocks has.files) h.journal.each
+      has.journal
 
   pub swept_finds : (first : World) (old new : JournalFile F) (len : ℕ) (closed : Bool)
       (events : List Event) (places : List Place) (parts : List BlockPart)
@@ -232,18 +230,11 @@ module _ {F : Type 0} (shows : F → List ℕ → Option (List ℕ) → Type 0)
       let swept : Sweeps (names_at h.saved.places) old.folder new.folder =
       subst (λ (x : List (List ℕ)). Sweeps x old.folder new.folder)
       (is ∙ ap names_at (sym at.1)) k in
-      let leaves =
-      swept.any_moment (contents_with (head_texts h.saved) h.late)
+      weaker moment left_since old.folder new.folder _ (StandsFor first events)
+      (λ left has. left_so first old len closed events h left has)
+      (swept.any_moment (contents_with (head_texts h.saved) h.late)
       (files_at shows kept h.saved.places h.parts old.folder h.blocks) len
       (keeps_now shows kept sound moment left_since only_now earlier first old len closed events h
       opened)
       (among_at shows kept h.saved.places h.parts old.folder h.blocks)
-      (there_at shows kept h.saved.places h.parts old.folder h.blocks) in
-      record {
-        later = leaves.later;
-        each = λ w had. left_so first w old len closed events h had.0 (leaves.each had.0 had.1)
-            had.2;
-        before = λ t w le had. ⊎_elim (λ past. inl (had.0, past, had.2))
-            (λ now. inr (left_so first w old len closed events h had.0 now had.2))
-            (leaves.before t had.0 le had.1);
-      }
+      (there_at shows kept h.saved.places h.parts old.folder h.blocks))

@@ -9,9 +9,8 @@ use Rattle.head.specs.Heads.{BlockPart, world_of}
 use Rattle.head.specs.Worlds.{Event, World, replayed}
 use Rattle.head_record.specs.Saved.{Place, Saved}
 use Rattle.head_record.specs.Spelling.{head_texts, IsSaved}
-use Rattle.keeper.specs.Finding.{IsOfAllAndMore}
 use Rattle.store_folder.specs.Blocks.{BlockFiles, SpellBlock, named_files}
-use Rattle.store_folder.specs.States.{StartsWith, started}
+use Rattle.store_folder.specs.States.{AreBytes, StandsFor, started}
 use Rattle.store_folder.specs.Writing.{AreLike}
 
 -- the folder has the files of the block at each place, for good
@@ -65,9 +64,21 @@ pub record KeptLast {F : Type 0} (shows : F → List ℕ → Option (List ℕ) �
       (head_texts saved) m len closed (late ++ more)
   pub blocks : AreAt shows kept saved.places parts m.folder
 
--- the world that a start might find after a crash at some moment from that one on
-abbrev pub FoundSince : {F : Type 0} → (F → ℕ → Left → Type 0) → F → ℕ → World → Type 0
-FoundSince left_since f t w = (left : Left) × left_since f t left × StartsWith left w
+-- files of bytes that a crash at some moment from that one on might have left
+abbrev pub BytesSince : {F : Type 0} → (F → ℕ → Left → Type 0) → F → ℕ → Left → Type 0
+BytesSince left_since f t left = left_since f t left × AreBytes left
+
+-- files of bytes that stand for these events
+abbrev pub BytesStandFor : World → Left → List Event → Type 0
+BytesStandFor first left events = AreBytes left × StandsFor first events left
+
+-- what is left stands for these events, and more
+abbrev pub StandsForMore : World → List Event → Left → Type 0
+StandsForMore first events left = (more : List Event) × StandsFor first (events ++ more) left
+
+-- what is left stands for events that have P
+abbrev pub StandsForThese : World → (List Event → Type 0) → Left → Type 0
+StandsForThese first P left = (events : List Event) × StandsFor first events left × P events
 
 -- the same, and these are the blocks that the head names, and where they lie
 abbrev pub HoldsAt : {F : Type 0} → (F → List ℕ → Option (List ℕ) → Type 0)
@@ -77,15 +88,15 @@ HoldsAt shows kept sound moment left_since first m len closed events places part
     (h : HoldsAfterHead shows kept sound moment left_since first m len closed events)
     × (h.saved.places ≡ places) × (h.parts ≡ parts)
 
--- The journal was lost on the way to a new head: nothing more is taken, and a start finds the world
--- of these events.
+-- The journal was lost on the way to a new head: nothing more is taken, and a crash leaves what
+-- stands for these events.
 pub record IsLost {F : Type 0} (moment : F → ℕ) (left_since : F → ℕ → Left → Type 0)
     (first : World) (m : JournalFile F) (closed : Bool) (events : List Event) : Type 0 where
   pub is_closed : closed ≡ true
-  pub finds : (w : World) → FoundSince left_since m.folder (moment m.folder) w
-      → IsOfAllAndMore first events w
+  pub leaves : (left : Left) → left_since m.folder (moment m.folder) left
+      → StandsForMore first events left
 
--- the folder keeps these events, or a start finds their world and nothing more is taken
+-- the folder keeps these events, or a crash leaves what stands for them and nothing more is taken
 abbrev pub HoldsStore : {F : Type 0} → (F → List ℕ → Option (List ℕ) → Type 0)
     → (F → List ℕ → ℕ → Type 0) → (F → Bool) → (F → ℕ) → (F → ℕ → Left → Type 0) → World
     → JournalFile F → ℕ → Bool → List Event → Type 0
@@ -109,7 +120,7 @@ LastLike shows kept sound moment left_since first m len closed events more place
     (h : KeptLast shows kept sound moment left_since first m len closed events more)
     × (h.saved.places ≡ places) × AreLike blocks h.parts
 
--- it does, or a start finds the world of these events and nothing more is taken
+-- it does, or a crash leaves what stands for these events and nothing more is taken
 abbrev pub HoldsOrLost : {F : Type 0} → (F → List ℕ → Option (List ℕ) → Type 0)
     → (F → List ℕ → ℕ → Type 0) → (F → Bool) → (F → ℕ) → (F → ℕ → Left → Type 0) → World
     → JournalFile F → ℕ → Bool → List Event → List Place → List BlockPart → Type 0

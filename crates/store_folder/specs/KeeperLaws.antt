@@ -1,30 +1,90 @@
--- What a start finds of a store that is kept in a folder, between two calls.
-use Rattle.std.specs.Prelude.{◌≡◌, ℕ, Bool, true, false, List, ◌++◌, Option, Some, Ok, length}
-use Rattle.std.proofs.Common.{inl, inr, sym, ap, subst, ◌∙◌, append_assoc}
+-- What a crash leaves of a store that is kept in a folder, and what a start finds of it.
+use Rattle.std.specs.Prelude.{◌≡◌, ℕ, Bool, true, false, List, [], ◌++◌, Option, None, Some, Ok}
+use Rattle.std.specs.Prelude.{length}
+use Rattle.std.proofs.Common.{inl, inr, refl, sym, ap, subst, ◌∙◌, append_assoc}
+use Rattle.std.specs.List.{AllByRecursion}
 use Rattle.data_folder.specs.declared.journal_file.JournalFile.{JournalFile}
 use Rattle.data_folder.specs.Folders.{Left, MayLeaveOf}
-use Rattle.data_folder.specs.JournalFile.{journal_name}
+use Rattle.data_folder.specs.JournalFile.{bytes_in, journal_name}
 use Rattle.data_folder.specs.JournalLaws.{left_now}
-use Rattle.event_journal.specs.Holding.{contents_with}
-use Rattle.head.specs.Heads.{BlockPart}
+use Rattle.data_folder.specs.States.{HasJournal}
+use Rattle.event_journal.specs.Holding.{Stands, contents_with}
+use Rattle.head.specs.Heads.{BlockPart, world_of}
 use Rattle.head.specs.Worlds.{Event, World, replayed}
-use Rattle.head_record.specs.Saved.{Place}
-use Rattle.head_record.specs.Spelling.{head_texts}
-use Rattle.journal.specs.Records.{file_of}
+use Rattle.head_record.specs.Saved.{Place, Saved}
+use Rattle.head_record.specs.Spelling.{head_texts, IsSaved}
+use Rattle.journal.specs.Records.{file_of, Recovers}
 use Rattle.journal.proofs.Keeping.{at_rest}
-use Rattle.keeper.specs.Finding.{IsOfAll, IsOfAllAndMore}
-use Rattle.store_folder.specs.Holding.{FoundSince, HoldsAfterHead, HoldsOrLost, HoldsStore}
-use Rattle.store_folder.specs.StoreLaws.{blocks_left, found_store}
+use Rattle.keeper.specs.Finding.{AreAll, AreAllAndMore, IsOfAll, StandsForSome}
+use Rattle.keeper.specs.Together.{IsKept}
+use Rattle.store_folder.specs.Holding.{BytesSince, BytesStandFor, HoldsAfterHead, HoldsOrLost}
+use Rattle.store_folder.specs.Holding.{HoldsStore, StandsForMore}
+use Rattle.store_folder.specs.StoreLaws.{blocks_left, found_here, later}
+use Rattle.store_folder.specs.States.{LieAt, StandsFor, StartsWith, started}
+
+-- a file of no bytes has no records
+no_file : {X : Type 0} (contents : List (List ℕ)) → Recovers [] contents → X
+unfolding file_of
+no_file contents r = absurd (let w : [] ≡ file_of contents ++ r.rest = r.whole in cc)
+
+-- a journal of which contents are left is there
+pub is_there : (found : Option (List ℕ)) (contents : List (List ℕ))
+    → Recovers (bytes_in found) contents → found ≡ Some (bytes_in found)
+is_there None contents r = no_file contents r
+is_there (Some bytes) contents r = refl
+
+pub has_journal : (left : Left) (front : List (List ℕ)) (events : List Event)
+    → Stands front (bytes_in (left journal_name)) events
+    → HasJournal (contents_with front events) left
+has_journal left front events s = (
+  bytes_in (left journal_name),
+  is_there (left journal_name) (contents_with front events) s.recovers,
+  s.recovers,
+)
+
+-- what is left is a store of the early events, and of those after the head
+pub stands_for : (first : World) (events early late : List Event) (saved : Saved)
+    (parts : List BlockPart) (left : Left) → events ≡ early ++ late → IsSaved saved
+    → replayed first early ≡ Ok (world_of (started saved parts)) → LieAt saved.places parts left
+    → AllByRecursion IsKept late → HasJournal (contents_with (head_texts saved) late) left
+    → StandsFor first events left
+stands_for first events early late saved parts left all head begins lie each journal = record {
+  saved = saved;
+  parts = parts;
+  early = early;
+  late = late;
+  all = all;
+  begins = begins;
+  state = record { head = head; each = each; journal = journal; blocks = lie };
+}
 
 -- the early events, those after the head, and more
-abbrev World_of : World → List Event → World → Type 0
-World_of first events w = replayed first events ≡ Ok w
+pub regrouped : (events early late more : List Event) → events ≡ early ++ late
+    → events ++ more ≡ early ++ (late ++ more)
+regrouped events early late more all =
+    ap (λ (x : List Event). x ++ more) all ∙ append_assoc early late more
 
-pub regrouped : (first w : World) (events early late more : List Event) → events ≡ early ++ late
-    → replayed first (early ++ (late ++ more)) ≡ Ok w → replayed first (events ++ more) ≡ Ok w
-regrouped first w events early late more all h =
-    subst (λ (x : List Event). World_of first x w)
-    (sym (append_assoc early late more) ∙ ap (λ (x : List Event). x ++ more) (sym all)) h
+-- A start finds the world of the events for which there stands what is left, and no other.
+
+pub finds_world : (first w : World) (left : Left) (events : List Event)
+    → BytesStandFor first left events → IsOfAll first events w → StartsWith left w
+finds_world first w left events s world = (
+  s.0,
+  (
+    s.1.saved,
+    s.1.parts,
+    s.1.late,
+    s.1.state,
+    later first s.1.early s.1.late (world_of (started s.1.saved s.1.parts)) w s.1.begins
+        (subst (λ (x : List Event). IsOfAll first x w) s.1.all world),
+  ),
+)
+
+pub finds_no_other : (first w : World) (left : Left) (events : List Event)
+    → BytesStandFor first left events → StartsWith left w → IsOfAll first events w
+finds_no_other first w left events s made =
+    subst (λ (x : List Event). IsOfAll first x w) (sym s.1.all)
+    (found_here first w s.1.saved s.1.parts s.1.early s.1.late left s.1.begins s.1.state made)
 
 module _ {F : Type 0} (shows : F → List ℕ → Option (List ℕ) → Type 0)
     (kept : F → List ℕ → ℕ → Type 0) (sound : F → Bool) (moment : F → ℕ)
@@ -33,47 +93,41 @@ module _ {F : Type 0} (shows : F → List ℕ → Option (List ℕ) → Type 0)
     → kept f name n → left_since f (moment f) left → MayLeaveOf n x (left name)) where
   -- all that was kept, and more if the journal is closed
   now_after_head : (first : World) (m : JournalFile F) (len : ℕ) (closed : Bool)
-      (events : List Event) (w : World)
+      (events : List Event) (left : Left)
       → HoldsAfterHead shows kept sound moment left_since first m len closed events
-      → FoundSince left_since m.folder (moment m.folder) w → IsOfAllAndMore first events w
-  now_after_head first m len closed events w h had =
-      let left = had.0 in
-      let state = had.2.1.3 in
-      let bytes = state.journal.0 in
-      let s = h.journal.survives bytes (left, had.1, state.journal.1) in (
+      → left_since m.folder (moment m.folder) left → StandsForMore first events left
+  now_after_head first m len closed events left h had =
+      let s = h.journal.survives (bytes_in (left journal_name)) (left, had, refl) in (
         s.0,
-        regrouped first w events h.early h.late s.0 h.all
-            (found_store first w h.saved h.parts h.early (h.late ++ s.0) bytes left h.head h.begins
+        stands_for first (events ++ s.0) h.early (h.late ++ s.0) h.saved h.parts left
+            (regrouped events h.early h.late s.0 h.all) h.head h.begins
             (blocks_left shows kept h.saved.places h.parts m.folder left h.blocks
-            (λ n x k away shown durable. only_now m.folder n x k left shown durable had.1))
-            state.journal.1 s.1 had.2),
+            (λ n x k away shown durable. only_now m.folder n x k left shown durable had))
+            s.1.each (has_journal left (head_texts h.saved) (h.late ++ s.0) s.1),
       )
 
   -- exactly that while it is open
-  settled_after_head : (first : World) (m : JournalFile F) (len : ℕ) (closed : Bool)
-      (events : List Event) (w : World)
+  pub settled_after_head : (first : World) (m : JournalFile F) (len : ℕ) (closed : Bool)
+      (events : List Event) (left : Left)
       → HoldsAfterHead shows kept sound moment left_since first m len closed events
-      → closed ≡ false → FoundSince left_since m.folder (moment m.folder) w
-      → IsOfAll first events w
-  settled_after_head first m len closed events w h opened had =
-      let left = had.0 in
-      let state = had.2.1.3 in
-      let bytes = state.journal.0 in
+      → closed ≡ false → left_since m.folder (moment m.folder) left → StandsFor first events left
+  settled_after_head first m len closed events left h opened had =
+      let bytes = bytes_in (left journal_name) in
       let contents = contents_with (head_texts h.saved) h.late in
       let k = h.journal.keeps opened in
       let front = left_now (length (file_of contents)) (file_of contents) bytes
-      (left journal_name) state.journal.1
+      (left journal_name) refl
       (only_now m.folder journal_name (Some (file_of contents)) (length (file_of contents)) left
-      k.has.all k.has.durable had.1) in
-      subst (λ (x : List Event). World_of first x w) (sym h.all)
-      (found_store first w h.saved h.parts h.early h.late bytes left h.head h.begins
+      k.has.all k.has.durable had) in
+      stands_for first events h.early h.late h.saved h.parts left h.all h.head h.begins
       (blocks_left shows kept h.saved.places h.parts m.folder left h.blocks
-      (λ n x k away shown durable. only_now m.folder n x k left shown durable had.1))
-      state.journal.1 (record {
+      (λ n x k away shown durable. only_now m.folder n x k left shown durable had))
+      h.journal.each
+      (has_journal left (head_texts h.saved) h.late (record {
         before = h.journal.before;
         each = h.journal.each;
         recovers = at_rest contents bytes k.each front;
-      }) had.2)
+      }))
 
   -- whatever blocks it names
   pub as_store : (first : World) (m : JournalFile F) (len : ℕ) (closed : Bool)
@@ -84,12 +138,12 @@ module _ {F : Type 0} (shows : F → List ℕ → Option (List ℕ) → Type 0)
   as_store first m len closed events places blocks (inr lost) = inr lost
 
   pub now_found : (first : World) (m : JournalFile F) (len : ℕ) (closed : Bool)
-      (events : List Event) (w : World)
+      (events : List Event) (left : Left)
       → HoldsStore shows kept sound moment left_since first m len closed events
-      → FoundSince left_since m.folder (moment m.folder) w → IsOfAllAndMore first events w
-  now_found first m len closed events w (inl h) had =
-      now_after_head first m len closed events w h had
-  now_found first m len closed events w (inr lost) had = lost.finds w had
+      → left_since m.folder (moment m.folder) left → StandsForMore first events left
+  now_found first m len closed events left (inl h) had =
+      now_after_head first m len closed events left h had
+  now_found first m len closed events left (inr lost) had = lost.leaves left had
 
   pub open_head : (first : World) (m : JournalFile F) (len : ℕ) (closed : Bool)
       (events : List Event)
@@ -100,10 +154,30 @@ module _ {F : Type 0} (shows : F → List ℕ → Option (List ℕ) → Type 0)
       absurd (let a : true ≡ false = sym lost.is_closed ∙ opened in cc)
 
   pub settled_found : (first : World) (m : JournalFile F) (len : ℕ) (closed : Bool)
-      (events : List Event) (w : World)
+      (events : List Event) (left : Left)
       → HoldsStore shows kept sound moment left_since first m len closed events
-      → closed ≡ false → FoundSince left_since m.folder (moment m.folder) w
-      → IsOfAll first events w
-  settled_found first m len closed events w h opened had =
-      settled_after_head first m len closed events w
+      → closed ≡ false → left_since m.folder (moment m.folder) left → StandsFor first events left
+  settled_found first m len closed events left h opened had =
+      settled_after_head first m len closed events left
       (open_head first m len closed events h opened) opened had
+
+  -- as a keeper says it
+
+  pub now_kept : (first : World) (m : JournalFile F) (len : ℕ) (closed : Bool)
+      (events : List Event) (left : Left)
+      → HoldsStore shows kept sound moment left_since first m len closed events
+      → BytesSince left_since m.folder (moment m.folder) left
+      → StandsForSome (λ (l : Left) (es : List Event). BytesStandFor first l es)
+      (AreAllAndMore events) left
+  now_kept first m len closed events left h had =
+      let s = now_found first m len closed events left h had.0 in
+      (events ++ s.0, (had.1, s.1), (s.0, refl))
+
+  pub settled_kept : (first : World) (m : JournalFile F) (len : ℕ) (closed : Bool)
+      (events : List Event) (left : Left)
+      → HoldsStore shows kept sound moment left_since first m len closed events
+      → closed ≡ false → BytesSince left_since m.folder (moment m.folder) left
+      → StandsForSome (λ (l : Left) (es : List Event). BytesStandFor first l es)
+      (AreAll events) left
+  settled_kept first m len closed events left h opened had =
+      (events, (had.1, settled_found first m len closed events left h opened had.0), refl)

@@ -9,6 +9,7 @@ pub mod Kinds
 pub mod Plain
 pub mod Refusals
 pub mod Rewriting
+pub mod RewritingLaws
 pub mod Rolls
 pub mod Saving
 pub mod Starting

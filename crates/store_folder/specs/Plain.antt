@@ -1,9 +1,10 @@
 -- Journals of events alone.
 use Rattle.std.specs.Prelude.{◌≡◌, ◌⊎◌, ℕ, Bool, true, false, ◌&&◌, nat_le, List, [], Option, None}
 use Rattle.std.specs.Prelude.{Some, slice_get}
-use Rattle.data_folder.specs.Folders.{Left, LeavesOnly}
+use Rattle.data_folder.specs.Folders.{HasFile, Left}
 use Rattle.data_folder.specs.JournalFile.{journal_name}
-use Rattle.event_journal.specs.Holding.{Stands}
+use Rattle.data_folder.specs.States.{HasJournal}
+use Rattle.event_journal.specs.Holding.{Stands, contents_with}
 use Rattle.event_journal.specs.Outcome.{RefusesAt}
 use Rattle.event_text.specs.declared.error.TextError.TheVariants.{Kind}
 use Rattle.head.specs.Blocks.{opening_of}
@@ -67,36 +68,24 @@ DeniesText file (errors.Event refused) =
     (events : List Event) × Stands [] file events
     × replaying.RefusesAt (world_of (opening_of [])) events refused.at refused.error
 
--- such a file is not given a head so: it is refused, or one of its events is not accepted by a
--- store that has nothing, or the folder failed
-abbrev pub DeniesAdopting : {F : Type 0} → (F → Bool) → F → List ℕ → StartError → Type 0
-DeniesAdopting failed f file errors.Medium = failed f ≡ true
-DeniesAdopting failed f file (errors.Journal e) = DeniesPlain file e
-DeniesAdopting failed f file (errors.Block unread) = ⊥
-DeniesAdopting failed f file (errors.Head e) = ⊥
-DeniesAdopting failed f file (errors.Event refused) =
-    (events : List Event) × Stands [] file events
-    × replaying.RefusesAt (world_of (opening_of [])) events refused.at refused.error
+-- What is left has the journal as it was; or, if that was one of events alone, the journal of these
+-- events after the head of a store that has nothing.
+abbrev pub HasEither : List ℕ → Left → Type 0
+HasEither file left =
+    (left journal_name ≡ Some file)
+    ⊎ ((events : List Event) × (begins_plain file ≡ true) × Stands [] file events
+    × HasJournal (contents_with (head_texts nothing_saved) events) left)
 
--- a crash at any moment since old leaves a journal of these events, with the head of a store that
--- has nothing or with none
-abbrev pub LeavesEither : {F : Type 0} → (F → ℕ) → (F → ℕ → Left → Type 0) → F → F → List Event
-    → Type 0
-LeavesEither moment left_since old new events =
-    LeavesOnly moment left_since old new
-    (λ left. (bytes : List ℕ) × (left journal_name ≡ Some bytes)
-    × (Stands [] bytes events ⊎ Stands (head_texts nothing_saved) bytes events))
-
--- a folder with this journal is not opened as a store so
-abbrev pub DeniesOpening : {F : Type 0} → (F → List ℕ → Option (List ℕ) → Type 0)
-    → (F → List ℕ → ℕ → Type 0) → (F → Bool) → F → List ℕ → StartError → Type 0
-DeniesOpening shows kept failed f file e =
-    DeniesStore shows kept failed f e
-    ⊎ ((begins_plain file ≡ true) × DeniesAdopting failed f file e)
-
--- a folder is not opened as a store so
+-- A folder is not opened as a store so: it is not read as one, or its journal may be one of events
+-- alone, and is refused, or one of the events is not accepted by a store that has nothing.
 abbrev pub DeniesFolder : {F : Type 0} → (F → List ℕ → Option (List ℕ) → Type 0)
     → (F → List ℕ → ℕ → Type 0) → (F → Bool) → F → StartError → Type 0
 DeniesFolder shows kept failed f e =
     DeniesStore shows kept failed f e
-    ⊎ ((file : List ℕ) × (begins_plain file ≡ true) × DeniesAdopting failed f file e)
+    ⊎ ((file : List ℕ) × (begins_plain file ≡ true) × HasFile shows kept journal_name file f
+    × DeniesText file e)
+
+-- whether what is found under the journal's name may be a journal of events alone
+abbrev pub may_be_plain : Option (List ℕ) → Bool
+may_be_plain None = false
+may_be_plain (Some file) = begins_plain file

@@ -1,8 +1,8 @@
 -- What a start answers, and what a crash leaves meanwhile.
-use Rattle.std.specs.Prelude.{◌≡◌, ◌==◌, ◌⊎◌, ◌&&◌, ◌||◌, ℕ, Bool, false, not, nat_lt, List, [], ◌++◌}
+use Rattle.std.specs.Prelude.{◌≡◌, ◌==◌, ◌⊎◌, ◌&&◌, ◌||◌, ℕ, Bool, false, not, nat_lt, List, []}
 use Rattle.std.specs.Prelude.{Option, None, Ok, length}
 use Rattle.data_folder.specs.declared.journal_file.JournalFile.{JournalFile}
-use Rattle.data_folder.specs.Folders.{Left}
+use Rattle.data_folder.specs.Folders.{Left, LeavesOnly}
 use Rattle.data_folder.specs.JournalFile.{journal_name}
 use Rattle.head.specs.declared.error.RefusedEvent.{RefusedEvent}
 use Rattle.head.specs.Heads.{BlockPart, SnapshotParts, world_of}
@@ -10,15 +10,14 @@ use Rattle.head.specs.Replaying.{RefusesAt}
 use Rattle.head.specs.Resuming.{Denies, MayStand}
 use Rattle.head.specs.Worlds.{Event, World, replayed}
 use Rattle.head_record.specs.Saved.{Place, Saved}
-use Rattle.keeper.specs.Finding.{FindsOnly, IsOfAll}
 use Rattle.labels.specs.declared.sample.TheConstants.{MIN_TIME}
 use Rattle.store_folder.specs.declared.error.StartCause.TheVariants.{Refused}
 use Rattle.store_folder.specs.declared.error.StartError.{StartError}
 use Rattle.store_folder.specs.declared.error.StartError.TheVariants as errors
 use Rattle.store_folder.specs.Codes.{cause_of}
-use Rattle.store_folder.specs.Holding.{FoundSince, HoldsLike}
+use Rattle.store_folder.specs.Holding.{HoldsLike}
 use Rattle.store_folder.specs.Kinds.{has_cut}
-use Rattle.store_folder.specs.States.{IsState, started}
+use Rattle.store_folder.specs.States.{IsState, StandsFor, started}
 
 -- why a snapshot is not made of a head, its blocks and the events after it
 abbrev pub DeniesStart : Saved → List BlockPart → List Event → StartError → Type 0
@@ -56,12 +55,12 @@ abbrev pub is_due : List Event → ℕ → ℕ → Bool
 is_due events len most =
     not (length events == 0) && (nat_lt most len || has_cut events)
 
--- after a crash at any moment since old, a start finds the world of exactly these events
+-- After a crash at any moment since old, a start finds exactly these events: what is left stands
+-- for them.
 abbrev pub StartFinds : {F : Type 0} → (F → ℕ) → (F → ℕ → Left → Type 0) → F → F → World
     → List Event → Type 0
-StartFinds {F} moment left_since old new first events =
-    FindsOnly moment (λ (f : F) (t : ℕ) (w : World). FoundSince left_since f t w) old new
-    (λ (w : World). IsOfAll first events w)
+StartFinds moment left_since old new first events =
+    LeavesOnly moment left_since old new (StandsFor first events)
 
 -- what is saved of a store that has nothing
 abbrev pub nothing_saved : Saved

@@ -1,5 +1,5 @@
 -- When what lies in a folder is a store.
-use Rattle.std.specs.Prelude.{◌≡◌, ℕ, List, [], ◌∷◌, Ok, Some}
+use Rattle.std.specs.Prelude.{◌≡◌, ℕ, List, [], ◌∷◌, ◌++◌, Ok, Some}
 use Rattle.std.specs.List.{AllByRecursion}
 use Rattle.wire.specs.Spelling.{IsBytes}
 use Rattle.data_folder.specs.Folders.{Left}
@@ -9,6 +9,7 @@ use Rattle.head.specs.Heads.{BlockPart, SnapshotParts, world_of}
 use Rattle.head.specs.Worlds.{Event, World, replayed}
 use Rattle.head_record.specs.Saved.{Place, Saved}
 use Rattle.head_record.specs.Spelling.{head_texts, IsSaved}
+use Rattle.keeper.specs.Finding.{FindsWorld}
 use Rattle.keeper.specs.Together.{IsKept}
 use Rattle.store_folder.specs.Blocks.{BlockFiles, SpellBlock, named_files}
 
@@ -43,6 +44,17 @@ pub record IsState (saved : Saved) (parts : List BlockPart) (events : List Event
 abbrev pub HasWorld : Saved → List BlockPart → List Event → World → Type 0
 HasWorld saved blocks events w = replayed (world_of (started saved blocks)) events ≡ Ok w
 
+-- What is left of a folder stands for these events since the first world: it is a store, the head
+-- of its journal says the world of the early ones, and the late ones stand after the head.
+pub record StandsFor (first : World) (events : List Event) (left : Left) : Type 0 where
+  pub saved : Saved
+  pub parts : List BlockPart
+  pub early : List Event
+  pub late : List Event
+  pub all : events ≡ early ++ late
+  pub begins : replayed first early ≡ Ok (world_of (started saved parts))
+  pub state : IsState saved parts late left
+
 -- files of bytes
 abbrev pub AreBytes : Left → Type 0
 AreBytes left = (name bytes : List ℕ) → left name ≡ Some bytes → IsBytes bytes
@@ -53,3 +65,7 @@ StartsWith left w =
     AreBytes left
     × ((saved : Saved) × (parts : List BlockPart) × (events : List Event)
     × IsState saved parts events left × HasWorld saved parts events w)
+
+-- if these are files of bytes, a start finds a world in them, and the world has P
+abbrev pub FindsOne : (World → Type 0) → Left → Type 0
+FindsOne P left = AreBytes left → FindsWorld StartsWith P left

@@ -12,7 +12,7 @@ use Rattle.block.proofs.Only.{block_again}
 use Rattle.data_folder.specs.Folders.{Left, MayLeaveOf}
 use Rattle.data_folder.specs.JournalFile.{journal_name}
 use Rattle.data_folder.specs.States.{AreThere, HasFiles, Named}
-use Rattle.event_journal.specs.Finding.{one_list}
+use Rattle.event_journal.specs.FindingLaws.{one_list}
 use Rattle.event_journal.specs.Holding.{Stands}
 use Rattle.head.specs.Heads.{BlockPart, world_of}
 use Rattle.head.specs.Refusals.{Refusal}
@@ -26,7 +26,7 @@ use Rattle.head_record.proofs.Worlds.{in_front}
 use Rattle.labels.specs.Parts.{Part}
 use Rattle.store_folder.specs.Blocks.{BlockFiles, SpellBlock, named_files}
 use Rattle.store_folder.specs.Holding.{AreAt}
-use Rattle.store_folder.specs.States.{AreBytes, HasWorld, LieAt, StartsWith, started}
+use Rattle.store_folder.specs.States.{AreBytes, HasWorld, IsState, LieAt, StartsWith, started}
 
 abbrev some : List ℕ → Option (List ℕ)
 some x = Some x
@@ -183,21 +183,41 @@ found_store first w saved parts early late bytes left head begins lie has stands
     ∙ world)) in
     joined_from (Ok first) early late (world_of (started saved parts)) w begins here
 
--- so it finds one world
-pub one_world : (left : Left) (v w : World) → StartsWith left v → StartsWith left w → v ≡ w
-one_world left v w one two =
-    let saved = one.1.0 in
-    let parts = one.1.1 in
-    let events = one.1.2 in
-    let state = one.1.3 in
-    let first = world_of (started saved parts) in
-    let mine : replayed first events ≡ Ok v = one.1.4 in
-    same_world v w (sym mine ∙ found_store first w saved parts [] events state.journal.0 left
-    state.head refl state.blocks state.journal.1 (record {
+-- the late events lead from the world of the early ones to the world of all
+
+later_from : (r : Result World Refusal) (early late : List Event) (v w : World)
+    → replayed_from r early ≡ Ok v → replayed_from r (early ++ late) ≡ Ok w
+    → replayed v late ≡ Ok w
+later_from r [] late v w one all =
+    subst (λ (x : Result World Refusal). replayed_from x late ≡ Ok w) one all
+later_from (Ok u) (e ∷ early) late v w one all = later_from (stepped u e) early late v w one all
+later_from (Err f) (e ∷ early) late v w one all = absurd cc
+
+pub later : (first : World) (early late : List Event) (v w : World)
+    → replayed first early ≡ Ok v → replayed first (early ++ late) ≡ Ok w
+    → replayed v late ≡ Ok w
+later first early late v w one all = later_from (Ok first) early late v w one all
+
+-- of a store that is left, a start finds the world of the early events and of those after the head
+pub found_here : (first w : World) (saved : Saved) (parts : List BlockPart)
+    (early late : List Event) (left : Left)
+    → replayed first early ≡ Ok (world_of (started saved parts)) → IsState saved parts late left
+    → StartsWith left w → replayed first (early ++ late) ≡ Ok w
+found_here first w saved parts early late left begins state found =
+    found_store first w saved parts early late state.journal.0 left state.head begins state.blocks
+    state.journal.1 (record {
       before = in_front saved;
       each = state.each;
       recovers = state.journal.2;
-    }) two)
+    }) found
+
+-- so it finds one world
+pub one_world : (left : Left) (v w : World) → StartsWith left v → StartsWith left w → v ≡ w
+one_world left v w one two =
+    let first = world_of (started one.1.0 one.1.1) in
+    let mine : replayed first one.1.2 ≡ Ok v = one.1.4 in
+    same_world v w (sym mine
+    ∙ found_here first w one.1.0 one.1.1 [] one.1.2 left refl one.1.3 two)
 
 -- files that are there for good are left
 

@@ -3,7 +3,7 @@
 ghost use Rattle.std.specs.Prelude.{◌≡◌, IfOk, IfErr, List, OnOk};
 ghost use Rattle.std.specs.Prelude.{map, string_bytes, true};
 ghost use Rattle.block.specs.Outcome.{Gives};
-ghost use Rattle.data_folder.specs.Folders.{HasFile, KeepsAll};
+ghost use Rattle.data_folder.specs.Folders.{HasFile, Untouched};
 ghost use Rattle.data_folder.specs.States.{AreThere};
 ghost use Rattle.head.specs.Blocks.{part_in};
 ghost use Rattle.head.specs.Heads.{BlockPart};
@@ -98,7 +98,8 @@ fn read_file<F: Folder>(alloc: Global, folder: &mut F, name: &str) -> Result<Vec
     ensures found { IfOk result (λ bytes.
         HasFile F.shows F.kept name.now bytes.items folder.new) }
     ensures sound { OnOk result (F.sound folder.new ≡ true) }
-    ensures all { KeepsAll F.shows F.kept folder.old folder.new }
+    ensures untouched { Untouched F.shows F.kept F.moment F.left_since
+        folder.old folder.new }
     ensures refused { IfErr result (λ e.
         DeniesName F.shows F.failed folder.new name.now e) }
 {
@@ -122,7 +123,8 @@ fn read_in<F: Folder>(
     ensures found { IfOk result (λ bytes.
         HasFile F.shows F.kept (name_in number name.now) bytes.items folder.new) }
     ensures sound { OnOk result (F.sound folder.new ≡ true) }
-    ensures all { KeepsAll F.shows F.kept folder.old folder.new }
+    ensures untouched { Untouched F.shows F.kept F.moment F.left_since
+        folder.old folder.new }
     ensures refused { IfErr result (λ e.
         DeniesName F.shows F.failed folder.new (name_in number name.now) e) }
 {
@@ -142,7 +144,8 @@ fn read_files<F: Folder>(
     ensures found { IfOk result (λ files.
         AreThere F.shows F.kept (named_files place (files_in files)) folder.new) }
     ensures sound { OnOk result (F.sound folder.new ≡ true) }
-    ensures all { KeepsAll F.shows F.kept folder.old folder.new }
+    ensures untouched { Untouched F.shows F.kept F.moment F.left_since
+        folder.old folder.new }
     ensures refused { IfErr result (λ e. DeniesFiles F.shows F.failed folder.new place e) }
 {
     let number = place.folder();
@@ -168,7 +171,8 @@ fn read_block<F: Folder>(
     ensures found { IfOk result (λ b. (files : BlockFiles) × SpellBlock files (part_in b)
         × AreThere F.shows F.kept (named_files place files) folder.new) }
     ensures sound { OnOk result (F.sound folder.new ≡ true) }
-    ensures all { KeepsAll F.shows F.kept folder.old folder.new }
+    ensures untouched { Untouched F.shows F.kept F.moment F.left_since
+        folder.old folder.new }
     ensures only { TellsFiles F.shows → (part : BlockPart) (files : BlockFiles)
         → SpellBlock files part → AreThere F.shows F.kept (named_files place files) folder.old
         → GivesBlockAt (F.failed folder.new) part result }
@@ -194,7 +198,8 @@ pub fn read_blocks<F: Folder>(
     ensures found { IfOk result (λ blocks.
         AreAt F.shows F.kept places.now (map part_in blocks.items) folder.new) }
     ensures sound { OnOk result (F.sound folder.new ≡ true) }
-    ensures all { KeepsAll F.shows F.kept folder.old folder.new }
+    ensures untouched { Untouched F.shows F.kept F.moment F.left_since
+        folder.old folder.new }
     // Of a folder that tells what its files have, blocks that lie there are given, unless memory
     // runs out or reading fails.
     ensures only { TellsFiles F.shows → (parts : List BlockPart)

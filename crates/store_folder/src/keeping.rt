@@ -25,12 +25,15 @@ pub struct StoreKeeper<N: Beginning, F: Folder + Drop> {
 }
 
 impl<N: Beginning, F: Folder + Drop> Keeper for StoreKeeper<N, F> {
-    ghost use Rattle.store_folder.specs.Holding.{FoundSince, HoldsOrLost, LastLike};
+    ghost use Rattle.data_folder.specs.Folders.{Left as Files};
+    ghost use Rattle.store_folder.specs.Holding.{BytesSince, BytesStandFor, HoldsOrLost, LastLike};
     ghost use Rattle.std.specs.Prelude.{◌<◌, ◌^◌, false, length, map};
     ghost use Rattle.head.specs.Blocks.{part_in};
     ghost use Rattle.store_folder.specs.Terms.{are_met};
     ghost use Rattle.event_journal.specs.KeeperLaws.{not_idle};
-    ghost use Rattle.store_folder.specs.KeeperLaws.{as_store, now_found, settled_found};
+    ghost use Rattle.store_folder.specs.KeeperLaws.{as_store, finds_no_other, finds_world};
+    ghost use Rattle.store_folder.specs.KeeperLaws.{now_kept, settled_kept};
+    ghost use Rattle.store_folder.specs.States.{StartsWith};
 
     ghost first = { N.first };
 
@@ -57,8 +60,14 @@ impl<N: Beginning, F: Folder + Drop> Keeper for StoreKeeper<N, F> {
 
     ghost moment = { λ k. F.moment k.store.events.journal.medium.folder };
 
-    ghost found_since = { λ k t w.
-        FoundSince F.left_since k.store.events.journal.medium.folder t w };
+    ghost Left = { Files };
+
+    ghost left_since = { λ k t left.
+        BytesSince F.left_since k.store.events.journal.medium.folder t left };
+
+    ghost stands = { λ left events. BytesStandFor N.first left events };
+
+    ghost makes = { λ left w. StartsWith left w };
 
     fn is_idle() -> bool {
         false
@@ -96,20 +105,25 @@ impl<N: Beginning, F: Folder + Drop> Keeper for StoreKeeper<N, F> {
         }
     }
 
-    ghost now = { λ k events w held had. now_found F.shows F.kept F.sound F.moment F.left_since
+    ghost now = { λ k events left held had. now_kept F.shows F.kept F.sound F.moment F.left_since
         (λ f name x n left shown kept since. F.only_now f name x n left shown kept since) N.first
         k.store.events.journal.medium k.store.events.journal.len k.store.events.journal.closed
-        events w (as_store F.shows F.kept F.sound F.moment F.left_since
+        events left (as_store F.shows F.kept F.sound F.moment F.left_since
         (λ f name x n left shown kept since. F.only_now f name x n left shown kept since) N.first
         k.store.events.journal.medium k.store.events.journal.len k.store.events.journal.closed
         events k.places.items (map part_in k.blocks.items) held) had };
 
-    ghost settled = { λ k events w held opened had. settled_found F.shows F.kept F.sound F.moment
+    ghost settled = { λ k events left held opened had. settled_kept F.shows F.kept F.sound F.moment
         F.left_since
         (λ f name x n left shown kept since. F.only_now f name x n left shown kept since) N.first
         k.store.events.journal.medium k.store.events.journal.len k.store.events.journal.closed
-        events w (as_store F.shows F.kept F.sound F.moment F.left_since
+        events left (as_store F.shows F.kept F.sound F.moment F.left_since
         (λ f name x n left shown kept since. F.only_now f name x n left shown kept since) N.first
         k.store.events.journal.medium k.store.events.journal.len k.store.events.journal.closed
         events k.places.items (map part_in k.blocks.items) held) opened had };
+
+    ghost finds = { λ left events w stood world. finds_world N.first w left events stood world };
+
+    ghost finds_only = { λ left events w stood made.
+        finds_no_other N.first w left events stood made };
 }

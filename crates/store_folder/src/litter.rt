@@ -143,7 +143,7 @@ impl<N: Beginning, F: Folder + Drop> StoreJournal<N, F> {
 }
 
 ghost use Rattle.std.specs.Prelude.{true};
-ghost use Rattle.data_folder.specs.Folders.{KeepsAll};
+ghost use Rattle.data_folder.specs.Folders.{Untouched};
 ghost use Rattle.data_folder.specs.Sweeping.{KeepsStore};
 ghost use Rattle.store_folder.specs.Sweeps.{names_at};
 
@@ -151,7 +151,8 @@ ghost use Rattle.store_folder.specs.Sweeps.{names_at};
 pub fn has_blocks<F: Folder>(alloc: Global, folder: &mut F) -> Result<bool, BlockFault>
     requires { F.sound folder.old ≡ true }
     ensures sound { F.sound folder.new ≡ true }
-    ensures all { KeepsAll F.shows F.kept folder.old folder.new }
+    ensures untouched { Untouched F.shows F.kept F.moment F.left_since
+        folder.old folder.new }
 {
     match folder.names(alloc, "blocks") {
         Ok(names) => Ok(names.iter().any(|name| is_number(name.as_str()))),

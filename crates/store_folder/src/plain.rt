@@ -1,25 +1,27 @@
 //! Journals of events alone, as a store kept them before a journal had a head.
 
-ghost use Rattle.std.specs.Prelude.{◌≡◌, ◌⊎◌, ◌-◌, ◌++◌, List, [], length, true, IfOk, IfErr, OnOk};
-ghost use Rattle.data_folder.specs.Folders.{HasFile};
-ghost use Rattle.data_folder.specs.JournalFile.{journal_name};
+ghost use Rattle.std.specs.Prelude.{◌≡◌, ◌⊎◌, ◌-◌, ◌++◌, [], length, map, true, IfOk, IfErr, OnOk};
+ghost use Rattle.data_folder.specs.Folders.{HasFile, KeepsOthers, LeavesOnly};
+ghost use Rattle.data_folder.specs.JournalFile.{journal_name, next_name};
 ghost use Rattle.event_journal.specs.Holding.{Spell, Stands, contents_with};
 ghost use Rattle.event_text.specs.declared.error.TextError.TheVariants.{Kind};
-ghost use Rattle.head.specs.Worlds.{Event as Change};
-ghost use Rattle.head_record.specs.Spelling.{head_texts};
+ghost use Rattle.head.specs.Blocks.{part_in};
+ghost use Rattle.head_record.specs.Spelling.{head_texts, IsSaved};
 ghost use Rattle.journal.specs.Contents.{contents_in};
 ghost use Rattle.journal.specs.Group.{IsJournalText};
 ghost use Rattle.journal.specs.Records.{file_of};
 ghost use Rattle.journal.specs.declared.error.JournalError.TheVariants.{Memory as NoRecord};
 ghost use Rattle.keeper.specs.Together.{texts_of};
-ghost use Rattle.store_folder.specs.Plain.{DeniesAdmitting, DeniesAdopting, DeniesEvents};
-ghost use Rattle.store_folder.specs.Plain.{DeniesPlain, DeniesText, LeavesEither, begins_plain};
+ghost use Rattle.store_folder.specs.Finding.{IsFoundStore};
+ghost use Rattle.store_folder.specs.Plain.{DeniesAdmitting, DeniesEvents, DeniesPlain, DeniesText};
+ghost use Rattle.store_folder.specs.Plain.{HasEither, begins_plain};
 ghost use Rattle.store_folder.specs.declared.error.ReadError.TheVariants.{Head, Journal as Records};
 ghost use Rattle.store_folder.specs.declared.error.StartError.TheVariants.{Journal};
 ghost use Rattle.store_folder.specs.Starting.{nothing_saved};
 
 use crate::error::{ReadError, StartError};
 use crate::journals::FoundJournal;
+use crate::reading::FoundStore;
 use crate::starting::{no_memory, nothing};
 use data_folder::{Folder, change_journal};
 use event_journal::read_events;
@@ -90,8 +92,9 @@ pub fn read_plain(alloc: Global, file: &[u8]) -> Result<FoundJournal, ReadError>
 
 /// The contents of a journal with the head of a store that has nothing in front of others.
 fn with_head(alloc: Global, contents: Vec<Vec<u8>>) -> Result<Vec<Vec<u8>>, AllocError>
-    ensures { IfOk result (λ all.
+    ensures texts { IfOk result (λ all.
         contents_in all.items ≡ head_texts nothing_saved ++ contents_in contents.items) }
+    ensures saved { OnOk result (IsSaved nothing_saved) }
 {
     let mut rest = contents;
     let mut all = head_contents(alloc, &nothing(alloc))?;
@@ -104,6 +107,7 @@ fn with_head(alloc: Global, contents: Vec<Vec<u8>>) -> Result<Vec<Vec<u8>>, Allo
 fn text_with_head(alloc: Global, contents: Vec<Vec<u8>>) -> Result<Vec<u8>, StartError>
     ensures text { IfOk result (λ text. IsJournalText
         (head_texts nothing_saved ++ contents_in contents.items) text.items) }
+    ensures saved { OnOk result (IsSaved nothing_saved) }
     ensures refused { IfErr result (λ e. e ≡ Journal (Records NoRecord)) }
 {
     let all = match with_head(alloc, contents) {
@@ -130,11 +134,13 @@ fn admit(alloc: Global, events: &[Event]) -> Result<(), StartError>
     }
 }
 
-/// The text that a journal of events alone has with the head of a store that has nothing, or why
-/// the journal is refused.
-fn plain_text(alloc: Global, file: &[u8]) -> Result<Vec<u8>, StartError>
-    ensures text { IfOk result (λ text. (events : List Change) × Stands [] file.now events
-        × IsJournalText (contents_with (head_texts nothing_saved) events) text.items) }
+/// The text that a journal of events alone has with the head of a store that has nothing, and these
+/// events; or why the journal is refused.
+fn plain_text(alloc: Global, file: &[u8]) -> Result<(Vec<u8>, Vec<Event>), StartError>
+    ensures events { IfOk result (λ x. Stands [] file.now x.1.items) }
+    ensures text { IfOk result (λ x.
+        IsJournalText (contents_with (head_texts nothing_saved) x.1.items) x.0.items) }
+    ensures saved { OnOk result (IsSaved nothing_saved) }
     ensures refused { IfErr result (λ e. DeniesText file.now e) }
 {
     let recovered = match recover(alloc, file) {
@@ -146,37 +152,51 @@ fn plain_text(alloc: Global, file: &[u8]) -> Result<Vec<u8>, StartError>
         Err(error) => return Err(StartError::Journal(error)),
     };
     match admit(alloc, &events) {
-        Ok(()) => text_with_head(alloc, recovered.contents),
+        Ok(()) => match text_with_head(alloc, recovered.contents) {
+            Ok(text) => Ok((text, events)),
+            Err(error) => Err(error),
+        },
         Err(error) => Err(error),
     }
 }
 
-/// Gives the journal of a folder, which has this file, the head of a store that has nothing, if it
-/// is a journal of events alone, all of which such a store accepts. A torn end is left out. Nothing
-/// is changed where it is refused.
-pub(crate) fn add_head<F: Folder>(
+/// The store of a folder whose journal has this file and may be one of events alone. The journal is
+/// given the head of a store that has nothing, if such a store accepts all of its events; a torn
+/// end is left out. Where it is refused nothing is changed.
+pub(crate) fn adopt<F: Folder>(
     alloc: Global,
     folder: &mut F,
     file: &[u8],
-) -> Result<(), StartError>
+) -> Result<FoundStore, StartError>
     requires sound { F.sound folder.old ≡ true }
     requires has { HasFile F.shows F.kept journal_name file.now folder.old }
-    ensures added { OnOk result ((events : List Change) × Stands [] file.now events
-        × HasFile F.shows F.kept journal_name
-        (file_of (contents_with (head_texts nothing_saved) events)) folder.new) }
+    requires plain { begins_plain file.now ≡ true }
+    ensures found { IfOk result (λ s.
+        IsFoundStore F.shows F.kept s.journal (map part_in s.blocks.items) folder.new) }
+    ensures events { IfOk result (λ s. Stands [] file.now s.journal.events.items) }
+    ensures head { IfOk result (λ s. s.journal.head ≡ nothing_saved) }
     ensures sound { OnOk result (F.sound folder.new ≡ true) }
-    ensures refused { IfErr result (λ e. DeniesAdopting F.failed folder.new file.now e) }
-    // A crash at any moment of the call leaves a journal of these events, with the head or without.
-    ensures any_moment { (folder.new ≡ folder.old) ⊎ ((events : List Change)
-        × Stands [] file.now events
-        × LeavesEither F.moment F.left_since folder.old folder.new events) }
+    ensures refused { IfErr result (λ e. ((e ≡ StartError.Medium) × (F.failed folder.new ≡ true))
+        ⊎ ((folder.new ≡ folder.old) × DeniesText file.now e)) }
+    // A crash at any moment of the call leaves the journal as it was or with the head.
+    ensures any_moment { LeavesOnly F.moment F.left_since folder.old folder.new
+        (HasEither file.now) }
+    ensures others { KeepsOthers F.shows F.kept next_name journal_name folder.old folder.new }
 {
-    let text = match plain_text(alloc, file) {
-        Ok(text) => text,
+    let (text, events) = match plain_text(alloc, file) {
+        Ok(plain) => plain,
         Err(error) => return Err(error),
     };
     match change_journal(folder, &text) {
-        Ok(()) => Ok(()),
+        Ok(()) => Ok(FoundStore {
+            journal: FoundJournal {
+                head: nothing(alloc),
+                events,
+                len: text.len(),
+                torn: 0,
+            },
+            blocks: Vec::new(alloc),
+        }),
         Err(_) => Err(StartError::Medium),
     }
 }

@@ -1,9 +1,11 @@
 //! What a folder has of a store.
 
-ghost use Rattle.std.specs.Prelude.{◌≡◌, ℕ, List, None, Some, Ok, IfOk, IfErr, IfSome, OnOk};
+ghost use Rattle.std.specs.Prelude.{◌≡◌, ℕ, List, [], Option, None, Some, Ok, IfOk, IfErr, IfSome};
+ghost use Rattle.std.specs.Prelude.{OnOk};
 ghost use Rattle.std.specs.Prelude.{false, map, true};
-ghost use Rattle.data_folder.specs.Folders.{HasFile, KeepsAll};
-ghost use Rattle.data_folder.specs.JournalFile.{journal_name};
+ghost use Rattle.data_folder.specs.Folders.{HasFile, KeepsOthers, LeavesOnly, Untouched};
+ghost use Rattle.data_folder.specs.JournalFile.{journal_name, next_name};
+ghost use Rattle.event_journal.specs.Holding.{Stands};
 ghost use Rattle.head.specs.Blocks.{part_in};
 ghost use Rattle.head.specs.Heads.{BlockPart};
 ghost use Rattle.head.specs.Worlds.{Event as Change};
@@ -13,14 +15,15 @@ ghost use Rattle.store_folder.specs.Faults.{DeniesStore, GivesFound, GivesStore,
 ghost use Rattle.store_folder.specs.Finding.{IsFoundStore};
 ghost use Rattle.store_folder.specs.Holding.{AreAt};
 ghost use Rattle.store_folder.specs.Journals.{IsFoundJournal, IsJournalOf};
-ghost use Rattle.store_folder.specs.Plain.{DeniesFolder, DeniesOpening, begins_plain};
+ghost use Rattle.store_folder.specs.Plain.{DeniesFolder, HasEither, begins_plain, may_be_plain};
 ghost use Rattle.store_folder.specs.Refusals.{IsRefusal};
+ghost use Rattle.store_folder.specs.Starting.{nothing_saved};
 ghost use Rattle.store_folder.specs.declared.error.StartCause.TheVariants.{Refused};
 
 use crate::blocks::read_blocks;
 use crate::error::StartError;
 use crate::journals::{FoundJournal, read_journal};
-use crate::plain::{add_head, begins_plain};
+use crate::plain::{adopt, begins_plain};
 use block::Block;
 use data_folder::{Folder, JOURNAL};
 use std::alloc::Global;
@@ -46,7 +49,8 @@ fn with_blocks<F: Folder>(
     ensures found { IfOk result (λ s.
         IsFoundStore F.shows F.kept s.journal (map part_in s.blocks.items) folder.new) }
     ensures sound { OnOk result (F.sound folder.new ≡ true) }
-    ensures all { KeepsAll F.shows F.kept folder.old folder.new }
+    ensures untouched { Untouched F.shows F.kept F.moment F.left_since
+        folder.old folder.new }
     ensures only { TellsFiles F.shows → (parts : List BlockPart)
         → AreAt F.shows F.kept journal.head.places parts folder.old
         → GivesFound (F.failed folder.new) journal.head parts journal.events.items result }
@@ -68,7 +72,8 @@ fn with_file<F: Folder>(
     ensures found { IfOk result (λ s.
         IsFoundStore F.shows F.kept s.journal (map part_in s.blocks.items) folder.new) }
     ensures sound { OnOk result (F.sound folder.new ≡ true) }
-    ensures all { KeepsAll F.shows F.kept folder.old folder.new }
+    ensures untouched { Untouched F.shows F.kept F.moment F.left_since
+        folder.old folder.new }
     ensures only { TellsFiles F.shows → (saved : Saved) (parts : List BlockPart)
         (events : List Change) → IsJournalOf file.now saved events
         → AreAt F.shows F.kept saved.places parts folder.old
@@ -92,7 +97,8 @@ fn with_found<F: Folder>(
         IsFoundStore F.shows F.kept s.journal (map part_in s.blocks.items) folder.new)) }
     ensures some { result ≡ Ok None → ⊥ }
     ensures sound { OnOk result (F.sound folder.new ≡ true) }
-    ensures all { KeepsAll F.shows F.kept folder.old folder.new }
+    ensures untouched { Untouched F.shows F.kept F.moment F.left_since
+        folder.old folder.new }
     ensures only { TellsFiles F.shows → (saved : Saved) (parts : List BlockPart)
         (events : List Change) → IsJournalOf file.items saved events
         → AreAt F.shows F.kept saved.places parts folder.old
@@ -118,7 +124,8 @@ pub fn read_store<F: Folder>(
     ensures none { result ≡ Ok None
         → F.shows folder.new journal_name None × F.kept folder.new journal_name 0 }
     ensures sound { OnOk result (F.sound folder.new ≡ true) }
-    ensures all { KeepsAll F.shows F.kept folder.old folder.new }
+    ensures untouched { Untouched F.shows F.kept F.moment F.left_since
+        folder.old folder.new }
     // Of a folder that tells what its files have, a store that lies there is given, unless memory
     // runs out, reading fails or a matcher of a deletion is refused.
     ensures only { TellsFiles F.shows → (file : List ℕ) (saved : Saved) (parts : List BlockPart)
@@ -137,35 +144,38 @@ pub fn read_store<F: Folder>(
     }
 }
 
-/// The store of a journal's file, which lies in the folder.
+/// The store of a folder whose journal has this file.
 fn open_file<F: Folder>(
     alloc: Global,
     folder: &mut F,
-    file: Vec<u8>,
-) -> Result<Option<FoundStore>, StartError>
+    file: &[u8],
+) -> Result<FoundStore, StartError>
     requires sound { F.sound folder.old ≡ true }
-    requires has { HasFile F.shows F.kept journal_name file.items folder.old }
-    ensures found { IfOk result (λ found. IfSome found (λ s.
-        IsFoundStore F.shows F.kept s.journal (map part_in s.blocks.items) folder.new)) }
-    ensures none { result ≡ Ok None
-        → F.shows folder.new journal_name None × F.kept folder.new journal_name 0 }
+    requires has { HasFile F.shows F.kept journal_name file.now folder.old }
+    ensures found { IfOk result (λ s.
+        IsFoundStore F.shows F.kept s.journal (map part_in s.blocks.items) folder.new) }
+    ensures plain { IfOk result (λ s. begins_plain file.now ≡ true
+        → Stands [] file.now s.journal.events.items × (s.journal.head ≡ nothing_saved)) }
     ensures sound { OnOk result (F.sound folder.new ≡ true) }
     ensures only { TellsFiles F.shows → (saved : Saved) (parts : List BlockPart)
-        (events : List Change) → begins_plain file.items ≡ false
-        → IsJournalOf file.items saved events
+        (events : List Change) → begins_plain file.now ≡ false
+        → IsJournalOf file.now saved events
         → AreAt F.shows F.kept saved.places parts folder.old
-        → GivesStore (F.failed folder.new) saved parts events result }
-    ensures refused { IfErr result (λ e.
-        DeniesOpening F.shows F.kept F.failed folder.new file.items e) }
+        → GivesFound (F.failed folder.new) saved parts events result }
+    ensures refused { IfErr result (λ e. DeniesFolder F.shows F.kept F.failed folder.new e) }
+    ensures unchanged { IfErr result (λ e. (e ≡ StartError.Medium → ⊥)
+        → Untouched F.shows F.kept F.moment F.left_since folder.old folder.new) }
+    ensures whole { begins_plain file.now ≡ false
+        → Untouched F.shows F.kept F.moment F.left_since folder.old folder.new }
+    ensures any_moment { LeavesOnly F.moment F.left_since folder.old folder.new
+        (HasEither file.now) }
+    ensures others { KeepsOthers F.shows F.kept next_name journal_name folder.old folder.new }
 {
-    if begins_plain(&file) {
-        match add_head(alloc, folder, &file) {
-            Ok(()) => {}
-            Err(error) => return Err(error),
-        }
-        return read_store(alloc, folder);
+    if begins_plain(file) {
+        adopt(alloc, folder, file)
+    } else {
+        with_file(alloc, folder, file)
     }
-    with_found(alloc, folder, file)
 }
 
 /// The store that a folder has, as [`read_store`] gives it. A journal of events alone, as it was
@@ -189,14 +199,38 @@ pub fn open_store<F: Folder>(
         → begins_plain file ≡ false → IsJournalOf file saved events
         → AreAt F.shows F.kept saved.places parts folder.old
         → GivesStore (F.failed folder.new) saved parts events result }
+    // Of a journal of events alone, the events are those of the file as it was.
+    ensures plain { TellsFiles F.shows → (file : List ℕ)
+        → F.shows folder.old journal_name (Some file) → begins_plain file ≡ true
+        → IfOk result (λ found. IfSome found (λ s.
+        Stands [] file s.journal.events.items × (s.journal.head ≡ nothing_saved))) }
     // A refusal tells which check failed first; also where clauses tell nothing of the folder, what
     // is refused is some folder that has to be.
     ensures refused { IfErr result (λ e. DeniesFolder F.shows F.kept F.failed folder.new e) }
     ensures told { IfErr result (λ e. cause_of e ≡ Refused → IsRefusal e) }
+    // Where it is refused, nothing is changed; nor where no journal is found.
+    ensures unchanged { IfErr result (λ e. (e ≡ StartError.Medium → ⊥)
+        → Untouched F.shows F.kept F.moment F.left_since folder.old folder.new) }
+    ensures nothing { result ≡ Ok None
+        → Untouched F.shows F.kept F.moment F.left_since folder.old folder.new }
+    // Whatever is answered, a journal that is not one of events alone stays, and all else.
+    ensures whole { TellsFiles F.shows → (x : Option (List ℕ)) → F.shows folder.old journal_name x
+        → may_be_plain x ≡ false
+        → Untouched F.shows F.kept F.moment F.left_since folder.old folder.new }
+    // A crash at any moment of the call leaves the journal as it was, or one of events alone with
+    // the head of a store that has nothing.
+    ensures any_moment { TellsFiles F.shows → (file : List ℕ)
+        → HasFile F.shows F.kept journal_name file folder.old
+        → LeavesOnly F.moment F.left_since folder.old folder.new (HasEither file) }
+    // All other files stay, but for that of a journal in the making.
+    ensures others { KeepsOthers F.shows F.kept next_name journal_name folder.old folder.new }
 {
     match folder.read(alloc, JOURNAL) {
         Ok(found) => match found {
-            Some(file) => open_file(alloc, folder, file),
+            Some(file) => match open_file(alloc, folder, &file) {
+                Ok(store) => Ok(Some(store)),
+                Err(error) => Err(error),
+            },
             None => Ok(None),
         },
         Err(_) => Err(StartError::Medium),

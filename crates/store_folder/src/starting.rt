@@ -190,6 +190,11 @@ pub fn begin_store<N: Beginning, F: Folder + Drop>(
         x.keeper.terms ≡ record { most = most; len = 0; blocks = 0 }) }
     ensures events { IfOk result (λ x. x.journal.events.items ≡ []) }
     ensures refused { IfErr result (λ e. IsNoRefusal e.0) }
+    // A crash at any moment of the call leaves no journal, or that of a store that has nothing.
+    ensures any_moment { MatchResult result
+        (λ x. LeavesOnly F.moment F.left_since folder
+        x.keeper.store.events.journal.medium.folder IsNoneOrNothing)
+        (λ e. LeavesOnly F.moment F.left_since folder e.1 IsNoneOrNothing) }
 {
     let snapshot = match Snapshot::opening(alloc, Vec::new(alloc)) {
         Ok(snapshot) => snapshot,
@@ -251,7 +256,10 @@ pub fn resume_store<N: Beginning, F: Folder + Drop>(
         ⊎ DeniesStart found.journal.head (map part_in found.blocks.items)
         found.journal.events.items e.0) }
     ensures told { IfErr result (λ e. cause_of e.0 ≡ Refused → IsRefusal e.0) }
-    // After a crash at any moment of the call, a start finds the same world.
+    // Where it is refused, nothing is done.
+    ensures unchanged { IfErr result (λ e. (e.0 ≡ StartError.Medium → ⊥) → e.1 ≡ folder) }
+    // After a crash at any moment of the call, a start finds the same events, whether they are
+    // accepted or not.
     ensures any_moment { MatchResult result
         (λ x. StartFinds F.moment F.left_since folder
         x.keeper.store.events.journal.medium.folder N.first found.journal.events.items)

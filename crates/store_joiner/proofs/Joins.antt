@@ -22,7 +22,7 @@ use Rattle.labels.specs.Parts.{Part, laid_over, over, rows_in}
 use Rattle.labels.specs.Rows.{points_of}
 use Rattle.store_folder.specs.Holding.{AreAt, FoundSince, HoldsAfterHead, HoldsAt}
 use Rattle.store_folder.specs.KeeperLaws.{settled_found}
-use Rattle.store_folder.specs.Rewriting.{same_world}
+use Rattle.store_folder.specs.RewritingLaws.{same_world}
 use Rattle.store_folder.specs.Starting.{StartFinds}
 use Rattle.store_folder.specs.StoreLaws.{found_store}
 use Rattle.store_folder.specs.States.{StartsWith, started}

@@ -1,11 +1,12 @@
-use Rattle.restarts.proofs.Runs.{every, grown, exactly}
+use Rattle.restarts.proofs.Histories.{exactly, grown}
+use Rattle.restarts.proofs.Runs.{every}
 use Rattle.restarts.proofs.every_run.Goals as goal
 
 pub returns-clause-keeps : goal.returns-clause-keeps
-returns-clause-keeps c opening moves = every opening moves
+returns-clause-keeps c opening moves s runs = every opening moves s runs
 
 pub returns-clause-grows : goal.returns-clause-grows
-returns-clause-grows c opening moves later = grown opening moves later
+returns-clause-grows c moves later = grown moves later
 
 pub returns-clause-exact : goal.returns-clause-exact
-returns-clause-exact c opening moves all = exactly opening moves all
+returns-clause-exact c moves all = exactly moves all

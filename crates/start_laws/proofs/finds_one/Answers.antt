@@ -1,39 +1,24 @@
-use Rattle.start_laws.proofs.Stores.{resting, resuming, rolling, sweeping}
-use Rattle.start_laws.proofs.Written.{writing}
+use Rattle.std.proofs.Common.{List, refl, subst, sym}
+use Rattle.head.specs.Worlds.{Event}
+use Rattle.keeper.specs.Finding.{IsOfAll}
+use Rattle.store_folder.specs.KeeperLaws.{finds_no_other, finds_world}
+use Rattle.start_laws.proofs.Accepted.{few_accepted}
 use Rattle.start_laws.proofs.finds_one.Goals as goal
 
-pub returns-clause-at_rest : goal.returns-clause-at_rest
-returns-clause-at_rest g c first w m len events left held world had =
-    let f = g.F.Folder in
-    let met = g.met.F.Folder in
-    resting f.shows f.kept f.sound f.moment f.left_since met.only_now met.earlier first w m len
-    events left held world had
+pub returns-clause-all : goal.returns-clause-all
+returns-clause-all c first w events left s world fits =
+    (w, finds_world first w left events (fits, s) world, refl)
 
-pub returns-clause-while_written : goal.returns-clause-while_written
-returns-clause-while_written g c first w m written settled len events more records held spell all
-    writes settles =
-    let f = g.F.Folder in
-    let met = g.met.F.Folder in
-    writing f.shows f.kept f.sound f.moment f.left_since met.only_now met.earlier first w m written
-    settled len events more records held spell all writes settles
+pub returns-clause-few : goal.returns-clause-few
+returns-clause-few c first w events more left s world fits =
+    let few = s.2.0 in
+    let found = few_accepted first w events more few world in (
+      found.0,
+      finds_world first found.0 left s.0 (fits, s.1)
+          (subst (λ (es : List Event). IsOfAll first es found.0) (sym s.2.1) found.1),
+      (few, found.1),
+    )
 
-pub returns-clause-while_rolled : goal.returns-clause-while_rolled
-returns-clause-while_rolled g c first m rolled len events saved parts may head rolls =
-    let f = g.F.Folder in
-    let met = g.met.F.Folder in
-    rolling f.shows f.kept f.sound f.moment f.left_since met.only_now met.earlier first m rolled len
-    events saved parts may head rolls
-
-pub returns-clause-while_swept : goal.returns-clause-while_swept
-returns-clause-while_swept g c first w m swept len events places parts at world stays =
-    let f = g.F.Folder in
-    let met = g.met.F.Folder in
-    sweeping f.shows f.kept f.sound f.moment f.left_since met.only_now met.earlier first w m swept
-    len events places parts at world stays
-
-pub returns-clause-while_resumed : goal.returns-clause-while_resumed
-returns-clause-while_resumed g c journal parts w found resumed is world settles =
-    let f = g.F.Folder in
-    let met = g.met.F.Folder in
-    resuming f.shows f.kept f.sound f.moment f.left_since met.only_now met.earlier journal parts w
-    found resumed is world settles
+pub returns-clause-only : goal.returns-clause-only
+returns-clause-only c first w events left s made =
+    finds_no_other first w left events (made.0, s) made

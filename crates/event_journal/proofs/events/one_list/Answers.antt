@@ -1,4 +1,4 @@
-use Rattle.event_journal.specs.Finding.{one_list}
+use Rattle.event_journal.specs.FindingLaws.{one_list}
 use Rattle.event_journal.proofs.events.one_list.Goals as goal
 
 pub returns : goal.returns

@@ -25,7 +25,7 @@ returns-in-Ok-open_block-clause-only g c tells part files s there =
     let p = c.args.place in
     c.in-Ok-open_block.ensures.only part
     (spelled_too f.shows f.kept tells new p (files_in c.in-Ok.files) files part c.in-Ok.ensures.found
-    (all_stay f.shows f.kept (named_files p files) c.args.folder.now new c.read_files.ensures.all
+    (all_stay f.shows f.kept (named_files p files) c.args.folder.now new c.read_files.ensures.untouched.all
     there) s)
 
 pub returns-in-Err-open_block-clause-only : goal.returns-in-Err-open_block-clause-only
@@ -35,7 +35,7 @@ returns-in-Err-open_block-clause-only g c tells part files s there =
     let p = c.args.place in
     c.in-Err-open_block.ensures.only part
     (spelled_too f.shows f.kept tells new p (files_in c.in-Ok.files) files part c.in-Ok.ensures.found
-    (all_stay f.shows f.kept (named_files p files) c.args.folder.now new c.read_files.ensures.all
+    (all_stay f.shows f.kept (named_files p files) c.args.folder.now new c.read_files.ensures.untouched.all
     there) s)
 
 pub returns-in-Err-clause-only : goal.returns-in-Err-clause-only
@@ -44,5 +44,5 @@ returns-in-Err-clause-only g c tells part files s there =
     let new = c.read_files.new.folder in
     let p = c.args.place in
     may_fail f.shows f.kept tells f.failed new p files c.in-Err.fault
-    (all_stay f.shows f.kept (named_files p files) c.args.folder.now new c.read_files.ensures.all
+    (all_stay f.shows f.kept (named_files p files) c.args.folder.now new c.read_files.ensures.untouched.all
     there) c.in-Err.ensures.refused

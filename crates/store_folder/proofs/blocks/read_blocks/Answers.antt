@@ -3,11 +3,12 @@ use Rattle.std.proofs.Common.{subst, arith}
 use Rattle.std.proofs.lemmas.List.{take_all}
 use Rattle.std.proofs.lemmas.Option.{slice_get_read}
 use Rattle.block.specs.Blocks.{Shown}
+use Rattle.data_folder.proofs.Moments.{untouched, untouched_on}
 use Rattle.event_text.proofs.Writes.{take_next}
 use Rattle.head.specs.Blocks.{part_in}
 use Rattle.head_record.specs.Saved.{Place}
 use Rattle.store_folder.specs.Holding.{AreAt}
-use Rattle.store_folder.proofs.Files.{none_changed, read_more, then_kept}
+use Rattle.store_folder.proofs.Files.{read_more}
 use Rattle.store_folder.proofs.Faults.{drop_all, drop_here, one_denied}
 use Rattle.store_folder.proofs.Told.{all_read, next_at, none_read, one_read}
 use Rattle.store_folder.proofs.blocks.read_blocks.Goals as goal
@@ -17,7 +18,7 @@ loop-place-init g c =
     let f = g.F.Folder in
     record {
       sound = c.requires;
-      all = none_changed f.shows f.kept c.args.folder.now;
+      untouched = untouched f.shows f.kept f.moment f.left_since c.args.folder.now;
       blocks = subst (λ (bs : List Shown).
           AreAt f.shows f.kept [] (map part_in bs) c.args.folder.now) (sym c.new-blocks.ensures.items)
           tt;
@@ -37,11 +38,12 @@ loop-place-preserved g c =
     take_next ms i p (slice_get_read ms (length ms) i p refl lt c.place-item.is) in
     record {
       sound = c.in-Ok.ensures.sound;
-      all = then_kept f.shows f.kept c.args.folder.now l.folder c.read_block.new.folder
-          l.invariant.all c.read_block.ensures.all;
+      untouched = untouched_on f.shows f.kept f.moment f.left_since g.met.F.Folder.earlier
+          c.args.folder.now l.folder c.read_block.new.folder l.invariant.untouched
+          c.read_block.ensures.untouched;
       blocks = read_more f.shows f.kept (take i ms) (take (i + 1) ms) l.blocks.items
           c.push.new.self.items p p c.in-Ok.block l.folder c.read_block.new.folder next
-          c.in-Ok-push.ensures.items refl l.invariant.blocks c.read_block.ensures.all
+          c.in-Ok-push.ensures.items refl l.invariant.blocks c.read_block.ensures.untouched.all
           c.in-Ok.ensures.found;
       told = λ tells parts at.
           let n =
@@ -50,7 +52,7 @@ loop-place-preserved g c =
           (l.invariant.told tells parts at) in
           one_read f.shows f.kept p (drop (i + 1) ms) parts l.blocks.items c.push.new.self.items
           c.in-Ok.block l.folder c.read_block.new.folder c.in-Ok-push.ensures.items n
-          c.read_block.ensures.all
+          c.read_block.ensures.untouched.all
           (c.in-Ok.ensures.only tells n.part n.files n.spell n.there);
     }
 
@@ -63,17 +65,19 @@ returns-clause-found g c =
     subst (λ (x : List Place). AreAt f.shows f.kept x (map part_in l.blocks.items) l.folder)
     (take_all l.place-index ms past) l.invariant.blocks
 
-pub returns-in-Err-clause-all : goal.returns-in-Err-clause-all
-returns-in-Err-clause-all g c =
+pub returns-in-Err-clause-untouched : goal.returns-in-Err-clause-untouched
+returns-in-Err-clause-untouched g c =
     let f = g.F.Folder in
-    then_kept f.shows f.kept c.args.folder.now c.loop-place.folder c.read_block.new.folder
-    c.loop-place.invariant.all c.read_block.ensures.all
+    untouched_on f.shows f.kept f.moment f.left_since g.met.F.Folder.earlier c.args.folder.now
+    c.loop-place.folder c.read_block.new.folder c.loop-place.invariant.untouched
+    c.read_block.ensures.untouched
 
-pub returns-in-Err-push-clause-all : goal.returns-in-Err-push-clause-all
-returns-in-Err-push-clause-all g c =
+pub returns-in-Err-push-clause-untouched : goal.returns-in-Err-push-clause-untouched
+returns-in-Err-push-clause-untouched g c =
     let f = g.F.Folder in
-    then_kept f.shows f.kept c.args.folder.now c.loop-place.folder c.read_block.new.folder
-    c.loop-place.invariant.all c.read_block.ensures.all
+    untouched_on f.shows f.kept f.moment f.left_since g.met.F.Folder.earlier c.args.folder.now
+    c.loop-place.folder c.read_block.new.folder c.loop-place.invariant.untouched
+    c.read_block.ensures.untouched
 
 pub returns-in-Err-clause-refused : goal.returns-in-Err-clause-refused
 returns-in-Err-clause-refused g c =

@@ -1,5 +1,5 @@
 use Rattle.std.proofs.Common.{◌≡◌, true, List, map, take, drop}
-use Rattle.data_folder.specs.Folders.{KeepsAll}
+use Rattle.data_folder.specs.Folders.{Untouched}
 use Rattle.head.specs.Blocks.{part_in}
 use Rattle.head.specs.Heads.{BlockPart}
 use Rattle.store_folder.specs.Faults.{TellsFiles}
@@ -12,7 +12,7 @@ invariant-loop-place g l =
     let f = g.F.Folder in
     record {
       sound : f.sound l.folder ≡ true;
-      all : KeepsAll f.shows f.kept l.fn.folder l.folder;
+      untouched : Untouched f.shows f.kept f.moment f.left_since l.fn.folder l.folder;
       blocks : AreAt f.shows f.kept (take l.place-index l.places) (map part_in l.blocks.items)
           l.folder;
       told : TellsFiles f.shows → (parts : List BlockPart)

@@ -2,8 +2,9 @@ use Rattle.std.proofs.Common.{ℕ, subst}
 use Rattle.std.specs.Prelude.{codes}
 use Rattle.std.proofs.lemmas.Result.{err_from_is_err_and}
 use Rattle.data_folder.specs.Folders.{HasFile}
+use Rattle.data_folder.proofs.Moments.{untouched_on}
 use Rattle.store_folder.specs.Blocks.{name_in}
-use Rattle.store_folder.proofs.Files.{file_stays, then_kept}
+use Rattle.store_folder.proofs.Files.{file_stays}
 use Rattle.store_folder.proofs.Faults.{lacks_chunks, lacks_index, lacks_meta, lacks_tombstones}
 use Rattle.store_folder.proofs.blocks.read_files.Goals as goal
 
@@ -12,9 +13,9 @@ returns-clause-found g c =
     let f = g.F.Folder in
     let on = file_stays f.shows f.kept in
     let end = c.read_in-4.new.folder in
-    let second = c.read_in-2.ensures.all in
-    let third = c.read_in-3.ensures.all in
-    let fourth = c.read_in-4.ensures.all in (
+    let second = c.read_in-2.ensures.untouched.all in
+    let third = c.read_in-3.ensures.untouched.all in
+    let fourth = c.read_in-4.ensures.untouched.all in (
       subst (λ (k : ℕ).
           HasFile f.shows f.kept (name_in k (codes "meta.json")) c.in_ok-meta.meta.items end)
           c.folder-number.ensures
@@ -37,30 +38,32 @@ returns-clause-found g c =
       ),
     )
 
-pub returns-clause-all : goal.returns-clause-all
-returns-clause-all g c =
+pub returns-clause-untouched : goal.returns-clause-untouched
+returns-clause-untouched g c =
     let f = g.F.Folder in
-    let on = then_kept f.shows f.kept in
-    on _ _ _ (on _ _ _ (on _ _ _ c.read_in.ensures.all c.read_in-2.ensures.all)
-    c.read_in-3.ensures.all) c.read_in-4.ensures.all
+    let on = untouched_on f.shows f.kept f.moment f.left_since g.met.F.Folder.earlier in
+    on _ _ _ (on _ _ _ (on _ _ _ c.read_in.ensures.untouched c.read_in-2.ensures.untouched)
+    c.read_in-3.ensures.untouched) c.read_in-4.ensures.untouched
 
-pub returns-in_err-index-clause-all : goal.returns-in_err-index-clause-all
-returns-in_err-index-clause-all g c =
+pub returns-in_err-index-clause-untouched : goal.returns-in_err-index-clause-untouched
+returns-in_err-index-clause-untouched g c =
     let f = g.F.Folder in
-    then_kept f.shows f.kept _ _ _ c.read_in.ensures.all c.read_in-2.ensures.all
+    let on = untouched_on f.shows f.kept f.moment f.left_since g.met.F.Folder.earlier in
+    on _ _ _ c.read_in.ensures.untouched c.read_in-2.ensures.untouched
 
-pub returns-in_err-chunks-clause-all : goal.returns-in_err-chunks-clause-all
-returns-in_err-chunks-clause-all g c =
+pub returns-in_err-chunks-clause-untouched : goal.returns-in_err-chunks-clause-untouched
+returns-in_err-chunks-clause-untouched g c =
     let f = g.F.Folder in
-    let on = then_kept f.shows f.kept in
-    on _ _ _ (on _ _ _ c.read_in.ensures.all c.read_in-2.ensures.all) c.read_in-3.ensures.all
+    let on = untouched_on f.shows f.kept f.moment f.left_since g.met.F.Folder.earlier in
+    on _ _ _ (on _ _ _ c.read_in.ensures.untouched c.read_in-2.ensures.untouched)
+    c.read_in-3.ensures.untouched
 
-pub returns-in_err-tombstones-clause-all : goal.returns-in_err-tombstones-clause-all
-returns-in_err-tombstones-clause-all g c =
+pub returns-in_err-tombstones-clause-untouched : goal.returns-in_err-tombstones-clause-untouched
+returns-in_err-tombstones-clause-untouched g c =
     let f = g.F.Folder in
-    let on = then_kept f.shows f.kept in
-    on _ _ _ (on _ _ _ (on _ _ _ c.read_in.ensures.all c.read_in-2.ensures.all)
-    c.read_in-3.ensures.all) c.read_in-4.ensures.all
+    let on = untouched_on f.shows f.kept f.moment f.left_since g.met.F.Folder.earlier in
+    on _ _ _ (on _ _ _ (on _ _ _ c.read_in.ensures.untouched c.read_in-2.ensures.untouched)
+    c.read_in-3.ensures.untouched) c.read_in-4.ensures.untouched
 
 pub returns-in_err-meta-clause-refused : goal.returns-in_err-meta-clause-refused
 returns-in_err-meta-clause-refused g c =

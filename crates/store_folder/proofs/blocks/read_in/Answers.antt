@@ -2,7 +2,7 @@ use Rattle.std.proofs.Common.{ℕ, List, Vec, subst, ◌∙◌}
 use Rattle.std.specs.declared.alloc.Global.{Global}
 use Rattle.std.specs.Prelude.{IfOk, IfErr}
 use Rattle.data_folder.specs.Folders.{HasFile}
-use Rattle.store_folder.proofs.Files.{none_changed}
+use Rattle.data_folder.proofs.Moments.{untouched}
 use Rattle.store_folder.specs.declared.error.BlockFault.{BlockFault}
 use Rattle.store_folder.specs.Faults.{DeniesName}
 use Rattle.store_folder.proofs.blocks.read_in.Goals as goal
@@ -14,10 +14,10 @@ returns-in-Ok-clause-found g c =
     HasFile f.shows f.kept n bytes.items c.read_file.new.folder))
     (c.as_str.ensures.value ∙ c.in-Ok.ensures) c.read_file.ensures.found
 
-pub returns-in-Err-clause-all : goal.returns-in-Err-clause-all
-returns-in-Err-clause-all g c =
+pub returns-in-Err-clause-untouched : goal.returns-in-Err-clause-untouched
+returns-in-Err-clause-untouched g c =
     let f = g.F.Folder in
-    none_changed f.shows f.kept c.args.folder.now
+    untouched f.shows f.kept f.moment f.left_since c.args.folder.now
 
 pub returns-in-Ok-clause-refused : goal.returns-in-Ok-clause-refused
 returns-in-Ok-clause-refused g c =

@@ -1,9 +1,8 @@
-use Rattle.std.proofs.Common.{◌≡◌, ◌≤◌, ◌<◌, ◌∙◌, List, [], ◌∷◌, ℕ, zero, suc, map, length, take, refl, sym, ap, arith}
+use Rattle.std.proofs.Common.{◌≡◌, ◌≤◌, ◌∙◌, List, ℕ, map, length, take, refl, sym, ap, arith}
 use Rattle.std.specs.Prelude.{slice_index_or}
 use Rattle.std.proofs.lemmas.List.{length-map, take-map, take_more_same}
 use Rattle.block.specs.Blocks.{Shown}
 use Rattle.head.specs.Blocks.{part_in}
-use Rattle.head.specs.Heads.{BlockPart}
 use Rattle.store_folder.proofs.checkpoint.same_blocks.Goals as goal
 
 same_parts : (n : ℕ) (xs ys : List Shown) → take n xs ≡ take n ys

@@ -1,4 +1,4 @@
-use Rattle.store_folder.specs.Rewriting.{same_replay}
+use Rattle.store_folder.specs.RewritingLaws.{same_replay}
 use Rattle.store_folder.proofs.laws.rewritten_blocks.Goals as goal
 
 pub returns : goal.returns

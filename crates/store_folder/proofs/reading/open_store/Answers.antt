@@ -1,34 +1,90 @@
-use Rattle.std.proofs.Common.{◌≡◌, ⊎_elim, ℕ, List, Ok, Err, ap, rules, subst, sym, ◌∙◌}
-use Rattle.std.specs.Prelude.{IfErr, Result}
-use Rattle.data_folder.specs.Folders.{HasFile}
-use Rattle.data_folder.specs.JournalFile.{journal_name}
-use Rattle.store_folder.specs.declared.error.StartCause.TheVariants.{Refused}
-use Rattle.store_folder.specs.declared.error.StartError.{StartError}
-use Rattle.store_folder.specs.Codes.{cause_of}
+use Rattle.std.proofs.Common.{◌≡◌, ⊎_elim, ℕ, false, List, [], Some, ap, rules, subst, sym, ◌∙◌}
+use Rattle.data_folder.specs.Folders.{HasFile, LeavesOnly}
+use Rattle.data_folder.specs.JournalFile.{journal_name, next_name}
+use Rattle.data_folder.proofs.Moments.{joined, untouched_on}
+use Rattle.event_journal.specs.Holding.{Stands}
 use Rattle.store_folder.specs.Journals.{IsJournalOf}
-use Rattle.store_folder.specs.Plain.{DeniesOpening, begins_plain}
-use Rattle.store_folder.specs.Refusals.{IsRefusal}
-use Rattle.store_folder.proofs.Files.{blocks_kept, file_stays}
+use Rattle.store_folder.specs.Plain.{HasEither, begins_plain}
+use Rattle.store_folder.proofs.Files.{blocks_kept}
+use Rattle.store_folder.proofs.Openings.{journal_left, others_after, others_stay, plain_found}
+use Rattle.store_folder.proofs.Openings.{same_file}
 use Rattle.store_folder.proofs.Refusals.{plain_refused, store_refused}
-use Rattle.store_folder.proofs.Told.{same_bytes}
 use Rattle.store_folder.proofs.reading.open_store.Goals as goal
 
-if_err : {X E : Type 0} (r : Result X E) (P Q : E → Type 0) → ((e : E) → P e → Q e) → IfErr r P
-    → IfErr r Q
-if_err (Ok x) P Q f h = tt
-if_err (Err e) P Q f h = f e h
-
-pub returns-in-Some-clause-told : goal.returns-in-Some-clause-told
-returns-in-Some-clause-told g c =
+pub open_file-requires-clause-has : goal.open_file-requires-clause-has
+open_file-requires-clause-has g c =
     let f = g.F.Folder in
-    let after = c.open_file.new.folder in
-    let file = c.in-Some.file.items in
-    if_err c.open_file.result
-    (λ (e : StartError). DeniesOpening f.shows f.kept f.failed after file e)
-    (λ (e : StartError). cause_of e ≡ Refused → IsRefusal e)
-    (λ e d is. ⊎_elim (store_refused f.shows f.kept f.failed after e is)
-    (λ plain. plain_refused f.failed after file e is plain.1) d)
-    c.open_file.ensures.refused
+    let old = c.args.folder.now in
+    let read = c.read.new.self in
+    let there : HasFile f.shows f.kept journal_name c.in-Some.file.items read = search rules in
+    subst (λ (bytes : List ℕ). HasFile f.shows f.kept journal_name bytes read)
+    (sym c.deref.ensures.value) there
+
+pub returns-in-Ok-open_file-clause-only : goal.returns-in-Ok-open_file-clause-only
+returns-in-Ok-open_file-clause-only g c tells file saved parts events has other is at =
+    let f = g.F.Folder in
+    let old = c.args.folder.now in
+    let read = c.read.new.self in
+    let there : HasFile f.shows f.kept journal_name c.in-Some.file.items read = search rules in
+    let same : c.deref.result.now ≡ file =
+    c.deref.ensures.value ∙ same_file c.in-Some.file.items file
+    (tells read journal_name (Some c.in-Some.file.items) (Some file) there.shown
+    (c.read.ensures.all.same journal_name (Some file) has.shown)) in
+    c.in-Ok-open_file.ensures.only tells saved parts events (ap begins_plain same ∙ other)
+    (subst (λ (bytes : List ℕ). IsJournalOf bytes saved events) (sym same) is)
+    (blocks_kept f.shows f.kept saved.places parts old read c.read.ensures.all at)
+
+pub returns-in-Ok-open_file-clause-plain : goal.returns-in-Ok-open_file-clause-plain
+returns-in-Ok-open_file-clause-plain g c tells file shown plain =
+    let f = g.F.Folder in
+    let old = c.args.folder.now in
+    let read = c.read.new.self in
+    let there : HasFile f.shows f.kept journal_name c.in-Some.file.items read = search rules in
+    let same : c.deref.result.now ≡ file =
+    c.deref.ensures.value ∙ same_file c.in-Some.file.items file
+    (tells read journal_name (Some c.in-Some.file.items) (Some file) there.shown
+    (c.read.ensures.all.same journal_name (Some file) shown)) in
+    let found = c.in-Ok-open_file.ensures.plain (ap begins_plain same ∙ plain) in
+    (subst (λ (bytes : List ℕ). Stands [] bytes c.in-Ok-open_file.store.journal.events.items) same found.0, found.1)
+
+pub returns-in-Ok-open_file-clause-whole : goal.returns-in-Ok-open_file-clause-whole
+returns-in-Ok-open_file-clause-whole g c tells x shown other =
+    let f = g.F.Folder in
+    let old = c.args.folder.now in
+    let read = c.read.new.self in
+    let there : HasFile f.shows f.kept journal_name c.in-Some.file.items read = search rules in
+    let is : x ≡ Some c.in-Some.file.items =
+    tells read journal_name x (Some c.in-Some.file.items)
+    (c.read.ensures.all.same journal_name x shown) there.shown in
+    let whole : begins_plain c.deref.result.now ≡ false =
+    ap begins_plain c.deref.ensures.value ∙ plain_found x c.in-Some.file.items is other in
+    untouched_on f.shows f.kept f.moment f.left_since g.met.F.Folder.earlier old read
+    c.open_file.new.folder (record { all = c.read.ensures.all; time = c.read.ensures.time }) (c.open_file.ensures.whole whole)
+
+pub returns-in-Ok-open_file-clause-any_moment : goal.returns-in-Ok-open_file-clause-any_moment
+returns-in-Ok-open_file-clause-any_moment g c tells file has =
+    let f = g.F.Folder in
+    let old = c.args.folder.now in
+    let read = c.read.new.self in
+    let there : HasFile f.shows f.kept journal_name c.in-Some.file.items read = search rules in
+    let same : c.deref.result.now ≡ file =
+    c.deref.ensures.value ∙ same_file c.in-Some.file.items file
+    (tells read journal_name (Some c.in-Some.file.items) (Some file) there.shown
+    (c.read.ensures.all.same journal_name (Some file) has.shown)) in
+    joined f.moment f.left_since old read c.open_file.new.folder (HasEither file)
+    (journal_left f.shows f.kept f.failed f.moment f.left_since old read file
+    (λ name y n left. g.met.F.Folder.only_now old name y n left) has
+    (record { all = c.read.ensures.all; time = c.read.ensures.time }))
+    (subst (λ (bytes : List ℕ). LeavesOnly f.moment f.left_since read c.open_file.new.folder
+    (HasEither bytes)) same c.open_file.ensures.any_moment)
+
+pub returns-in-Ok-open_file-clause-others : goal.returns-in-Ok-open_file-clause-others
+returns-in-Ok-open_file-clause-others g c =
+    let f = g.F.Folder in
+    let old = c.args.folder.now in
+    let read = c.read.new.self in
+    others_after f.shows f.kept f.failed f.moment f.left_since next_name journal_name old read
+    c.open_file.new.folder c.read.ensures.all c.open_file.ensures.others
 
 pub returns-in-Some-clause-only : goal.returns-in-Some-clause-only
 returns-in-Some-clause-only g c tells file saved parts events has other is at =
@@ -36,10 +92,115 @@ returns-in-Some-clause-only g c tells file saved parts events has other is at =
     let old = c.args.folder.now in
     let read = c.read.new.self in
     let there : HasFile f.shows f.kept journal_name c.in-Some.file.items read = search rules in
-    let same : c.in-Some.file.items ≡ file =
-    same_bytes f.shows f.kept tells read journal_name c.in-Some.file.items file there
-    (file_stays f.shows f.kept journal_name file old read c.read.ensures.all has) in
-    c.open_file.ensures.only tells saved parts events
-    (ap begins_plain same ∙ other)
+    let same : c.deref.result.now ≡ file =
+    c.deref.ensures.value ∙ same_file c.in-Some.file.items file
+    (tells read journal_name (Some c.in-Some.file.items) (Some file) there.shown
+    (c.read.ensures.all.same journal_name (Some file) has.shown)) in
+    c.in-Err-open_file.ensures.only tells saved parts events (ap begins_plain same ∙ other)
     (subst (λ (bytes : List ℕ). IsJournalOf bytes saved events) (sym same) is)
     (blocks_kept f.shows f.kept saved.places parts old read c.read.ensures.all at)
+
+pub returns-in-Some-clause-told : goal.returns-in-Some-clause-told
+returns-in-Some-clause-told g c is =
+    let f = g.F.Folder in
+    ⊎_elim (λ d. store_refused f.shows f.kept f.failed c.open_file.new.folder c.in-Err-open_file.error is d)
+    (λ d. plain_refused d.0 c.in-Err-open_file.error d.3) c.in-Err-open_file.ensures.refused
+
+pub returns-in-Some-clause-unchanged : goal.returns-in-Some-clause-unchanged
+returns-in-Some-clause-unchanged g c unless =
+    let f = g.F.Folder in
+    let old = c.args.folder.now in
+    let read = c.read.new.self in
+    untouched_on f.shows f.kept f.moment f.left_since g.met.F.Folder.earlier old read
+    c.open_file.new.folder (record { all = c.read.ensures.all; time = c.read.ensures.time }) (c.in-Err-open_file.ensures.unchanged unless)
+
+pub returns-in-Some-clause-whole : goal.returns-in-Some-clause-whole
+returns-in-Some-clause-whole g c tells x shown other =
+    let f = g.F.Folder in
+    let old = c.args.folder.now in
+    let read = c.read.new.self in
+    let there : HasFile f.shows f.kept journal_name c.in-Some.file.items read = search rules in
+    let is : x ≡ Some c.in-Some.file.items =
+    tells read journal_name x (Some c.in-Some.file.items)
+    (c.read.ensures.all.same journal_name x shown) there.shown in
+    let whole : begins_plain c.deref.result.now ≡ false =
+    ap begins_plain c.deref.ensures.value ∙ plain_found x c.in-Some.file.items is other in
+    untouched_on f.shows f.kept f.moment f.left_since g.met.F.Folder.earlier old read
+    c.open_file.new.folder (record { all = c.read.ensures.all; time = c.read.ensures.time }) (c.open_file.ensures.whole whole)
+
+pub returns-in-Some-clause-any_moment : goal.returns-in-Some-clause-any_moment
+returns-in-Some-clause-any_moment g c tells file has =
+    let f = g.F.Folder in
+    let old = c.args.folder.now in
+    let read = c.read.new.self in
+    let there : HasFile f.shows f.kept journal_name c.in-Some.file.items read = search rules in
+    let same : c.deref.result.now ≡ file =
+    c.deref.ensures.value ∙ same_file c.in-Some.file.items file
+    (tells read journal_name (Some c.in-Some.file.items) (Some file) there.shown
+    (c.read.ensures.all.same journal_name (Some file) has.shown)) in
+    joined f.moment f.left_since old read c.open_file.new.folder (HasEither file)
+    (journal_left f.shows f.kept f.failed f.moment f.left_since old read file
+    (λ name y n left. g.met.F.Folder.only_now old name y n left) has
+    (record { all = c.read.ensures.all; time = c.read.ensures.time }))
+    (subst (λ (bytes : List ℕ). LeavesOnly f.moment f.left_since read c.open_file.new.folder
+    (HasEither bytes)) same c.open_file.ensures.any_moment)
+
+pub returns-in-Some-clause-others : goal.returns-in-Some-clause-others
+returns-in-Some-clause-others g c =
+    let f = g.F.Folder in
+    let old = c.args.folder.now in
+    let read = c.read.new.self in
+    others_after f.shows f.kept f.failed f.moment f.left_since next_name journal_name old read
+    c.open_file.new.folder c.read.ensures.all c.open_file.ensures.others
+
+-- no journal was found, or it was not read
+
+pub returns-in-Ok-clause-nothing : goal.returns-in-Ok-clause-nothing
+returns-in-Ok-clause-nothing g c is =
+    record { all = c.read.ensures.all; time = c.read.ensures.time }
+
+pub returns-in-Ok-clause-whole : goal.returns-in-Ok-clause-whole
+returns-in-Ok-clause-whole g c tells x shown other =
+    record { all = c.read.ensures.all; time = c.read.ensures.time }
+
+pub returns-in-Ok-clause-any_moment : goal.returns-in-Ok-clause-any_moment
+returns-in-Ok-clause-any_moment g c tells file has =
+    let f = g.F.Folder in
+    let old = c.args.folder.now in
+    let read = c.read.new.self in
+    journal_left f.shows f.kept f.failed f.moment f.left_since old read file
+    (λ name y n left. g.met.F.Folder.only_now old name y n left) has
+    (record { all = c.read.ensures.all; time = c.read.ensures.time })
+
+pub returns-in-Ok-clause-others : goal.returns-in-Ok-clause-others
+returns-in-Ok-clause-others g c =
+    let f = g.F.Folder in
+    let old = c.args.folder.now in
+    let read = c.read.new.self in
+    others_stay f.shows f.kept f.failed f.moment f.left_since next_name journal_name old read
+    c.read.ensures.all
+
+pub returns-clause-whole : goal.returns-clause-whole
+returns-clause-whole g c tells x shown other =
+    record { all = c.read.ensures.all; time = c.read.ensures.time }
+
+pub returns-clause-any_moment : goal.returns-clause-any_moment
+returns-clause-any_moment g c tells file has =
+    let f = g.F.Folder in
+    let old = c.args.folder.now in
+    let read = c.read.new.self in
+    journal_left f.shows f.kept f.failed f.moment f.left_since old read file
+    (λ name y n left. g.met.F.Folder.only_now old name y n left) has
+    (record { all = c.read.ensures.all; time = c.read.ensures.time })
+
+pub returns-clause-others : goal.returns-clause-others
+returns-clause-others g c =
+    let f = g.F.Folder in
+    let old = c.args.folder.now in
+    let read = c.read.new.self in
+    others_stay f.shows f.kept f.failed f.moment f.left_since next_name journal_name old read
+    c.read.ensures.all
+
+pub returns-clause-unchanged : goal.returns-clause-unchanged
+returns-clause-unchanged g c unless =
+    record { all = c.read.ensures.all; time = c.read.ensures.time }

@@ -2,18 +2,29 @@ use Rattle.std.proofs.Common.{◌≡◌, ℕ, List, rules, subst, sym}
 use Rattle.data_folder.specs.Folders.{HasFile}
 use Rattle.data_folder.specs.JournalFile.{journal_name}
 use Rattle.store_folder.specs.Journals.{IsJournalOf}
-use Rattle.store_folder.proofs.Files.{blocks_kept, file_stays, then_kept}
+use Rattle.data_folder.proofs.Moments.{untouched_on}
+use Rattle.store_folder.proofs.Files.{blocks_kept, file_stays}
 use Rattle.store_folder.proofs.Told.{same_bytes}
 use Rattle.store_folder.proofs.reading.read_store.Goals as goal
 
 pub returns-in-Some-clause-none : goal.returns-in-Some-clause-none
 returns-in-Some-clause-none g c e = absurd (c.with_found.ensures.some e)
 
-pub returns-in-Some-clause-all : goal.returns-in-Some-clause-all
-returns-in-Some-clause-all g c =
+pub returns-in-Some-clause-untouched : goal.returns-in-Some-clause-untouched
+returns-in-Some-clause-untouched g c =
     let f = g.F.Folder in
-    then_kept f.shows f.kept c.args.folder.now c.read.new.self c.with_found.new.folder
-    c.read.ensures.all c.with_found.ensures.all
+    untouched_on f.shows f.kept f.moment f.left_since g.met.F.Folder.earlier c.args.folder.now
+    c.read.new.self c.with_found.new.folder
+    (record { all = c.read.ensures.all; time = c.read.ensures.time })
+    c.with_found.ensures.untouched
+
+pub returns-in-None-clause-untouched : goal.returns-in-None-clause-untouched
+returns-in-None-clause-untouched g c =
+    record { all = c.read.ensures.all; time = c.read.ensures.time }
+
+pub returns-in-Err-clause-untouched : goal.returns-in-Err-clause-untouched
+returns-in-Err-clause-untouched g c =
+    record { all = c.read.ensures.all; time = c.read.ensures.time }
 
 pub returns-in-Some-clause-only : goal.returns-in-Some-clause-only
 returns-in-Some-clause-only g c tells file saved parts events has is at =

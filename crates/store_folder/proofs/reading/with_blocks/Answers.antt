@@ -14,7 +14,7 @@ returns-in-Ok-clause-found g c =
     record {
       file = c.args.file.now;
       has = file_stays f.shows f.kept journal_name c.args.file.now c.args.folder.now new
-          c.read_blocks.ensures.all c.requires.has;
+          c.read_blocks.ensures.untouched.all c.requires.has;
       journal = c.requires.journal;
       blocks = subst (λ (ps : List Place).
           AreAt f.shows f.kept ps (map part_in c.in-Ok.blocks.items) new) c.places.ensures
@@ -29,7 +29,7 @@ returns-in-Err-clause-refused g c =
       c.args.journal.head,
       c.args.journal.events.items,
       file_stays f.shows f.kept journal_name c.args.file.now c.args.folder.now new
-          c.read_blocks.ensures.all c.requires.has,
+          c.read_blocks.ensures.untouched.all c.requires.has,
       c.requires.journal.is,
       subst (λ (ps : List Place). DeniesOne f.shows f.kept f.failed new ps c.in-Err.fault)
           c.places.ensures c.in-Err.ensures.refused,

@@ -1,4 +1,4 @@
-use Rattle.store_folder.proofs.Files.{none_changed}
+use Rattle.data_folder.proofs.Moments.{untouched}
 use Rattle.std.proofs.Common.{List, subst, sym}
 use Rattle.head.specs.Worlds.{Event}
 use Rattle.head_record.specs.Saved.{Saved}
@@ -12,10 +12,10 @@ with_blocks-requires-clause-journal g c = record {
   counted = c.in-Ok.ensures.len;
 }
 
-pub returns-in-Err-clause-all : goal.returns-in-Err-clause-all
-returns-in-Err-clause-all g c =
+pub returns-in-Err-clause-untouched : goal.returns-in-Err-clause-untouched
+returns-in-Err-clause-untouched g c =
     let f = g.F.Folder in
-    none_changed f.shows f.kept c.args.folder.now
+    untouched f.shows f.kept f.moment f.left_since c.args.folder.now
 
 pub returns-in-Err-clause-refused : goal.returns-in-Err-clause-refused
 returns-in-Err-clause-refused g c = (c.args.file.now, c.requires.has, c.in-Err.ensures.refused)

@@ -1,7 +1,7 @@
 use Rattle.std.proofs.Common.{◌≡◌, List, [], ap, map, rules}
 use Rattle.block.specs.Blocks.{Shown}
 use Rattle.head.specs.Blocks.{opening_of, part_in}
-use Rattle.store_folder.proofs.Starts.{begun_goes_on}
+use Rattle.store_folder.proofs.Starts.{begun_goes_on, none_yet}
 use Rattle.store_folder.proofs.starting.begin_store.Goals as goal
 
 pub returns-in-Ok-create-clause-begun : goal.returns-in-Ok-create-clause-begun
@@ -15,3 +15,10 @@ returns-in-Ok-create-clause-begun g c =
     c.new-in-Ok-create-2.ensures.items
     (ap (λ (bs : List Shown). map part_in bs) c.new-in-Ok-create-3.ensures.items)
     c.in-Ok-create.ensures.open c.in-Ok-create.ensures.places
+
+-- nothing was done
+pub returns-in-Err-clause-any_moment : goal.returns-in-Err-clause-any_moment
+returns-in-Err-clause-any_moment g c =
+    let f = g.F.Folder in
+    none_yet f.moment f.left_since f.shows f.kept g.met.F.Folder.only_now c.args.folder
+    c.requires.none.0 c.requires.none.1

@@ -77,3 +77,6 @@ returns-in_default-from_slice-clause-any_moment g c =
     stays_found f.shows f.kept f.sound f.moment f.left_since g.met.F.Folder.only_now
     g.N.Beginning.first c.args.folder c.args.found.journal (map part_in c.args.found.blocks.items)
     c.requires.found c.requires.first
+
+pub returns-in-Err-resume-clause-unchanged : goal.returns-in-Err-resume-clause-unchanged
+returns-in-Err-resume-clause-unchanged g c unless = absurd (unless refl)

@@ -1,4 +1,4 @@
-use Rattle.std.proofs.Common.{List, ap, inl, map, refl, sym, ◌∙◌}
+use Rattle.std.proofs.Common.{List, ap, inl, map, sym, ◌∙◌}
 use Rattle.block.specs.Blocks.{Shown}
 use Rattle.head.specs.Blocks.{part_in}
 use Rattle.store_folder.specs.KeeperLaws.{as_store}

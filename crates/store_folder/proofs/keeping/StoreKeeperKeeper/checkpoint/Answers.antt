@@ -1,6 +1,8 @@
 use Rattle.std.proofs.Common.{map, refl}
 use Rattle.head.specs.Blocks.{part_in}
+use Rattle.keeper.specs.Finding.{AreAll}
 use Rattle.store_folder.specs.KeeperLaws.{as_store}
+use Rattle.store_folder.proofs.Kept.{before_kept, each_kept, these_alone}
 use Rattle.store_folder.proofs.Rolls.{stays_so}
 use Rattle.store_folder.proofs.keeping.StoreKeeperKeeper.checkpoint.Goals as goal
 
@@ -14,14 +16,40 @@ returns-then-not-are_met-clause-any_moment g c events held world opened =
     g.N.Beginning.first j.medium j.len j.closed events
     (as_store f.shows f.kept f.sound f.moment f.left_since met.only_now g.N.Beginning.first j.medium
     j.len j.closed events self.places.items (map part_in self.blocks.items) held) opened in
-    record { later = found.later; each = found.each; before = found.before }
+    record {
+      later = found.later;
+      each = λ left had. each_kept f.moment f.left_since g.N.Beginning.first j.medium.folder
+          j.medium.folder (AreAll events)
+          (these_alone f.moment f.left_since g.N.Beginning.first events j.medium.folder j.medium.folder found) left had;
+      before = λ t left le had. before_kept f.moment f.left_since g.N.Beginning.first
+          j.medium.folder j.medium.folder (AreAll events)
+          (these_alone f.moment f.left_since g.N.Beginning.first events j.medium.folder j.medium.folder found) t left le had;
+    }
 
 pub returns-in-Ok-clause-any_moment : goal.returns-in-Ok-clause-any_moment
 returns-in-Ok-clause-any_moment g c events held world opened =
+    let f = g.F.Folder in
     let found = c.in-Ok.ensures.any_moment events held (world refl) opened in
-    record { later = found.later; each = found.each; before = found.before }
+    record {
+      later = found.later;
+      each = λ left had. each_kept f.moment f.left_since g.N.Beginning.first c.args.self.now.store.events.journal.medium.folder
+          c.roll.new.self.store.events.journal.medium.folder (AreAll events)
+          (these_alone f.moment f.left_since g.N.Beginning.first events c.args.self.now.store.events.journal.medium.folder c.roll.new.self.store.events.journal.medium.folder found) left had;
+      before = λ t left le had. before_kept f.moment f.left_since g.N.Beginning.first
+          c.args.self.now.store.events.journal.medium.folder c.roll.new.self.store.events.journal.medium.folder (AreAll events)
+          (these_alone f.moment f.left_since g.N.Beginning.first events c.args.self.now.store.events.journal.medium.folder c.roll.new.self.store.events.journal.medium.folder found) t left le had;
+    }
 
 pub returns-in-Err-clause-any_moment : goal.returns-in-Err-clause-any_moment
 returns-in-Err-clause-any_moment g c events held world opened =
+    let f = g.F.Folder in
     let found = c.in-Err.ensures.any_moment events held (world refl) opened in
-    record { later = found.later; each = found.each; before = found.before }
+    record {
+      later = found.later;
+      each = λ left had. each_kept f.moment f.left_since g.N.Beginning.first c.args.self.now.store.events.journal.medium.folder
+          c.roll.new.self.store.events.journal.medium.folder (AreAll events)
+          (these_alone f.moment f.left_since g.N.Beginning.first events c.args.self.now.store.events.journal.medium.folder c.roll.new.self.store.events.journal.medium.folder found) left had;
+      before = λ t left le had. before_kept f.moment f.left_since g.N.Beginning.first
+          c.args.self.now.store.events.journal.medium.folder c.roll.new.self.store.events.journal.medium.folder (AreAll events)
+          (these_alone f.moment f.left_since g.N.Beginning.first events c.args.self.now.store.events.journal.medium.folder c.roll.new.self.store.events.journal.medium.folder found) t left le had;
+    }

@@ -1,7 +1,8 @@
 use Rattle.std.proofs.Common.{inl, map}
 use Rattle.head.specs.Blocks.{part_in}
 use Rattle.head_record.specs.Spelling.{head_texts}
-use Rattle.store_folder.proofs.Kept.{like_given_up, store_finds}
+use Rattle.keeper.specs.Finding.{AreAllAndSome}
+use Rattle.store_folder.proofs.Kept.{before_kept, each_kept, like_given_up, store_leaves}
 use Rattle.store_folder.proofs.keeping.StoreKeeperKeeper.close.Goals as goal
 
 pub returns-clause-held : goal.returns-clause-held
@@ -22,8 +23,14 @@ returns-clause-any_moment g c events more last =
     let f = g.F.Folder in
     let old = c.args.self.now.store.events.journal in
     let new = c.close.new.self.journal in
-    let found = store_finds f.shows f.kept f.sound f.moment f.left_since g.met.F.Folder.only_now
+    let found = store_leaves f.shows f.kept f.sound f.moment f.left_since g.met.F.Folder.only_now
     g.N.Beginning.first old.medium new.medium h.saved h.parts h.early h.late events more h.all
     h.head h.begins h.blocks c.close.ensures.beside
     (c.close.ensures.any_moment (head_texts h.saved) h.late more h.journal) in
-    record { later = found.0; each = found.1; before = found.2 }
+    record {
+      later = found.later;
+      each = λ left had. each_kept f.moment f.left_since g.N.Beginning.first old.medium.folder
+          new.medium.folder (AreAllAndSome events more) found left had;
+      before = λ t left le had. before_kept f.moment f.left_since g.N.Beginning.first
+          old.medium.folder new.medium.folder (AreAllAndSome events more) found t left le had;
+    }

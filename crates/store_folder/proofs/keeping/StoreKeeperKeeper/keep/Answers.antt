@@ -1,9 +1,11 @@
 use Rattle.std.proofs.Common.{◌≡◌, true, false, inl, map, sym, ◌∙◌}
 use Rattle.head.specs.Blocks.{part_in}
 use Rattle.store_folder.proofs.Fronts.{open_like}
-use Rattle.store_folder.proofs.Kept.{like_last, like_more, like_stays, store_finds}
+use Rattle.store_folder.proofs.Kept.{before_kept, each_kept, like_last, like_more, like_stays}
+use Rattle.store_folder.proofs.Kept.{store_leaves}
 use Rattle.event_journal.proofs.Keepers.{told_closed, told_failed, told_full}
 use Rattle.head_record.specs.Spelling.{head_texts}
+use Rattle.keeper.specs.Finding.{AreAllAndSome}
 use Rattle.store_folder.proofs.keeping.StoreKeeperKeeper.keep.Goals as goal
 
 pub append-requires-clause-held : goal.append-requires-clause-held
@@ -67,11 +69,17 @@ returns-in-Ok-clause-any_moment g c events more held s opened =
     let like = open_like f.shows f.kept f.sound f.moment f.left_since g.N.Beginning.first old.medium
     old.len old.closed events k.places.items (map part_in k.blocks.items) held c.if-self.false in
     let h = like.0 in
-    let found = store_finds f.shows f.kept f.sound f.moment f.left_since g.met.F.Folder.only_now
+    let found = store_leaves f.shows f.kept f.sound f.moment f.left_since g.met.F.Folder.only_now
     g.N.Beginning.first old.medium new.medium h.saved h.parts h.early h.late events more h.all
     h.head h.begins h.blocks c.in-Ok.ensures.beside
     (c.in-Ok.ensures.any_moment (head_texts h.saved) h.late more h.journal s opened) in
-    record { later = found.0; each = found.1; before = found.2 }
+    record {
+      later = found.later;
+      each = λ left had. each_kept f.moment f.left_since g.N.Beginning.first old.medium.folder
+          new.medium.folder (AreAllAndSome events more) found left had;
+      before = λ t left le had. before_kept f.moment f.left_since g.N.Beginning.first
+          old.medium.folder new.medium.folder (AreAllAndSome events more) found t left le had;
+    }
 
 pub returns-in-Err-clause-any_moment : goal.returns-in-Err-clause-any_moment
 returns-in-Err-clause-any_moment g c events more held s opened =
@@ -82,11 +90,17 @@ returns-in-Err-clause-any_moment g c events more held s opened =
     let like = open_like f.shows f.kept f.sound f.moment f.left_since g.N.Beginning.first old.medium
     old.len old.closed events k.places.items (map part_in k.blocks.items) held c.if-self.false in
     let h = like.0 in
-    let found = store_finds f.shows f.kept f.sound f.moment f.left_since g.met.F.Folder.only_now
+    let found = store_leaves f.shows f.kept f.sound f.moment f.left_since g.met.F.Folder.only_now
     g.N.Beginning.first old.medium new.medium h.saved h.parts h.early h.late events more h.all
     h.head h.begins h.blocks c.in-Err.ensures.beside
     (c.in-Err.ensures.any_moment (head_texts h.saved) h.late more h.journal s opened) in
-    record { later = found.0; each = found.1; before = found.2 }
+    record {
+      later = found.later;
+      each = λ left had. each_kept f.moment f.left_since g.N.Beginning.first old.medium.folder
+          new.medium.folder (AreAllAndSome events more) found left had;
+      before = λ t left le had. before_kept f.moment f.left_since g.N.Beginning.first
+          old.medium.folder new.medium.folder (AreAllAndSome events more) found t left le had;
+    }
 
 pub returns-in-Err-clause-closed : goal.returns-in-Err-clause-closed
 returns-in-Err-clause-closed g c t =
