@@ -2,7 +2,8 @@
 
 ghost use Rattle.std.specs.Prelude.{◌≡◌, string_bytes, OnOk, IfOk, IfErr, OnErr};
 ghost use Rattle.block_folder.specs.Steps.{DoesAll, DoesUpToOne};
-ghost use Rattle.block_folder.specs.Blocks.{calls_at, calls_of, path_in, FailsSo};
+ghost use Rattle.block_folder.specs.Blocks.{calls_at, FailsSo, WritesWhole};
+ghost use Rattle.block_folder.specs.Trees.{path_in};
 
 use crate::disk::{Disk, DiskError};
 use crate::step::{Step, do_all};
@@ -96,19 +97,21 @@ fn write_at<'a, D: Disk>(
 
 /// Writes the directory of a block: under another name, with each file and directory synced; then
 /// it gets its name. Where a call of the disk fails, no further call is made.
+///
+/// At whatever moment the machine stops, nothing has the block's name, or the whole block has it, if
+/// nothing had it before and both names stand in the parent.
 pub fn write_block<'a, D: Disk>(
     alloc: Global,
     disk: &mut D,
     place: Place<'a>,
     files: Files<'a>,
 ) -> Result<(), FolderError>
-    // All calls were made, in their order, and each was done.
-    ensures ok { OnOk result
-        (DoesAll D.did (calls_of place.entry files.entry) disk.old disk.new) }
-    // None was made after one that failed, so nothing has the block's name unless all before was
-    // done.
+    // A crash at any moment of the calls leaves no half of the block; after `Ok` each crash leaves
+    // the whole. What stands beside the block's two names stays.
+    ensures ok { OnOk result (WritesWhole D.did place.entry files.entry disk.old disk.new) }
+    // Nor does a crash leave a half of it where a call fails, after which none was made.
     ensures err { IfErr result
-        (λ e. FailsSo D.did e (calls_of place.entry files.entry) disk.old disk.new) }
+        (λ e. FailsSo D.did e place.entry files.entry disk.old disk.new) }
 {
     let chunks_folder = path_of(alloc, place.unfinished, "chunks")?;
     let chunks = path_of(alloc, place.unfinished, "chunks/000001")?;
@@ -122,5 +125,8 @@ pub fn write_block<'a, D: Disk>(
         tombstones: tombstones.as_str(),
         meta: meta.as_str(),
     };
-    write_at(disk, place, paths, files).or(Err(FolderError::Disk))
+    match write_at(disk, place, paths, files) {
+        Ok(()) => Ok(()),
+        Err(DiskError) => Err(FolderError::Disk),
+    }
 }

@@ -6,8 +6,8 @@ use Rattle.block.specs.Metas.{range_said}
 use Rattle.block.specs.Ranges.{IsRange}
 use Rattle.block_folder.specs.declared.folder.Place.{Place}
 use Rattle.block_folder.specs.declared.folder.Files.{Files}
-use Rattle.block_folder.specs.Blocks.{calls_of}
-use Rattle.block_folder.specs.Steps.{Did, DoesAll, whole}
+use Rattle.block_folder.specs.Blocks.{IsPlace, WritesWhole}
+use Rattle.block_folder.specs.Steps.{Did, whole}
 use Rattle.block_writer.specs.SpellRows.{AreWithin, SpellRows}
 use Rattle.block_outputs.specs.Writing.{WritesBlock}
 
@@ -15,15 +15,16 @@ use Rattle.block_outputs.specs.Writing.{WritesBlock}
 pub block_written : {D : Type 0} (did : D → List Did → Type 0) (into : List ℕ) (rows : List Row)
     (old new : D) (place : Place) (files : Files) (range : ℤ × ℤ)
     (meta index tombstones : List ℕ) (chunks : List (Vec ℕ Global))
-    → DoesAll did (calls_of place files) old new
+    → WritesWhole did place files old new → IsPlace place
     → place.parent.now ≡ into → IsRange range → files.meta.now ≡ meta → files.index.now ≡ index
     → files.chunks.now ≡ chunks → files.tombstones.now ≡ tombstones → range_said meta ≡ Some range
     → AreWithin range rows → SpellRows range index (whole chunks) tombstones rows
     → WritesBlock did into rows old new
-block_written did into rows old new place files range meta index tombstones chunks done parent is m
+block_written did into rows old new place files range meta index tombstones chunks done is_place parent is m
     i c t said within spelled = record {
       place = place;
       parent = parent;
+      is_place = is_place;
       range = range;
       is_range = is;
       within = within;
@@ -35,5 +36,5 @@ block_written did into rows old new place files range meta index tombstones chun
           (subst (λ (x : List (Vec ℕ Global)).
           SpellRows range index (whole x) files.tombstones.now rows) (sym c)
           (subst (λ (x : List ℕ). SpellRows range index (whole chunks) x rows) (sym t) spelled));
-      called = done;
+      written = done;
     }

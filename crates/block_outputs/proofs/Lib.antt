@@ -1,4 +1,5 @@
 pub mod Counted
+pub mod Digits
 pub mod Files
 pub mod Held
 pub mod Lists

@@ -1,4 +1,5 @@
 pub mod Contents
 pub mod Joined
+pub mod Names
 pub mod Tiles
 pub mod Writing

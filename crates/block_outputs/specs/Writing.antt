@@ -1,4 +1,4 @@
--- Rows as the files of a block, and the calls by which they are written.
+-- Rows as the files of a block, and how they are written.
 use Rattle.std.specs.Prelude.{◌≡◌, ◌⊎◌, ℕ, ◌+◌, ℤ, Bool, ◌&&◌, nat_le, List, [], ◌∷◌, length, Some}
 use Rattle.std.specs.List.{list_all}
 use Rattle.labels.specs.Rows.{Row}
@@ -6,8 +6,8 @@ use Rattle.block.specs.Metas.{range_said}
 use Rattle.block.specs.Ranges.{IsRange, covers}
 use Rattle.block_folder.specs.declared.folder.Place.{Place}
 use Rattle.block_folder.specs.declared.folder.Files.{Files}
-use Rattle.block_folder.specs.Blocks.{calls_of}
-use Rattle.block_folder.specs.Steps.{Did, DoesAll, whole}
+use Rattle.block_folder.specs.Blocks.{IsPlace, WritesWhole}
+use Rattle.block_folder.specs.Steps.{Did, whole}
 use Rattle.block_writer.specs.SpellRows.{AreWithin, SpellRows}
 
 -- how many samples rows have
@@ -27,26 +27,27 @@ is_within range row = nat_le (length row.1) 1048576 && are_inside range row.1
 abbrev pub are_within : ℤ × ℤ → List Row → Bool
 are_within range rows = nat_le (length rows) 1048576 && list_all (is_within range) rows
 
--- the calls for the files of a block in a directory: its meta says a range, and by the grammar of
--- blocks its other files are a block of this range with exactly these rows, which are no more than
--- a block may have
+-- a block is written in a directory, so that no crash leaves a half of it: its meta says a range, and
+-- by the grammar of blocks its other files are a block of this range with exactly these rows, which
+-- are no more than a block may have
 pub record WritesBlock {D : Type 0} (did : D → List Did → Type 0) (into : List ℕ)
     (rows : List Row) (old new : D) : Type 0 where
   pub place : Place
   pub parent : place.parent.now ≡ into
+  pub is_place : IsPlace place
   pub range : ℤ × ℤ
   pub is_range : IsRange range
   pub within : AreWithin range rows
   pub files : Files
   pub said : range_said files.meta.now ≡ Some range
   pub spelled : SpellRows range files.index.now (whole files.chunks.now) files.tombstones.now rows
-  pub called : DoesAll did (calls_of place files) old new
+  pub written : WritesWhole did place files old new
 
 -- the same calls were made as before
 abbrev pub IsStill : {D : Type 0} → (D → List Did → Type 0) → D → D → Type 0
 IsStill did old new = (log : List Did) → did old log → did new log
 
--- the calls for a block of rows in a directory; none for no row
+-- a block of rows is written in a directory; nothing is called for no row
 abbrev pub Writes : {D : Type 0} → (D → List Did → Type 0) → List ℕ → List Row → D → D → Type 0
 Writes did into rows old new =
     ((rows ≡ []) × IsStill did old new) ⊎ WritesBlock did into rows old new

@@ -13,6 +13,7 @@ mod contents;
 mod counts;
 mod error;
 mod joining;
+mod naming;
 mod output;
 mod tiles;
 

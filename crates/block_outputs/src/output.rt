@@ -4,11 +4,13 @@ ghost use Rattle.std.specs.Prelude.{◌≡◌, ◌^◌, ◌-◌, min, [], Some, 
 ghost use Rattle.std.specs.Prelude.{string_bytes};
 ghost use Rattle.std.specs.List.{list_all};
 ghost use Rattle.block.specs.Metas.{range_said};
+ghost use Rattle.block_folder.specs.Blocks.{IsPlace};
 ghost use Rattle.block_writer.specs.SpellRows.{AreWithin};
 ghost use Rattle.block_outputs.specs.Writing.{samples_in, are_inside, is_within, are_within};
 ghost use Rattle.block_outputs.specs.Writing.{Writes, WritesBlock};
 
 use crate::error::OutputError;
+use crate::naming::{output_name, unfinished_name};
 use block::Range;
 use block_folder::{Disk, Files, Place, meta_text, write_block};
 use block_writer::{PartRows, write_pieces};
@@ -137,6 +139,11 @@ fn write_in<D: Disk>(
     meta: &str,
     rows: PartRows,
 ) -> Result<(), OutputError>
+    requires place { IsPlace (record {
+      parent = names.now.into;
+      block = names.now.block;
+      unfinished = names.now.unfinished;
+    }) }
     requires within { AreWithin range rows }
     requires said { range_said meta.now ≡ Some range }
     ensures { OnOk result
@@ -175,8 +182,9 @@ pub fn write_output<D: Disk>(
 ) -> Result<Option<Output>, OutputError>
     // Nothing is told of no rows alone.
     ensures none { IfOk result (λ output. IfNone output (rows ≡ [])) }
-    // What was called of the disk are the calls for a block of exactly the rows, which are no more
-    // than a block may have; or none for no row.
+    // A block of exactly the rows is written, which are no more than a block may have: at whatever
+    // moment the machine stops, its directory has all of it or is not there. For no row nothing is
+    // called.
     ensures written { OnOk result (Writes D.did into.now rows disk.old disk.new) }
 {
     if rows.rows().is_empty() {
@@ -193,8 +201,8 @@ pub fn write_output<D: Disk>(
     };
     let range = range_for(first, last, rows.rows())?;
     let meta = meta_for(alloc, range, extent, digits)?;
-    let name = format!(in alloc; "{into}/{number:04}")?;
-    let unfinished = format!(in alloc; "{into}/.{number:04}-unfinished")?;
+    let name = output_name(alloc, into, number)?;
+    let unfinished = unfinished_name(alloc, into, number)?;
     let names = Names {
         into,
         block: name.as_str(),

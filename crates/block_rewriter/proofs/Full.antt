@@ -1,6 +1,6 @@
 -- The rows of a block that have a sample.
-use Rattle.std.proofs.Common.{◌≡◌, ◌≢◌, ◌≤◌, ℕ, suc, ℤ, Bool, true, false, cond, T, List, []}
-use Rattle.std.proofs.Common.{◌∷◌, ◌++◌, None, Some, append-nil, length, refl, sym, ◌∙◌, ap, subst, arith}
+use Rattle.std.proofs.Common.{◌≡◌, ◌≤◌, ℕ, suc, ℤ, Bool, true, false, cond, T, List, []}
+use Rattle.std.proofs.Common.{◌∷◌, ◌++◌, None, Some, length, refl, sym, ◌∙◌, ap, subst, arith}
 use Rattle.std.specs.Prelude.{nat_le}
 use Rattle.std.specs.List.{AllByRecursion, Contains, list_all}
 use Rattle.std.specs.List.Sorted.{IsSortedBy}

@@ -12,7 +12,7 @@ ghost use Rattle.tombstones.specs.Grammar.{IsTombstones};
 
 use crate::error::RewriteError;
 use crate::few::are_few;
-use crate::rows::rows_of;
+use crate::rows::full_rows;
 use block::{Block, Range};
 use block_folder::meta_text;
 use block_writer::{BlockBytes, PartRows, WriteError, write};
@@ -106,7 +106,7 @@ pub fn rewrite(alloc: Global, block: &Block) -> Result<Rewritten, RewriteError>
     // A law: it takes no time.
     block.are_in_label_order();
     let range = block.range();
-    let rows = rows_of(alloc, block)?;
+    let rows = full_rows(alloc, block)?;
     if !are_few(&rows) {
         return Err(RewriteError::Limit);
     }

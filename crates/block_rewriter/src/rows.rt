@@ -30,8 +30,8 @@ fn keep_full(alloc: Global, listed: Vec<(SeriesRef, Row)>) -> Result<Vec<Row>, A
     Ok(rows)
 }
 
-/// The rows of a block that have a sample.
-pub(crate) fn rows_of(alloc: Global, block: &Block) -> Result<Vec<Row>, AllocError>
+/// The rows of a block that have a sample: they have all its samples (`full_rows_have_all`).
+pub fn full_rows(alloc: Global, block: &Block) -> Result<Vec<Row>, AllocError>
     ensures { IfOk result (λ rows. rows.items ≡ full_rows (rows_in block.now.part)) }
 {
     let listed = block.list_all(alloc)?;

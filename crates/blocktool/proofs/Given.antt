@@ -47,13 +47,14 @@ still_first did into rows a b c still (inl h) = inl (h.0, λ log d. h.1 log (sti
 still_first did into rows a b c still (inr h) = inr (record {
   place = h.place;
   parent = h.parent;
+  is_place = h.is_place;
   range = h.range;
   is_range = h.is_range;
   within = h.within;
   files = h.files;
   said = h.said;
   spelled = h.spelled;
-  called = λ log d. h.called log (still log d);
+  written = (h.written.0, λ log d. h.written.1 log (still log d), h.written.2);
 })
 
 converted_first : {I D : Type 0} (gives : Gives I) (did : D → List Did → Type 0) (inputs : List I)

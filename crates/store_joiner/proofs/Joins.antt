@@ -9,6 +9,7 @@ use Rattle.data_folder.specs.Folders.{Left, LeavesOnly, MayLeaveOf}
 use Rattle.data_folder.specs.Rolls as rolls
 use Rattle.data_folder.specs.States.{AreThere, IsApart, IsOldOrNew, Named}
 use Rattle.data_folder.specs.Sweeping.{KeepsStore}
+use Rattle.data_folder.proofs.Moments.{weaker}
 use Rattle.event_journal.specs.Holding.{contents_with}
 use Rattle.head.specs.Heads.{BlockPart, SnapshotParts, head_part, newest_in, world_of}
 use Rattle.head.specs.Refusals.{Refusal}
@@ -16,32 +17,30 @@ use Rattle.head.specs.Worlds.{Event, World}
 use Rattle.head_record.specs.Saved.{Place, Saved, save}
 use Rattle.head_record.specs.Spelling.{head_texts, IsSaved}
 use Rattle.journal.specs.Group.{IsJournalText}
-use Rattle.keeper.specs.Finding.{FindsOnly, IsOfAll}
 use Rattle.labels.specs.Contents.{Content}
 use Rattle.labels.specs.Parts.{Part, laid_over, over, rows_in}
 use Rattle.labels.specs.Rows.{points_of}
-use Rattle.store_folder.specs.Holding.{AreAt, FoundSince, HoldsAfterHead, HoldsAt}
-use Rattle.store_folder.specs.KeeperLaws.{settled_found}
+use Rattle.store_folder.specs.Holding.{AreAt, HoldsAfterHead, HoldsAt}
+use Rattle.store_folder.specs.KeeperLaws.{finds_world, settled_found}
 use Rattle.store_folder.specs.RewritingLaws.{same_world}
 use Rattle.store_folder.specs.Starting.{StartFinds}
-use Rattle.store_folder.specs.StoreLaws.{found_store}
-use Rattle.store_folder.specs.States.{StartsWith, started}
+use Rattle.store_folder.specs.States.{FindsOne, StandsFor, started}
 use Rattle.store_folder.specs.Sweeps.{names_at}
 use Rattle.store_folder.specs.Writing.{AreRewritten, places_from}
 use Rattle.store_folder.proofs.Rolls.{after_head, apart_both, blocks_rolled, files_at, files_of_both}
-use Rattle.store_folder.proofs.Rolls.{keeps_now, lie_at, parted, same_head, stands_in, there_both}
+use Rattle.store_folder.proofs.Rolls.{keeps_now, lie_at, parted, same_head, there_both}
 use Rattle.store_folder.proofs.Saves.{each_like, have_same}
 use Rattle.store_folder.proofs.Swept.{holds_swept, swept_finds}
 use Rattle.store_joiner.specs.Finds.{FindsEither, FindsNow}
 use Rattle.store_joiner.specs.Joins.{HoldSame, parts_in, with_blocks}
 
--- the world of no events is the first
-
 abbrev fine : World → Result World Refusal
 fine w = Ok w
 
-is_first : (first w : World) → IsOfAll first [] w → w ≡ first
-is_first first w e = cc
+-- in what stands for no events a start finds the first world
+finds_in : (first : World) (P : World → Type 0) (left : Left) → P first
+    → StandsFor first [] left → FindsOne P left
+finds_in first P left p s fits = (first, finds_world first first left [] (fits, s) refl, p)
 
 -- the world of joined blocks
 
@@ -68,43 +67,26 @@ pub counted : (first n : ℕ) → length (places_from first n) ≡ n
 counted first zero = refl
 counted first (suc n) = ap suc (counted (first + 1) n)
 
--- what a start finds, one call after another
+-- what a start finds of what a crash leaves
 
 module _ {F : Type 0} (moment : F → ℕ) (left_since : F → ℕ → Left → Type 0) where
-  abbrev pub Finds : F → F → (World → Type 0) → Type 0
-  Finds old new P =
-      FindsOnly moment (λ (f : F) (t : ℕ) (v : World). FoundSince left_since f t v) old new P
-
-  pub finds_after : (a b c : F) (P : World → Type 0) → Finds a b P → Finds b c P → Finds a c P
-  finds_after a b c P one two = record {
-    later = omega (arith, one.later, two.later);
-    each = λ w had. ⊎_elim (λ past. one.each w past) (λ now. now)
-        (two.before (moment a) w one.later had);
-    before = λ t w le had. ⊎_elim (λ past. one.before t w le past) (λ now. inr now)
-        (two.before t w (omega (arith, le, one.later)) had);
-  }
-
-  -- where a start finds the first world
+  -- where what is left stands for the first world
   pub finds_first : (old new : F) (first next : World)
       → StartFinds moment left_since old new first []
       → FindsEither moment left_since old new first next
-  finds_first old new first next f = record {
-    later = f.later;
-    each = λ w had. inl (is_first first w (f.each w had));
-    before = λ t w le had. ⊎_elim (λ past. inl past) (λ now. inr (inl (is_first first w now)))
-        (f.before t w le had);
-  }
+  finds_first old new first next leaves =
+      let P = λ (v : World). (v ≡ first) ⊎ (v ≡ next) in
+      weaker moment left_since old new (StandsFor first []) (FindsOne P)
+      (λ left s. finds_in first P left (inl refl) s) leaves
 
-  -- where it finds the other
+  -- where it stands for the other
   pub finds_other : (old new : F) (first next : World)
       → StartFinds moment left_since old new next []
       → FindsEither moment left_since old new first next
-  finds_other old new first next f = record {
-    later = f.later;
-    each = λ w had. inr (is_first next w (f.each w had));
-    before = λ t w le had. ⊎_elim (λ past. inl past)
-        (λ now. inr (inr (is_first next w now))) (f.before t w le had);
-  }
+  finds_other old new first next leaves =
+      let P = λ (v : World). (v ≡ first) ⊎ (v ≡ next) in
+      weaker moment left_since old new (StandsFor next []) (FindsOne P)
+      (λ left s. finds_in next P left (inr refl) s) leaves
 
 module _ {F : Type 0} (shows : F → List ℕ → Option (List ℕ) → Type 0)
     (kept : F → List ℕ → ℕ → Type 0) (sound : F → Bool) (moment : F → ℕ)
@@ -121,9 +103,9 @@ module _ {F : Type 0} (shows : F → List ℕ → Option (List ℕ) → Type 0)
   pub now_at : (first : World) (m : JournalFile F) (len : ℕ) (closed : Bool) (places : List Place)
       (parts : List BlockPart) → At first m len closed places parts → closed ≡ false
       → FindsNow moment left_since m.folder first
-  now_at first m len closed places parts at opened w had =
-      is_first first w
-      (settled_found shows kept sound moment left_since only_now first m len closed [] w (inl at.0)
+  now_at first m len closed places parts at opened left had =
+      finds_in first (λ (v : World). v ≡ first) left refl
+      (settled_found shows kept sound moment left_since only_now first m len closed [] left (inl at.0)
       opened had)
 
   -- the head that is to be
@@ -133,28 +115,48 @@ module _ {F : Type 0} (shows : F → List ℕ → Option (List ℕ) → Type 0)
     pub world : next ≡ world_of (started saved made)
     pub blocks : AreAt shows kept saved.places made m.folder
 
-  finds_one : (first next w : World) (old : JournalFile F) (len : ℕ) (was : Bool)
+  stands_so : (first next : World) (old : JournalFile F) (len : ℕ) (was : Bool)
       (saved : Saved) (made : List BlockPart) (left : Left)
       (h : HoldsAfterHead shows kept sound moment left_since first old len was [])
       (m : IsNext first next old saved made)
       → IsOldOrNew
       (files_of_both shows kept h.saved.places saved.places h.parts made old.folder h.blocks m.blocks)
       (contents_with (head_texts h.saved) h.late) (contents_with (head_texts saved) []) left
-      → StartsWith left w → (w ≡ first) ⊎ (w ≡ next)
-  finds_one first next w old len was saved made left h m is found =
+      → StandsFor first [] left ⊎ StandsFor next [] left
+  stands_so first next old len was saved made left h m is =
       let split =
       parted (λ (file : Named). left file.0 ≡ Some file.1)
       (files_at shows kept h.saved.places h.parts old.folder h.blocks)
       (files_at shows kept saved.places made old.folder m.blocks) is.files in
       ⊎_elim
-      (λ had. inl (is_first first w (subst (λ (x : List Event). IsOfAll first x w) (sym h.all)
-      (found_store first w h.saved h.parts h.early h.late had.0 left h.head h.begins
-      (lie_at shows kept h.saved.places h.parts old.folder left h.blocks split.0) had.1
-      (stands_in h.saved h.late left had h.journal.each) found))))
-      (λ has. inr (is_first next w
-      (found_store next w saved made [] [] has.0 left m.head (ap fine m.world)
-      (lie_at shows kept saved.places made old.folder left m.blocks split.1) has.1
-      (stands_in saved [] left has tt) found)))
+      (λ had. inl (record {
+        saved = h.saved;
+        parts = h.parts;
+        early = h.early;
+        late = h.late;
+        all = h.all;
+        begins = h.begins;
+        state = record {
+          head = h.head;
+          each = h.journal.each;
+          journal = had;
+          blocks = lie_at shows kept h.saved.places h.parts old.folder left h.blocks split.0;
+        };
+      }))
+      (λ has. inr (record {
+        saved = saved;
+        parts = made;
+        early = [];
+        late = [];
+        all = refl;
+        begins = ap fine m.world;
+        state = record {
+          head = m.head;
+          each = tt;
+          journal = has;
+          blocks = lie_at shows kept saved.places made old.folder left m.blocks split.1;
+        };
+      }))
       is.journal
 
   -- while the journal is begun anew
@@ -166,14 +168,12 @@ module _ {F : Type 0} (shows : F → List ℕ → Option (List ℕ) → Type 0)
       (files_of_both shows kept h.saved.places saved.places h.parts made old.folder h.blocks m.blocks)
       (contents_with (head_texts h.saved) h.late) (contents_with (head_texts saved) []))
       → FindsEither moment left_since old.folder new.folder first next
-  rolling_finds first next old new len was saved made h m leaves = record {
-    later = leaves.later;
-    each = λ w had. finds_one first next w old len was saved made had.0 h m
-        (leaves.each had.0 had.1) had.2;
-    before = λ t w le had. ⊎_elim (λ past. inl (had.0, past, had.2))
-        (λ now. inr (finds_one first next w old len was saved made had.0 h m now had.2))
-        (leaves.before t had.0 le had.1);
-  }
+  rolling_finds first next old new len was saved made h m leaves =
+      let P = λ (v : World). (v ≡ first) ⊎ (v ≡ next) in
+      weaker moment left_since old.folder new.folder _ (FindsOne P)
+      (λ left is. ⊎_elim (λ s. finds_in first P left (inl refl) s)
+      (λ s. finds_in next P left (inr refl) s)
+      (stands_so first next old len was saved made left h m is)) leaves
 
   -- then the store is the other
   pub begun_anew : (first next : World) (old new : JournalFile F) (new_len : ℕ)

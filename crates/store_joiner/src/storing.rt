@@ -26,8 +26,9 @@ pub struct ReplacedStore<F: Drop> {
 /// numbers, the journal is begun anew with a head that names them, and then what is no longer the
 /// store's is removed. The journal has no events, and its head names the blocks at the held places.
 ///
-/// An `Err` gives the folder back. Unless it is `Folder(Lost)`, the store is as it was, and what
-/// was written goes when the store is saved again.
+/// A crash at any moment leaves a store that a start finds: as it was, or the other. An `Err` gives
+/// the folder back. Unless it is `Folder(Lost)`, the store is as it was, and what was written goes
+/// when the store is saved again.
 pub fn replace_store<N: Beginning, F: Folder + Drop>(
     alloc: Global,
     store: StoreJournal<N, F>,
@@ -38,7 +39,7 @@ pub fn replace_store<N: Beginning, F: Folder + Drop>(
     requires held { (parts : List BlockPart) × HoldsAt F.shows F.kept F.sound F.moment F.left_since
         N.first store.events.journal.medium store.events.journal.len store.events.journal.closed []
         held.now parts }
-    // After a crash at any moment of the call, a start finds the store as it was, or the other.
+    // A crash at any moment of the call leaves a store: a start finds it as it was, or the other.
     ensures any_moment { MatchResult result
         (λ x. FindsEither F.moment F.left_since store.events.journal.medium.folder x.folder N.first
         (world_of next.now))

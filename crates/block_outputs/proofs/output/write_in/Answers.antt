@@ -15,7 +15,7 @@ returns g c =
       tombstones = c.as_slice-3.result;
     })
     c.args.range c.args.meta.now bytes.bytes.index.items bytes.bytes.tombstones.items
-    bytes.bytes.chunks.items c.in_ok-write_block.ensures.ok refl c.min.ensures.range
+    bytes.bytes.chunks.items c.in_ok-write_block.ensures.ok c.requires.place refl c.min.ensures.range
     c.as_bytes.ensures.value c.as_slice.ensures.value c.as_slice-2.ensures.value
     c.as_slice-3.ensures.value c.requires.said c.requires.within
     (bytes.ensures.block c.args.range c.min.ensures.range c.requires.within)

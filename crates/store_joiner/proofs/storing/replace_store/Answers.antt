@@ -5,10 +5,11 @@ use Rattle.head_record.specs.Saved.{Place, Saved}
 use Rattle.head_record.specs.Spelling.{head_texts}
 use Rattle.journal.specs.Group.{IsJournalText}
 use Rattle.data_folder.specs.Sweeping.{KeepsStore}
+use Rattle.data_folder.proofs.Moments.{joined}
 use Rattle.store_folder.specs.Sweeps.{names_at}
 use Rattle.store_folder.specs.Writing.{places_from}
 use Rattle.store_folder.proofs.Rolls.{goes_on}
-use Rattle.store_joiner.proofs.Joins.{as_before, begun_anew, counted, finds_after, finds_first}
+use Rattle.store_joiner.proofs.Joins.{as_before, begun_anew, counted, finds_first}
 use Rattle.store_joiner.proofs.Joins.{finds_other}
 use Rattle.store_joiner.proofs.Joins.{keeps_before, meanwhile, next_head, now_at, roll_either, still_at}
 use Rattle.store_joiner.proofs.storing.replace_store.Goals as goal
@@ -147,11 +148,11 @@ returns-in-Ok-roll-clause-any_moment g c =
     begun_anew f.shows f.kept f.sound f.moment f.left_since met.only_now met.earlier first
     (world_of s) (record { folder = mid }) new.medium new.len head there.0 next
     (c.in-Ok-roll.ensures.ok (contents_with (head_texts head) []) whole) c.in-Ok-roll.ensures.files in
-    finds_after f.moment f.left_since old.medium.folder mid c.sweep_apart.new.folder _
+    joined f.moment f.left_since old.medium.folder mid c.sweep_apart.new.folder _
     (finds_first f.moment f.left_since old.medium.folder mid first (world_of s)
     (meanwhile f.shows f.kept f.sound f.moment f.left_since met.only_now met.earlier first old.medium
     mid old.len old.closed c.args.held.now held.0 held.1 c.requires.open c.write_saved.ensures.stays))
-    (finds_after f.moment f.left_since mid new.medium.folder c.sweep_apart.new.folder _
+    (joined f.moment f.left_since mid new.medium.folder c.sweep_apart.new.folder _
     (roll_either f.shows f.kept f.sound f.moment f.left_since met.only_now met.earlier first
     (world_of s) mid new.medium.folder old.len old.closed c.args.held.now held.0 head there.0 c.deref.result.now at
     c.requires.open next whole c.in-Ok-roll.ensures.any_moment)
@@ -215,7 +216,7 @@ returns-clause-any_moment g c =
     next_head f.shows f.kept f.sound f.moment f.left_since met.only_now met.earlier first
     (record { folder = mid }) s head (take 0 c.args.held.now ++ places_from c.next_number.result (n - 0))
     there.0 c.in-Ok.ensures.saved c.in-Ok-head_journal.ensures.saved there.1 there.2 in
-    finds_after f.moment f.left_since old.medium.folder mid new.medium.folder _
+    joined f.moment f.left_since old.medium.folder mid new.medium.folder _
     (finds_first f.moment f.left_since old.medium.folder mid first (world_of s)
     (meanwhile f.shows f.kept f.sound f.moment f.left_since met.only_now met.earlier first old.medium
     mid old.len old.closed c.args.held.now held.0 held.1 c.requires.open c.write_saved.ensures.stays))
