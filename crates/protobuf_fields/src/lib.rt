@@ -8,8 +8,8 @@
 //! ```
 //! // Field 1, the bytes "up", and field 2, the number 150.
 //! let bytes = [0x0a, 2, b'u', b'p', 0x10, 0x96, 0x01];
-//! let Ok((field, rest)) = field_of(&bytes) else { .. };
-//! assert!(rt; matches!(field, Field::Text(1, text) if text == b"up"));
+//! let (field, rest) = field_of(&bytes)?;
+//! assert!(rt; matches!(field, Field::Text(1, text) if text == b"up".as_slice()));
 //! assert_eq!(rt; rest, [0x10, 0x96, 0x01].as_slice());
 //! assert_eq!(rt; field_of(&rest[..2]).err(), Some(Fault::Short));
 //! ```
