@@ -14,20 +14,19 @@ QUERIER names a program that is built already (or PREFIX, where make install put
 It needs rustc. All that it makes is removed at the end.
 Exit status: 0 if all was measured, 1 if something did not run, 2 for words that it does not know, 130 or 143 if it was
 interrupted."""
-import argparse
 import json
 import os
 import shutil
-import signal
 import statistics
-import subprocess
 import sys
 import tempfile
 import time
 import urllib.request
 
 sys.dont_write_bytecode = True
-from peers_house import BENCH, MB, Failed, House, run, select_target, tell  # noqa: E402
+from peers_house import (  # noqa: E402
+    MB, Failed, House, find_program, parser_of, run, run_to_end, select_target, tell, words_of,
+)
 from peers_table import Table, milli  # noqa: E402
 
 # the work, series and samples of each in a batch, clients, and the least beside the server without --data
@@ -39,16 +38,6 @@ BATCHES = [
 # of these the journal is held beside the bodies
 SHAPES = [(256, 16), (4096, 1), (100, 1)]
 SMALL = '{__name__="metric_3",instance="host-00012:9100"}'
-
-
-def program():
-    for name, path in [("QUERIER", ""), ("PREFIX", "/bin/querier")]:
-        if os.environ.get(name):
-            return os.path.abspath(os.environ[name] + path)
-    tell("building querier")
-    folder = f"{os.path.dirname(BENCH)}/crates/querier"
-    run([os.environ.get("RT", "rt"), "run", "--", "--version"], cwd=folder, stdin=subprocess.DEVNULL)
-    return f"{folder}/out/querier"
 
 
 class Data(House):
@@ -189,20 +178,14 @@ def starts(house, table, rounds, quick):
 
 
 def main():
-    parser = argparse.ArgumentParser(
-        prog="bench/durable", description=__doc__, formatter_class=argparse.RawDescriptionHelpFormatter)
+    parser = parser_of(__doc__, 5)
     parser.add_argument("--folder", default=tempfile.gettempdir(), metavar="FOLDER")
-    parser.add_argument("--rounds", type=int, default=5, metavar="N")
-    parser.add_argument("--quick", action="store_true")
-    words = parser.parse_args()
-    if words.rounds < 1:
-        parser.error("--rounds takes a number from 1")
-    signal.signal(signal.SIGTERM, lambda *_: sys.exit(143))
+    words = words_of(parser)
     kind = run(["stat", "-f", "-c", "%T", words.folder]).strip()
     if kind in ("tmpfs", "ramfs"):
         raise Failed(f"{words.folder} is in memory ({kind}): name a folder of a disk by --folder")
     rounds = min(2, words.rounds) if words.quick else words.rounds
-    with Data(program(), words.folder) as house:
+    with Data(find_program("querier"), words.folder) as house:
         times = sorted(sync_times(house.disk, 50 if words.quick else 200))
         print(f"One `fdatasync` of 4 kB in {words.folder} ({kind}): {milli(statistics.median(times))} ms, mean "
               f"{milli(statistics.mean(times))}, 99th {milli(times[len(times) * 99 // 100])}.\n")
@@ -211,13 +194,8 @@ def main():
         reads(house, table, rounds)
         sizes(house, table)
         starts(house, table, rounds, words.quick)
-    print(f"\nTargets missed: {table.missed}. {os.cpu_count()} processors, load {os.getloadavg()[0]:.1f} at the end.")
+        table.done()
 
 
 if __name__ == "__main__":
-    try:
-        main()
-    except Failed as fault:
-        sys.exit(f"bench/durable: {fault}")
-    except KeyboardInterrupt:
-        sys.exit(130)
+    run_to_end(main)

@@ -19,59 +19,31 @@ QUERIER and AUDITOR name programs that are built already (or PREFIX, where make 
 where they stand. It needs rustc. All that it makes is in a folder below TMPDIR, and is removed at the end.
 Exit status: 0 if all was measured, 1 if something did not run or replies differ, 2 for words that it does not know, 130
 or 143 if it was interrupted."""
-import argparse
-import os
-import signal
-import subprocess
 import sys
 
 sys.dont_write_bytecode = True
 from peers_files import audits, command  # noqa: E402
-from peers_house import BENCH, PEERS, Failed, House, present, run, tell  # noqa: E402
+from peers_house import PEERS, House, find_program, parser_of, present, run_to_end, words_of  # noqa: E402
 from peers_http import http, memory, patterns, writes  # noqa: E402
 from peers_table import Table  # noqa: E402
 
 CLASSES = {one.__name__: one for one in (http, writes, memory, patterns, command, audits)}
 
 
-def program(variable, crate, name):
-    """A program that is measured."""
-    if os.environ.get(variable):
-        return os.path.abspath(os.environ[variable])
-    if os.environ.get("PREFIX"):
-        return f"{os.path.abspath(os.environ['PREFIX'])}/bin/{name}"
-    tell(f"building {name}")
-    folder = f"{os.path.dirname(BENCH)}/crates/{crate}"
-    run([os.environ.get("RT", "rt"), "run", "--", "--version"], cwd=folder, stdin=subprocess.DEVNULL)
-    return f"{folder}/out/{crate}"
-
-
 def main():
-    parser = argparse.ArgumentParser(
-        prog="bench/peers", description=__doc__, formatter_class=argparse.RawDescriptionHelpFormatter)
+    parser = parser_of(__doc__, 15)
     parser.add_argument("--only", action="append", choices=CLASSES, metavar="CLASS",
                         help="measures this class alone, or those that are named")
-    parser.add_argument("--rounds", type=int, default=15, metavar="N")
-    parser.add_argument("--quick", action="store_true")
-    words = parser.parse_args()
-    if words.rounds < 1:
-        parser.error("--rounds takes a number from 1")
-    signal.signal(signal.SIGTERM, lambda *_: sys.exit(143))
-    querier, auditor = program("QUERIER", "querier", "querier"), program("AUDITOR", "auditor_program", "auditor")
-    with House(querier, auditor) as house:
+    words = words_of(parser)
+    with House(find_program("querier"), find_program("auditor")) as house:
         for peer in PEERS:
             if not present(peer):
                 print(f"{peer} is not installed here, and left out.\n")
         table = Table()
         for name in words.only or CLASSES:
             CLASSES[name](house, table, min(3, words.rounds) if words.quick else words.rounds, words.quick)
-    print(f"\nTargets missed: {table.missed}. {os.cpu_count()} processors, load {os.getloadavg()[0]:.1f} at the end.")
+    table.done()
 
 
 if __name__ == "__main__":
-    try:
-        main()
-    except Failed as fault:
-        sys.exit(f"bench/peers: {fault}")
-    except KeyboardInterrupt:
-        sys.exit(130)
+    run_to_end(main)

@@ -1,8 +1,8 @@
 #!/usr/bin/env bash
-# run [NAME..]: builds and runs the benchmarks bench/NAME.rattle, all of them where none is named.
-# Each is a program over this repository's crates. It is built in a copy beside the repository (BENCH_HOME, or a folder
-# below TMPDIR that is kept, so that a second run proves nothing anew), so the gate never reads it. What a proof of its
-# function F needs beside it stands in bench/NAME.proofs/F/Invariants.
+# run [NAME..]: builds and runs the benchmarks bench/NAME.rattle, all of them where none is named. Each is a
+# program over this repository's crates. It is built in a copy beside the repository (BENCH_HOME, or a folder
+# below TMPDIR that is kept, so that a second run proves nothing anew), so the gate never reads it. What a
+# proof of its function F needs beside it stands in bench/NAME.proofs/F/Invariants.
 set -eu
 top=$(cd "$(dirname "$0")/.." && pwd)
 home=${BENCH_HOME:-${TMPDIR:-/tmp}/fuzzledge-bench}

@@ -1,35 +1,26 @@
 #!/usr/bin/env bash
-# serve [DIR]: measures `querier serve` by a load client of its own (bench/load.rs), one connection a request. Without a
-# directory it makes blocks of 10,000 series of 120 samples and of 100,000 of 60 (needs rustc), and measures each as a
-# block and with the same series in the head, which it fills over HTTP. For queries of one series, one in a hundred of
-# them (one job), all but one value of a label and all, it prints replies a second and the median, the 99th percentile
-# and the greatest time, with 1, 4 and 16 clients; then writes of 4,096 samples by 1, 4 and 16 clients, the queries
-# beside a writer, and the server's peak memory beside the files' size, after each number of clients and at the end.
-# QUERIER names a program that is built already; else it is built where it stands. SECONDS_EACH is how long each class
-# is asked (3); SHAPES are the blocks ("10000:120 100000:60").
+# serve [DIR]: measures `querier serve` by a load client of its own (bench/load.rs), one connection a request.
+# Without a directory it makes blocks of 10,000 series of 120 samples and of 100,000 of 60 (needs rustc), and
+# measures each as a block and with the same series in the head, which it fills over HTTP. For queries of one
+# series, one in a hundred of them (one job), all but one value of a label and all, it prints replies a second
+# and the median, the 99th percentile and the greatest time, with 1, 4 and 16 clients; then writes of 4,096
+# samples by 1, 4 and 16 clients, the queries beside a writer, and the server's peak memory beside the files'
+# size, after each number of clients and at the end. QUERIER names a program that is built already; else it is
+# built where it stands. SECONDS_EACH is how long each class is asked (3); SHAPES are the blocks ("10000:120
+# 100000:60").
 set -eu
-top=$(cd "$(dirname "$0")/.." && pwd)
-work=$(mktemp -d)
-server=
-trap '[ -z "$server" ] || kill "$server" 2>/dev/null; rm -rf "$work"' EXIT
+. "$(dirname "$0")/least.sh"
 each=${SECONDS_EACH:-3}
-if [ -z "${QUERIER:-}" ]; then
-  (cd "$top/crates/querier" && "${RT:-rt}" run -- --version >"$work/built" 2>&1) || { tail -n 20 "$work/built" >&2; exit 1; }
-  QUERIER=$top/crates/querier/out/querier
-fi
-"${RUSTC:-rustc}" -O "$top/bench/load.rs" -o "$work/load"
+find_programs querier
+compile load
 start() {
-  "$QUERIER" serve --port 0 --workers 16 "$@" >"$work/told" 2>>"$work/faults" &
-  server=$!
-  until grep -q listening "$work/told" || ! kill -0 "$server"; do sleep 0.1; done
-  port=$(sed -n 's/^listening //p' "$work/told")
+  servers=$((${servers:-0} + 1))
+  serve "server$servers" --workers 16 "$@"
 }
-peak() { echo "== peak memory $(awk '/VmHWM/ { print $2 * 1024 / 1e6 }' "/proc/$server/status") MB $1"; }
-stop() {
-  peak "$1"
-  kill "$server"
-  wait "$server" 2>/dev/null || true
-  server=
+tell_peak() { echo "== peak memory $(awk '/VmHWM/ { print $2 * 1024 / 1e6 }' "/proc/$server/status") MB $1"; }
+finish() {
+  tell_peak "$1"
+  stop "$server"
 }
 ask() { printf '%-20s' "$1"; "$work/load" "$port" "$2" "$each" get "$3"; }
 select_of() { echo "/select?selector=$1&from=0&to=4611686018427387903"; }
@@ -42,14 +33,17 @@ classes() {
   ask "all" "$1" "$(select_of '%7Bdc%3D%22main%22%7D')"
 }
 measure() {
-  peak "before a request"
+  tell_peak "before a request"
   for clients in 1 4 16; do
     classes "$clients" ""
-    peak "so far"
+    tell_peak "so far"
   done
 }
 beside_writes() {
-  for clients in 1 4 16; do printf '%-20s' "writes, $clients clients"; "$work/load" "$port" "$clients" "$each" write; done
+  for clients in 1 4 16; do
+    printf '%-20s' "writes, $clients clients"
+    "$work/load" "$port" "$clients" "$each" write
+  done
   "$work/load" "$port" 1 $((each * 6)) write >"$work/beside" &
   local writer=$!
   classes 4 "beside a writer"
@@ -57,28 +51,26 @@ beside_writes() {
   printf '%-20s' "the writer"; cat "$work/beside"
 }
 over() {
-  local bytes
-  bytes=$(cat "$1/meta.json" "$1/index" "$1/chunks/000001" "$1/tombstones" | wc -c)
   start "$1"
   measure
   beside_writes
-  stop "of files of $(awk -v b="$bytes" 'BEGIN { print b / 1e6 }') MB"
+  finish "of files of $(awk -v b="$(bytes_of "$1")" 'BEGIN { print b / 1e6 }') MB"
 }
 if [ $# -gt 0 ]; then
   over "$1"
 else
-  "${RUSTC:-rustc}" -O "$top/bench/make_block.rs" -o "$work/make_block"
+  compile make_block
   for shape in ${SHAPES:-10000:120 100000:60}; do
     series=${shape%:*} samples=${shape#*:}
     echo "== a block of $series series of $samples samples"
-    "$work/make_block" "$series" "$samples" "$work/block"
+    make_block "${series}x$samples" "$work/block"
     over "$work/block"
     rm -r "$work/block"
     echo "== the same in the head"
     start
     printf '%-20s' "filling it"; "$work/load" "$port" fill "$series" "$samples"
     measure
-    stop "with the series in the head"
+    finish "with the series in the head"
   done
 fi
-echo "faults told: $(wc -l <"$work/faults")"
+echo "faults told: $(cat "$work"/*.faults | wc -l)"

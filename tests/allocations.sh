@@ -1,48 +1,41 @@
 #!/usr/bin/env bash
-# allocations: refuses each allocation in turn, of the opening of an index, over the commits, a deletion and the cuts of a
-# store, over the way of the demo, from the two batches to the line of JSON, over that of a selection from two blocks, by
-# its threads, over the way of one connection after another, in a session of writes, a cut, a deletion and queries, and of
-# the auditor's walk, its audits and a run of it. Then it refuses each thread of a search.
-# It proves and builds the tests of two crates, and runs some of them once for each allocation that they ask for: each
-# makes the refused call again and looks at the answers, but for those that run a program. It needs a C compiler (CC).
-# Exit status 0 where each of these runs passed.
+# allocations: refuses each allocation in turn, of the opening of an index, over the commits, a deletion and
+# the cuts of a store, over the way of the demo, from the two batches to the line of JSON, over that of a
+# selection from two blocks, by its threads, over the way of one connection after another, in a session of
+# writes, a cut, a deletion and queries, and of the auditor's walk, its audits and a run of it. Then it
+# refuses each thread of a search. It proves and builds the tests of two crates, and runs some of them once
+# for each allocation that they ask for: each makes the refused call again and looks at the answers, but for
+# those that run a program. It needs a C compiler (CC). Exit status 0 if each of these runs passed.
 set -eu
-top=$(cd "$(dirname "$0")/.." && pwd)
-work=$(mktemp -d)
-trap 'rm -rf "$work"' EXIT
-"${CC:-cc}" -O2 -shared -fPIC -o "$work/refuse.so" "$top/tests/refuse.c"
+. "$(dirname "$0")/lib.sh"
+for mode in ALLOCATIONS THREADS; do
+  "${CC:-cc}" -O2 -shared -fPIC "-DREFUSE_$mode" -o "$work/$mode.so" "$top/tests/refuse.c"
+done
+# passes CRATE NAME WHAT [NUMBER]: runs a test, of which each thread or the allocation of a number is refused
 passes() {
-  # In a crate of tests alone there is no module `tests`.
-  local name=tests::$2
-  case $1 in *_tests) name=$2 ;; esac
-  REFUSE=$3 LD_PRELOAD=$work/refuse.so "$top/crates/$1/out/$1_tests" "$name" \
-    >"$work/told" 2>&1 9>"$work/asked"
+  REFUSE=${4:-0} LD_PRELOAD=$work/$3.so "$top/crates/$1/out/$1_tests" "$2" >"$work/told" 2>&1 9>"$work/asked"
 }
-failed=0
-looked=0
+# refuse_in CRATE NAME..: refuses each allocation of these tests in turn
 refuse_in() {
-  local crate=$1 name count n
+  local crate=$1 name asked n
   shift
   (cd "$top/crates/$crate" && "${RT:-rt}" test >"$work/built" 2>&1) || {
     tail -n 20 "$work/built" >&2
     exit 1
   }
   for name in "$@"; do
-    passes "$crate" "$name" 0
-    count=$(cat "$work/asked")
-    [ "${count:-0}" -gt 0 ] || {
-      echo "$name: no allocation was counted"
-      failed=$((failed + 1))
+    passes "$crate" "$name" ALLOCATIONS
+    asked=$(cat "$work/asked")
+    [ "${asked:-0}" -gt 0 ] || {
+      fails "$name: no allocation was counted"
       continue
     }
-    for ((n = 1; n <= count; n++)); do
-      if ! passes "$crate" "$name" "$n"; then
-        echo "$name: allocation $n refused: $(tail -n 1 "$work/told")"
-        failed=$((failed + 1))
-      fi
+    for ((n = 1; n <= asked; n++)); do
+      passes "$crate" "$name" ALLOCATIONS "$n" ||
+        fails "$name: allocation $n refused: $(tail -n 1 "$work/told")"
     done
-    echo "$name: $count allocations refused in turn"
-    looked=$((looked + 1))
+    echo "$name: $asked allocations refused in turn"
+    count=$((count + 1))
   done
 }
 refuse_in file_tests \
@@ -58,19 +51,12 @@ refuse_in world_tests \
   refused_memory::a_walk_refused_memory_answers_when_made_again \
   refused_memory::audits_refused_memory_answer_when_made_again \
   runs::a_program_refused_memory_says_so
-# Where each thread is refused, the calling one searches all parts, and the text is the same.
-"${CC:-cc}" -O2 -shared -fPIC -o "$work/alone.so" "$top/tests/refuse_threads.c"
-alone() {
-  LD_PRELOAD=$work/alone.so "$top/crates/store_tests/out/store_tests_tests" "$1" >"$work/told" 2>&1 9>"$work/asked"
-}
+# If each thread is refused, the calling one searches all parts, and the text is the same.
 name=serving::searches::workers_answer_as_one_thread_does_over_63_blocks_and_over_a_block_and_a_head
-if alone "$name" && [ "$(cat "$work/asked")" -gt 0 ]; then
+if passes store_tests "$name" THREADS && [ "$(cat "$work/asked")" -gt 0 ]; then
   echo "$name: $(cat "$work/asked") threads refused"
-  looked=$((looked + 1))
+  count=$((count + 1))
 else
-  echo "$name, each thread refused: $(tail -n 1 "$work/told")"
-  failed=$((failed + 1))
+  fails "$name, each thread refused: $(tail -n 1 "$work/told")"
 fi
-echo "$looked tests, $failed runs failed"
-[ "$looked" -ge 11 ] || { echo "fewer than 11 tests were looked at"; exit 1; }
-[ "$failed" = 0 ]
+concludes 11 tests

@@ -1,45 +1,30 @@
 #!/usr/bin/env bash
-# audits: pipes what the program `querier` tells through the program `auditor`, over the worked block, over that block
-# with lists that lie, and over blocks of a generator that shares no code with the crates (bench/make_block.rs, needs
-# rustc), and over the replies of a server that takes writes meanwhile (needs curl). Right answers have no flaw; answers
-# that are changed afterwards have the flaw that is named. It builds both programs where they stand (RT), or takes those
-# that QUERIER and AUDITOR name. Exit status 0 where each line is as it should be.
+# audits: pipes what the program `querier` tells through the program `auditor`, over the worked block, over
+# that block with lists that lie, and over blocks of a generator that shares no code with the crates
+# (bench/make_block.rs, needs rustc), and over the replies of a server that takes writes meanwhile (needs
+# curl). Right answers have no flaw; answers that are changed afterwards have the flaw that is named. QUERIER
+# and AUDITOR name programs that are built already; else they are built where they stand. Exit status 0 if
+# each line is as it should be.
 set -eu
-top=$(cd "$(dirname "$0")/.." && pwd)
-work=$(mktemp -d)
-trap 'rm -rf "$work"' EXIT
-build() {
-  (cd "$top/crates/$1" && "${RT:-rt}" run -- --version >"$work/built" 2>&1) || {
-    tail -n 20 "$work/built" >&2
-    exit 1
-  }
-}
-querier=${QUERIER:-$top/crates/querier/out/querier}
-auditor=${AUDITOR:-$top/crates/auditor_program/out/auditor_program}
-[ -n "${QUERIER:-}" ] || build querier
-[ -n "${AUDITOR:-}" ] || build auditor_program
-count=0
-failed=0
+. "$(dirname "$0")/lib.sh"
+needs "${RUSTC:-rustc}" curl
+find_programs querier auditor
 
 # audited STATUS LINES REPLY WORD..: the lines are joined by ", "
 audited() {
   local status=0 told
-  told=$("$auditor" "${@:4}" <"$3" 2>&1) || status=$?
+  told=$("$AUDITOR" "${@:4}" <"$3" 2>&1) || status=$?
   told=${told//$'\n'/, }
   count=$((count + 1))
   if [ "$status" != "$1" ] || [ "$told" != "$2" ]; then
-    echo "auditor ${*:4}: status $status, $told; wanted $1, $2"
-    failed=$((failed + 1))
+    fails "auditor ${*:4}: status $status, $told; wanted $1, $2"
   fi
 }
 
 # changed REPLY FROM TO: another reply, each FROM of which is TO
 changed() {
   sed "s/$2/$3/g" "$1" >"$work/changed"
-  ! cmp -s "$1" "$work/changed" || {
-    echo "no $2 in a reply"
-    failed=$((failed + 1))
-  }
+  ! cmp -s "$1" "$work/changed" || fails "no $2 in a reply"
 }
 
 # put FILE PLACE HEX..: these bytes at a place of a file
@@ -52,7 +37,7 @@ cp -r "$top/examples/good" "$work/data"
 
 up_a='up{job="a"}'
 valid='block 0: valid, head: skipped, rows: valid'
-"$querier" select --from=0 --to=100 "$up_a" "$work/data" >"$work/reply"
+"$QUERIER" select --from=0 --to=100 "$up_a" "$work/data" >"$work/reply"
 asked=(--selector "$up_a" --from=0 --to=100)
 audited 0 "$valid" "$work/reply" "${asked[@]}" "$work/data"
 changed "$work/reply" '"separators":\[4,' '"separators":['
@@ -63,7 +48,8 @@ audited 1 'block 0: F4, head: skipped, rows: valid' "$work/changed" "${asked[@]}
 cp "$work/changed" "$work/split"
 changed "$work/split" '\[4,6,7,8\]' '[4,5,6,7,8]'
 audited 1 'block 0: F5 at 0, head: skipped, rows: valid' "$work/changed" "${asked[@]}" "$work/data"
-changed "$work/reply" '{"intervals":.*"part":"block 0".*"separators":\[4,6,7,8\]}' '{"part":"block 0","skipped":true}'
+changed "$work/reply" '{"intervals":.*"part":"block 0".*"separators":\[4,6,7,8\]}' \
+  '{"part":"block 0","skipped":true}'
 audited 1 'block 0: F9, head: skipped, rows: F10' "$work/changed" "${asked[@]}" "$work/data"
 changed "$work/reply" '"verdict":0' '"verdict":1'
 audited 1 'block 0: F3, head: skipped, rows: valid' "$work/changed" "${asked[@]}" "$work/data"
@@ -77,29 +63,26 @@ changed "$work/reply" '"until":4294967296' '"until":9'
 audited 1 'block 0: F1, head: skipped, rows: valid' "$work/changed" "${asked[@]}" "$work/data"
 changed "$work/reply" '\[10,6\]' '[10,7]'
 audited 1 'block 0: F6, head: skipped, rows: valid' "$work/changed" "${asked[@]}" "$work/data"
-"$querier" select --from=20 --to=100 "$up_a" "$work/data" >"$work/reply"
-audited 0 'block 0: skipped, head: skipped, rows: valid' "$work/reply" --selector "$up_a" --from=20 --to=100 "$work/data"
+"$QUERIER" select --from=20 --to=100 "$up_a" "$work/data" >"$work/reply"
+audited 0 'block 0: skipped, head: skipped, rows: valid' "$work/reply" \
+  --selector "$up_a" --from=20 --to=100 "$work/data"
 
-# Lists that lie, their checksums right: 8 in place of 7 in the list of job="a", and the offset of another list for it.
+# Lists that lie, their checksums right: 8 in place of 7 in the list of job="a", and the offset of another
+# list for it.
 cp -r "$top/examples/lying" "$work/other-list"
 cp -r "$work/data" "$work/other-offset"
 put "$work/other-offset/index" 365 A5 02
 put "$work/other-offset/index" 386 B2 1F E4 F2
-"$querier" select --from=0 --to=100 "$up_a" "$work/data" >"$work/reply"
+"$QUERIER" select --from=0 --to=100 "$up_a" "$work/data" >"$work/reply"
 for lie in other-list other-offset; do
   audited 0 "$valid" "$work/reply" "${asked[@]}" "$work/$lie"
-  told=$("$querier" check "$work/$lie") || true
-  count=$((count + 1))
-  [ "$told" = "$work/$lie: refused I14" ] || {
-    echo "$told"
-    failed=$((failed + 1))
-  }
+  wants "check of $lie" "$work/$lie: refused I14" "$("$QUERIER" check "$work/$lie" || true)"
 done
 
 # Blocks of another maker: what is selected of both has no flaw, and with one separator less it has.
-"${RUSTC:-rustc}" -O "$top/bench/make_block.rs" -o "$work/make_block"
-"$work/make_block" 300 7 "$work/a"
-"$work/make_block" 200 130 "$work/b"
+compile make_block
+make_block 300x7 "$work/a"
+make_block 200x130 "$work/b"
 both='block 0: valid, block 1: valid, head: skipped, rows: valid'
 ranges=('--from=-4611686018427387904' '--from=1700006400000 --to=1700006430000' '--from=1700006460000')
 selectors=(
@@ -108,41 +91,25 @@ selectors=(
 )
 for range in "${ranges[@]}"; do
   for selector in "${selectors[@]}"; do
-    "$querier" select $range "$selector" "$work/a" "$work/b" >"$work/reply"
+    # shellcheck disable=SC2086
+    "$QUERIER" select $range "$selector" "$work/a" "$work/b" >"$work/reply"
     audited 0 "$both" "$work/reply" --selector "$selector" $range "$work/a" "$work/b"
     changed "$work/reply" '"separators":\[[0-9]*,\{0,1\}' '"separators":['
     audited 1 'block 0: F4, block 1: F4, head: skipped, rows: valid' "$work/changed" \
       --selector "$selector" $range "$work/a" "$work/b"
   done
 done
-"$querier" select --from=1800000000000 metric_3 "$work/a" "$work/b" >"$work/reply"
+"$QUERIER" select --from=1800000000000 metric_3 "$work/a" "$work/b" >"$work/reply"
 audited 0 'block 0: skipped, block 1: skipped, head: skipped, rows: valid' "$work/reply" \
   --selector metric_3 --from=1800000000000 "$work/a" "$work/b"
 
-# Replies of a server that takes writes meanwhile: what it tells of the block is sound, the head is not judged, and the
-# rows of all are those of its parts. After a cut the new block has no directory; after a deletion the block's files do
-# not say what the store does.
-post() {
-  curl -s -d "$2" "127.0.0.1:$port/$1"
-}
+# Replies of a server that takes writes meanwhile: what it tells of the block is sound, the head is not
+# judged, and the rows of all are those of its parts. After a cut the new block has no directory; after a
+# deletion the block's files do not say what the store does.
 ask() {
-  curl -s -G -d from="$1" -d to="$2" --data-urlencode "selector=$up_a" "127.0.0.1:$port/select" >"$work/reply"
+  curl -s -G -d from="$1" -d to="$2" --data-urlencode "selector=$up_a" "$at/select" >"$work/reply"
 }
-wants() {
-  count=$((count + 1))
-  if [ "$2" != "$3" ]; then
-    echo "$1: $3; wanted $2"
-    failed=$((failed + 1))
-  fi
-}
-"$querier" serve --port 0 --workers 4 "$work/data" >"$work/port" 2>"$work/faults" &
-server=$!
-trap 'kill "$server" 2>/dev/null || true; rm -rf "$work"' EXIT
-until grep -q '^listening' "$work/port"; do
-  kill -0 "$server" 2>/dev/null || { cat "$work/faults" >&2; exit 1; }
-  sleep 0.1
-done
-port=$(sed -n 's/^listening //p' "$work/port")
+serve asked --workers 4 "$work/data"
 for n in $(seq 21 220); do
   post write "[{\"labels\":{\"__name__\":\"up\",\"job\":\"a\"},\"samples\":[[$n,$n]]}]"
 done >"$work/wrote" &
@@ -154,8 +121,10 @@ done
 wait "$writer"
 wants "writes that were accepted" 200 "$(grep -o '{"ok":true}' "$work/wrote" | wc -l)"
 ask 20 1000
-wants "samples of the head" 200 "$(sed 's/.*"rows":/"rows":/' "$work/reply" | grep -o '\[[0-9]*,[0-9]*\]' | wc -l)"
-audited 0 'block 0: skipped, head: skipped, rows: valid' "$work/reply" --selector "$up_a" --from=20 --to=1000 "$work/data"
+wants "samples of the head" 200 \
+  "$(sed 's/.*"rows":/"rows":/' "$work/reply" | grep -o '\[[0-9]*,[0-9]*\]' | wc -l)"
+audited 0 'block 0: skipped, head: skipped, rows: valid' "$work/reply" \
+  --selector "$up_a" --from=20 --to=1000 "$work/data"
 wants "a cut" '{"ok":true}' "$(post cut '{"at":100}')"
 ask 0 1000
 audited 0 'block 0: valid, block 1: skipped, head: skipped, rows: valid' "$work/reply" \
@@ -166,7 +135,4 @@ wants "a deletion" '{"ok":true}' "$(post delete '{"from":0,"selector":"{zone=\"x
 ask 0 1000
 audited 1 'block 0: F8, block 1: skipped, head: skipped, rows: valid' "$work/reply" \
   --selector "$up_a" --from=0 --to=1000 "$work/data"
-kill "$server"
-echo "$count audits, $failed of them not as they should be"
-[ "$count" -ge 119 ] || { echo "fewer than 119 were looked at"; exit 1; }
-[ "$failed" = 0 ]
+concludes 119 audits

@@ -1,7 +1,7 @@
 #!/usr/bin/env python3
 """Runs a command, the gate if none is given, and tells where its time goes.
 
-    tests/gate-times [COMMAND ..]
+    tests/gate-times.py [COMMAND ..]
 
 Twice a second it looks at which checks and compilations of which crate the command has at work, and at the processor time
 that each has taken. When the command has ended it prints two tables on standard error. The first has, for each

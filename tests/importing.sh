@@ -1,24 +1,35 @@
 #!/usr/bin/env bash
-# importing: gives texts to `promtool tsdb create-blocks-from openmetrics`, and the blocks that it writes to blocktool. What
-# `promtool tsdb dump` prints of the inputs must be what stands in the outputs, sample for sample, as tests/read_block.py
-# reads their bytes; the auditor must find them sound. So must the blocks of a server that for a minute
-# scrapes itself and the querier. Then each bit of a small block is flipped, and each time it must be refused or give the same.
+# importing: gives texts to `promtool tsdb create-blocks-from openmetrics`, and the blocks that it writes to
+# blocktool. What `promtool tsdb dump` prints of the inputs must be what stands in the outputs, sample for
+# sample, as tests/read_block.py reads their bytes; the auditor must find them sound. So must the blocks of a
+# server that for a minute scrapes itself and the querier. Then each bit of a small block is flipped, and each
+# time it must be refused or give the same.
 #
-# It needs promtool and prometheus (Debian: prometheus), curl and python3. BLOCKTOOL, QUERIER and AUDITOR name programs that are
-# built; without BLOCKTOOL it is built where it stands, and without the other two their part is left out. LARGE=1 adds
-# 10,000 series and 100,000. Exit status 0 if all is as wanted and enough was compared.
+# It needs promtool and prometheus (Debian: prometheus), curl and python3. BLOCKTOOL, QUERIER and AUDITOR name
+# programs that are built; without BLOCKTOOL it is built where it stands, and without the other two their part
+# is left out. LARGE=1 adds 10,000 series and 100,000. Exit status 0 if all is as wanted and enough was
+# compared.
 set -eu
-top=$(cd "$(dirname "$0")/.." && pwd)
-work=$(mktemp -d)
-running=
-trap 'for one in $running; do kill "$one" 2>/dev/null || true; wait "$one" 2>/dev/null || true; done; rm -rf "$work"' EXIT
-if [ -z "${BLOCKTOOL:-}" ]; then
-  (cd "$top/crates/blocktool" && "${RT:-rt}" run -- --version >"$work/built" 2>&1) || { tail -n 20 "$work/built" >&2; exit 1; }
-  BLOCKTOOL=$top/crates/blocktool/out/blocktool
-fi
-failed=0
+. "$(dirname "$0")/lib.sh"
+needs promtool curl python3
+find_programs blocktool
+named querier || QUERIER=
+named auditor || AUDITOR=
 compared=0
-tell() { echo "FAILED: $1"; failed=$((failed + 1)); }
+tell() { fails "FAILED: $1"; }
+read_block() { python3 "$top/tests/read_block.py" "$@"; }
+last_line() { tail -n 1 "$work/told"; }
+
+# same NAME WORD..: what read_block compares must be the same
+same() {
+  if read_block "${@:2}" >"$work/same" 2>&1; then
+    echo "$1: $(cat "$work/same")"
+    compared=$((compared + $(awk '{ print $3 }' "$work/same")))
+  else
+    tail -n 2 "$work/same"
+    tell "$1: not the same"
+  fi
+}
 
 # converts BLOCK.. and compares the outputs with what promtool says of the directories TSDB..
 # convert NAME DIGITS TSDB.. -- BLOCK..; REST says what is done with other values, if not drop
@@ -29,17 +40,12 @@ convert() {
   shift
   out=$work/out-$name-$digits-$rest
   "$BLOCKTOOL" from-prometheus --decimals "$digits" --rest "$rest" --into "$out" "$@" >"$work/told" 2>&1 ||
-    tell "$name: blocktool ended with $?: $(tail -n 1 "$work/told")"
-  echo "$name, $digits digits: $(tail -n 1 "$work/told")"
-  if python3 "$top/tests/read_block.py" compare "$digits" "$rest" "$work/told" "${tsdbs[@]}" -- "$out"/0* >"$work/same" 2>&1; then
-    cat "$work/same"
-    compared=$((compared + $(awk '{ print $3 }' "$work/same")))
-  else
-    tail -n 2 "$work/same"
-    tell "$name, $digits digits: not the same"
-  fi
-  if [ -n "${QUERIER:-}" ] && [ -n "${AUDITOR:-}" ]; then
-    "$QUERIER" select '{__name__!=""}' "$out"/0* | "$AUDITOR" --selector '{__name__!=""}' "$out"/0* >"$work/said" ||
+    tell "$name: blocktool ended with $?: $(last_line)"
+  echo "$name, $digits digits: $(last_line)"
+  same "$name, $digits digits" compare "$digits" "$rest" "$work/told" "${tsdbs[@]}" -- "$out"/0*
+  if [ -n "$QUERIER" ] && [ -n "$AUDITOR" ]; then
+    "$QUERIER" select '{__name__!=""}' "$out"/0* |
+      "$AUDITOR" --selector '{__name__!=""}' "$out"/0* >"$work/said" ||
       tell "$name: the auditor ended with $?"
   fi
 }
@@ -47,48 +53,63 @@ convert() {
 # makes blocks of a text: they must hold what it writes
 # text NAME DIGITS; REST says what is done with other values, if not drop
 text() {
-  local name=$1 digits=$2 rest=${REST:-drop} out
+  local name=$1 digits=$2 rest=${REST:-drop} from=$work/$1.om out
   out=$work/text-$name-$digits-$rest
-  "$BLOCKTOOL" from-openmetrics --decimals "$digits" --rest "$rest" --into "$out" "$work/$name.om" >"$work/told" 2>&1 ||
-    tell "$name: from-openmetrics ended with $?: $(tail -n 1 "$work/told")"
-  if python3 "$top/tests/read_block.py" text "$digits" "$rest" "$work/told" "$work/$name.om" -- "$out"/0* >"$work/same" 2>&1; then
-    echo "$name, $digits digits: $(cat "$work/same")"
-    compared=$((compared + $(awk '{ print $3 }' "$work/same")))
-  else
-    tail -n 2 "$work/same"
-    tell "$name, $digits digits: not what the text writes"
-  fi
+  "$BLOCKTOOL" from-openmetrics --decimals "$digits" --rest "$rest" --into "$out" "$from" \
+    >"$work/told" 2>&1 ||
+    tell "$name: from-openmetrics ended with $?: $(last_line)"
+  same "$name, $digits digits" text "$digits" "$rest" "$work/told" "$from" -- "$out"/0*
 }
 
 # the output of promtool's block as text, and back: the same files, and the same samples in promtool
 # back NAME DIGITS
 back() {
   local name=$1 digits=$2 out=$work/out-$1-$2-drop back=$work/back-$1-$2
-  if [ -n "${QUERIER:-}" ]; then
+  if [ -n "$QUERIER" ]; then
     "$QUERIER" select '{__name__!=""}' "$out"/0* >"$work/reply"
   else
-    python3 "$top/tests/read_block.py" reply "$out"/0* >"$work/reply"
+    read_block reply "$out"/0* >"$work/reply"
   fi
-  "$BLOCKTOOL" to-openmetrics --decimals "$digits" "$work/reply" >"$back.om" || tell "$name: to-openmetrics ended with $?"
+  "$BLOCKTOOL" to-openmetrics --decimals "$digits" "$work/reply" >"$back.om" ||
+    tell "$name: to-openmetrics ended with $?"
   "$BLOCKTOOL" from-openmetrics --decimals "$digits" --into "$back" <"$back.om" >"$work/told" 2>&1 ||
-    tell "$name: its own text is refused: $(tail -n 1 "$work/told")"
+    tell "$name: its own text is refused: $(last_line)"
   diff -r "$out" "$back" >"$work/same" || tell "$name, $digits digits: other blocks out of its own text"
-  "$BLOCKTOOL" from-rows --decimals "$digits" --into "$back-rows" "$work/reply" >"$work/told" || tell "$name: from-rows ended with $?"
+  "$BLOCKTOOL" from-rows --decimals "$digits" --into "$back-rows" "$work/reply" >"$work/told" ||
+    tell "$name: from-rows ended with $?"
   diff -r "$out" "$back-rows" >"$work/same" || tell "$name, $digits digits: other blocks out of its rows"
   promtool tsdb create-blocks-from openmetrics "$back.om" "$back-tsdb" >/dev/null
-  python3 "$top/tests/read_block.py" same "$digits" "$back-tsdb" -- "$out"/0* >"$work/same" 2>&1 ||
+  read_block same "$digits" "$back-tsdb" -- "$out"/0* >"$work/same" 2>&1 ||
     tell "$name, $digits digits: promtool reads other samples: $(tail -n 1 "$work/same")"
   echo "$name, $digits digits: $(tail -n 1 "$work/same")"
 }
 
+# makes NAME COMMAND WORD..: blocktool makes $work/NAME-out of standard input or a file
+makes() {
+  "$BLOCKTOOL" "$2" --into "$work/$1-out" "${@:3}" >"$work/told" || tell "$1: $2 ended with $?: $(last_line)"
+}
+
+# says NAME PATTERN: a line of blocktool begins so
+says() {
+  grep -q "^$2" "$work/told" || tell "$1: $(cat "$work/told")"
+}
+
+# has NAME ROWS: $work/NAME-out has these rows and no others
+has() {
+  echo "{\"parts\":[],\"rows\":[$2]}" >"$work/$1-rows"
+  read_block reply "$work/$1-out"/0* | cmp - "$work/$1-rows" || tell "$1: other rows"
+}
+
 # a line that is wrong is refused: CODE PLACE TEXT
 refuse() {
-  if printf "$3" | "$BLOCKTOOL" from-openmetrics --into "$work/wrong" >"$work/told" 2>&1; then tell "not refused: $3"; fi
-  grep -qx "refused $1[: ].*(standard input, $2)" "$work/told" || tell "$3: $(cat "$work/told"), and not $1 at $2"
+  ! printf "$3" | "$BLOCKTOOL" from-openmetrics --into "$work/wrong" >"$work/told" 2>&1 ||
+    tell "not refused: $3"
+  grep -qx "refused $1[: ].*(standard input, $2)" "$work/told" ||
+    tell "$3: $(cat "$work/told"), and not $1 at $2"
   [ ! -e "$work/wrong" ] || tell "something was made of a text that is refused: $3"
 }
 
-python3 "$top/tests/read_block.py" texts "$work" ${LARGE:+large}
+read_block texts "$work" ${LARGE:+large}
 for text in "$work"/*.om; do
   name=$(basename "$text" .om)
   [ "$name" != far ] || continue # promtool reads no number of 2^1024 and more
@@ -100,10 +121,12 @@ for text in "$work"/*.om; do
   done
 done
 # lines of one series at one time, in any order: the later stands
-cat "$work/whole.om" "$work/over.om" | sed '/# EOF/d' | sort -R --random-source="$work/whole.om" >"$work/mixed"
+cat "$work/whole.om" "$work/over.om" | sed '/# EOF/d' |
+  sort -R --random-source="$work/whole.om" >"$work/mixed"
 (cat "$work/mixed"; echo '# EOF') >"$work/mixed.om"
-"$BLOCKTOOL" from-openmetrics --into "$work/mixed-out" "$work/mixed.om" >"$work/told" || tell "mixed: from-openmetrics ended with $?"
-python3 "$top/tests/read_block.py" text 0 drop "$work/told" "$work/mixed.om" -- "$work/mixed-out"/0* || tell "mixed: not what the text writes"
+makes mixed from-openmetrics "$work/mixed.om"
+read_block text 0 drop "$work/told" "$work/mixed.om" -- "$work/mixed-out"/0* ||
+  tell "mixed: not what the text writes"
 # the older text: its times are in milliseconds, and a line may be empty or any comment
 cat >"$work/older" <<'END'
 
@@ -111,26 +134,27 @@ cat >"$work/older" <<'END'
 up{a="b\\n\""} 7 1700006400250
 up{a="b\\n\""} 8 1700006400251
 END
-echo '{"parts":[],"rows":[{"labels":{"__name__":"up","a":"b\\n\""},"samples":[[1700006400250,7],[1700006400251,8]]}]}' >"$work/older-rows"
-"$BLOCKTOOL" from-openmetrics --format prometheus --into "$work/older-out" "$work/older" >"$work/told" || tell "older: ended with $?"
-python3 "$top/tests/read_block.py" reply "$work/older-out"/0* | cmp - "$work/older-rows" || tell "older: other rows"
-# what promtool accepts of it: blanks, a comma behind the last label, numbers of other forms; also without a last line feed
+makes older from-openmetrics --format prometheus "$work/older"
+has older '{"labels":{"__name__":"up","a":"b\\n\""},"samples":[[1700006400250,7],[1700006400251,8]]}'
+# what promtool accepts of it: blanks, a comma behind the last label, numbers of other forms; also without a
+# last line feed
 printf '%s\n' ' up{ a = "b" ,c="d", }  7.	1700006400250' '	up 2.5e1 1700006400251' 'up{ } .5 1700006400252' \
   'up NaN 1700006400253' 'up +infinity 1700006400254' 'up -INF 1700006400255' '  ' >"$work/forms"
-promtool check metrics <"$work/forms" >"$work/linted" 2>&1 || [ "$?" = 3 ] || tell "forms: promtool says $(head -n 1 "$work/linted")"
+promtool check metrics <"$work/forms" >"$work/linted" 2>&1 || [ "$?" = 3 ] ||
+  tell "forms: promtool says $(head -n 1 "$work/linted")"
 printf 'up 1 1700006400256' >>"$work/forms"
-echo '{"parts":[],"rows":[{"labels":{"__name__":"up"},"samples":[[1700006400251,250],[1700006400252,5],[1700006400256,10]]},{"labels":{"__name__":"up","a":"b","c":"d"},"samples":[[1700006400250,70]]}]}' >"$work/forms-rows"
-"$BLOCKTOOL" from-openmetrics --format prometheus --decimals 1 --rest drop --into "$work/forms-out" "$work/forms" >"$work/told" || tell "forms: $(cat "$work/told")"
-grep -q '^read 7 samples: 4 kept, 0 stale, 3 of other values,' "$work/told" || tell "forms: $(cat "$work/told")"
-python3 "$top/tests/read_block.py" reply "$work/forms-out"/0* | cmp - "$work/forms-rows" || tell "forms: other rows"
+makes forms from-openmetrics --format prometheus --decimals 1 --rest drop "$work/forms"
+says forms 'read 7 samples: 4 kept, 0 stale, 3 of other values,'
+forms='{"labels":{"__name__":"up"},"samples":[[1700006400251,250],[1700006400252,5],[1700006400256,10]]}'
+has forms "$forms"',{"labels":{"__name__":"up","a":"b","c":"d"},"samples":[[1700006400250,70]]}'
 # a list of rows, as the body of a write: the later stands, in any order
-echo '[{"labels":{"b":"2"},"samples":[[20,1],[10,2]]},{"labels":{"a":"1"},"samples":[[5,7]]},{"labels":{"b":"2"},"samples":[[20,3]]}]' |
-  "$BLOCKTOOL" from-rows --into "$work/list-out" >"$work/told" || tell "list: from-rows ended with $?"
-grep -q '^read 4 samples: 3 kept, 0 stale, 0 of other values, 0 deleted, 1 hidden, 0 outside;' "$work/told" || tell "list: $(cat "$work/told")"
-echo '{"parts":[],"rows":[{"labels":{"a":"1"},"samples":[[5,7]]},{"labels":{"b":"2"},"samples":[[10,2],[20,3]]}]}' >"$work/list-rows"
-python3 "$top/tests/read_block.py" reply "$work/list-out"/0* | cmp - "$work/list-rows" || tell "list: other rows"
+list='{"labels":{"b":"2"},"samples":[[20,1],[10,2]]},{"labels":{"a":"1"},"samples":[[5,7]]}'
+makes list from-rows <<<"[$list"',{"labels":{"b":"2"},"samples":[[20,3]]}]'
+says list 'read 4 samples: 3 kept, 0 stale, 0 of other values, 0 deleted, 1 hidden, 0 outside;'
+has list '{"labels":{"a":"1"},"samples":[[5,7]]},{"labels":{"b":"2"},"samples":[[10,2],[20,3]]}'
 for text in '[],"rows":[]' '{"rows":[]}' '[{"labels":{"a":"1"}}]'; do
-  if echo "$text" | "$BLOCKTOOL" from-rows --into "$work/wrong" >"$work/told" 2>&1; then tell "taken for rows: $text"; fi
+  ! echo "$text" | "$BLOCKTOOL" from-rows --into "$work/wrong" >"$work/told" 2>&1 ||
+    tell "taken for rows: $text"
   grep -qx 'refused: bad reply' "$work/told" || tell "$text: $(cat "$work/told")"
 done
 refuse P12 'line 2, column 1' 'up 1 1\n'
@@ -158,21 +182,19 @@ for digits in 0 1 9; do
   text far "$digits"
   REST=round text far "$digits"
 done
-# a value that is rounded hides an earlier one, and is hidden by a later one; what cannot be rounded hides nothing
+# a value that is rounded hides an earlier one, and is hidden by a later one; what cannot be rounded hides
+# nothing
 printf '%s\n' 'up 1 1' 'up 2.5 1' 'up 7.5 2' 'up 9 2' 'up 3 3' 'up NaN 3' '# EOF' >"$work/hiding.om"
-"$BLOCKTOOL" from-openmetrics --rest round --into "$work/hiding" "$work/hiding.om" >"$work/told" || tell "hiding: $(cat "$work/told")"
-grep -q '^read 6 samples: 3 kept, 0 stale, 1 of other values, 0 deleted, 2 hidden, 0 outside;.* 2 rounded$' "$work/told" ||
-  tell "hiding: $(cat "$work/told")"
-echo '{"parts":[],"rows":[{"labels":{"__name__":"up"},"samples":[[1000,2],[2000,9],[3000,3]]}]}' >"$work/hiding-rows"
-python3 "$top/tests/read_block.py" reply "$work/hiding"/0* | cmp - "$work/hiding-rows" || tell "hiding: other rows"
+makes hiding from-openmetrics --rest round "$work/hiding.om"
+says hiding 'read 6 samples: 3 kept, 0 stale, 1 of other values, 0 deleted, 2 hidden, 0 outside;.* 2 rounded$'
+has hiding '{"labels":{"__name__":"up"},"samples":[[1000,2],[2000,9],[3000,3]]}'
 # only what lies in the range is counted as rounded
-"$BLOCKTOOL" from-openmetrics --rest round --from 2000 --into "$work/late" "$work/hiding.om" >"$work/told" || tell "late: $(cat "$work/told")"
-grep -q '^read 6 samples: 2 kept, 0 stale, 1 of other values, 0 deleted, 1 hidden, 2 outside;.* 1 rounded$' "$work/told" ||
-  tell "late: $(cat "$work/told")"
+makes late from-openmetrics --rest round --from 2000 "$work/hiding.om"
+says late 'read 6 samples: 2 kept, 0 stale, 1 of other values, 0 deleted, 1 hidden, 2 outside;.* 1 rounded$'
 # exemplars are counted and left
 printf '%s\n' 'up 1 1 # {trace="x"} 0.5' 'up 2 2' 'up 3 3 # {} 1 1.5' '# EOF' >"$work/exemplars.om"
-"$BLOCKTOOL" from-openmetrics --into "$work/exemplars" "$work/exemplars.om" >"$work/told" || tell "exemplars: $(cat "$work/told")"
-grep -q '^read 3 samples: 3 kept, .*; 0 of histograms, 2 exemplars left;' "$work/told" || tell "exemplars: $(cat "$work/told")"
+makes exemplars from-openmetrics "$work/exemplars.om"
+says exemplars 'read 3 samples: 3 kept, .*; 0 of histograms, 2 exemplars left;'
 # a folder that holds blocks, and other directories, which are told
 mkdir -p "$work/gaps/wal" "$work/gaps/01ARZ3NDEKTSV4RRFFQ69G5FAV.tmp-for-deletion"
 convert gaps-folder 0 "$work/gaps" -- "$work/gaps"
@@ -185,48 +207,42 @@ convert whole-over 0 "$work/whole" "$work/over" -- "$work/whole"/0* "$work/over"
 convert over-whole 0 "$work/over" "$work/whole" -- "$work/over"/0* "$work/whole"/0*
 # deletions are carried out
 cp -r "$work/whole" "$work/deleted"
-for block in "$work/deleted"/0*; do python3 "$top/tests/read_block.py" delete "$block"; done
+for block in "$work/deleted"/0*; do read_block delete "$block"; done
 convert deleted 0 "$work/deleted" -- "$work/deleted"/0*
-# the blocks of a server that for a minute scrapes itself, and a querier to which a sample is written each second
+# the blocks of a server that for a minute scrapes itself, and a querier to which a sample is written each
+# second
 if command -v prometheus >/dev/null; then
-  ports=$(python3 -c '
-import socket
-both = [socket.socket(), socket.socket()]
-for one in both: one.bind(("127.0.0.1", 0))
-print(*[one.getsockname()[1] for one in both])')
-  at=127.0.0.1:${ports% *}
-  status=127.0.0.1:${ports#* }
-  if [ -n "${QUERIER:-}" ]; then
-    "$QUERIER" serve --port 0 --status-port "${status#*:}" >"$work/listening" &
-    running="$running $!"
-  fi
+  read -r port watch <<<"$(free_ports 2)"
+  prometheus=127.0.0.1:$port
+  [ -z "$QUERIER" ] || serve scraped --status-port "$watch"
   cat >"$work/server.yml" <<END
 global:
   scrape_interval: 1s
 scrape_configs:
 - job_name: self
   static_configs:
-  - targets: ["$at"]
+  - targets: ["$prometheus"]
 - job_name: querier
   static_configs:
-  - targets: ["$status"]
+  - targets: ["127.0.0.1:$watch"]
 END
-  prometheus --config.file "$work/server.yml" --storage.tsdb.path "$work/server" --web.listen-address "$at" \
-    --web.enable-admin-api >"$work/server.log" 2>&1 &
-  running="$running $!"
+  prometheus --config.file "$work/server.yml" --storage.tsdb.path "$work/server" \
+    --web.listen-address "$prometheus" --web.enable-admin-api >"$work/server.log" 2>&1 &
+  running+=("$!")
   for second in $(seq 60); do
     sleep 1
-    [ -z "${QUERIER:-}" ] || curl -s -o "$work/written" -d "[{\"labels\":{\"a\":\"b\"},\"samples\":[[$second,1]]}]" \
-      "127.0.0.1:$(sed -n 's/^listening //p' "$work/listening")/write" || tell "second $second: the querier does not reply"
+    row="{\"labels\":{\"a\":\"b\"},\"samples\":[[$second,1]]}"
+    [ -z "$QUERIER" ] || post write "[$row]" >"$work/written" ||
+      tell "second $second: the querier does not reply"
   done
-  snapshot=$(curl -sf -X POST "$at/api/v1/admin/tsdb/snapshot" | sed 's/.*"name":"\([^"]*\)".*/\1/') ||
-    tell "no snapshot of the server"
-  for one in $running; do kill "$one" 2>/dev/null || true; wait "$one" 2>/dev/null || true; done
-  running=
-  convert server 9 "$work/server/snapshots/$snapshot" -- "$work/server/snapshots/$snapshot"/0*
-  REST=round convert server-folder 9 "$work/server/snapshots/$snapshot" -- "$work/server/snapshots/$snapshot"
+  snapshot=$(curl -sf -X POST "$prometheus/api/v1/admin/tsdb/snapshot" |
+    sed 's/.*"name":"\([^"]*\)".*/\1/') || tell "no snapshot of the server"
+  stop "${running[@]}"
+  snapshot=$work/server/snapshots/$snapshot
+  convert server 9 "$snapshot" -- "$snapshot"/0*
+  REST=round convert server-folder 9 "$snapshot" -- "$snapshot"
   for job in self ${QUERIER:+querier}; do
-    scrapes=$(promtool tsdb dump --match="up{job=\"$job\"}" "$work/server/snapshots/$snapshot" | grep -c ' 1 ') || true
+    scrapes=$(promtool tsdb dump --match="up{job=\"$job\"}" "$snapshot" | grep -c ' 1 ') || true
     echo "$job: $scrapes scrapes"
     [ "$scrapes" -ge 50 ] || tell "$job: only $scrapes scrapes in a minute"
   done
@@ -234,11 +250,13 @@ else
   tell "there is no prometheus"
 fi
 # a fraction is refused unless it is asked for otherwise, and nothing is made that could be taken for a block
-if "$BLOCKTOOL" from-prometheus --into "$work/refused" "$work/odd"/0* >"$work/told" 2>&1; then tell "a fraction was not refused"; fi
+! "$BLOCKTOOL" from-prometheus --into "$work/refused" "$work/odd"/0* >"$work/told" 2>&1 ||
+  tell "a fraction was not refused"
 cat "$work/told"
 [ -z "$(ls -A "$work/refused" 2>/dev/null)" ] || tell "something stands in the directory of a refused block"
 # a directory with something in it is left alone
-if "$BLOCKTOOL" from-prometheus --into "$work/out-whole-0-drop" "$work/whole"/0* 2>"$work/told"; then tell "a full directory was taken"; fi
+! "$BLOCKTOOL" from-prometheus --into "$work/out-whole-0-drop" "$work/whole"/0* 2>"$work/told" ||
+  tell "a full directory was taken"
 # a block without its segment cannot be read
 set -- "$work/odd"/0*
 cp -r "$1" "$work/bare"
@@ -246,9 +264,10 @@ rm "$work/bare/chunks/000001"
 status=0
 "$BLOCKTOOL" from-prometheus --into "$work/bare-out" "$work/bare" 2>"$work/told" || status=$?
 [ "$status" = 3 ] || tell "a block without its segment: status $status"
-grep -qx "cannot read $work/bare/chunks/000001" "$work/told" || tell "a block without its segment: $(cat "$work/told")"
+grep -qx "cannot read $work/bare/chunks/000001" "$work/told" ||
+  tell "a block without its segment: $(cat "$work/told")"
 # each bit of a small block flipped
-python3 "$top/tests/read_block.py" change "$BLOCKTOOL" "$work/odd" "$work" || tell "a flipped bit was not told"
+read_block change "$BLOCKTOOL" "$work/odd" "$work" || tell "a flipped bit was not told"
 [ "$compared" -ge 550000 ] || tell "only $compared samples were compared"
 echo "$compared samples compared, $failed failed"
 [ "$failed" = 0 ]

@@ -1,7 +1,7 @@
 #!/usr/bin/env python3
 """pages-browser: opens pages of `explain` in headless Chromium (Debian's package `chromium`), and takes pictures.
 
-    tests/pages-browser FOLDER PAGE.html..
+    tests/pages-browser.py FOLDER PAGE.html..
 
 Each page is opened at 1200 and at 600 pixels, light and dark; the pictures are FOLDER/PAGE-WIDTH-SCHEME.png, as long as
 the page. A proxy sees all that the browser asks for: of a page it may ask for the page alone. A script, an image and a
@@ -18,17 +18,13 @@ import sys
 import tempfile
 import threading
 
+sys.dont_write_bytecode = True
+from lib import failed, holds  # noqa: E402
+
 CHROMIUM = os.environ.get("CHROMIUM", "chromium")
 PUT_IN = ('<script>document.title="ran"</script><img src="http://other.test/image.png" onerror="document.title=\'ran\'">'
           '<p style="background:url(http://other.test/style.png)">x</p><iframe src="http://other.test/frame"></iframe>')
-failed = []
 pages, asked = {}, []
-
-
-def holds(name, fact):
-    if not fact:
-        failed.append(name)
-        print("not so:", name)
 
 
 class Proxy(http.server.BaseHTTPRequestHandler):

@@ -1,7 +1,7 @@
 #!/usr/bin/env python3
 """pages-html: makes replies, has the program `explain` show each, and checks what the pages must have.
 
-    tests/pages-html [--try] [FOLDER]
+    tests/pages-html.py [--try] [FOLDER]
 
 The elements nest; nothing is fetched or run; the policy names the style's own hash; the columns of each strip meet and
 their heights sum to the strip's; each number of the reply stands in the tables; label values of any characters change
@@ -26,17 +26,12 @@ import time
 import unicodedata
 from html.parser import HTMLParser
 
-TOP = pathlib.Path(__file__).resolve().parent.parent
+sys.dont_write_bytecode = True
+from lib import TOP, failed, find_program, holds  # noqa: E402
+
 END = 1 << 32
 VOID = {"meta", "input", "br", "wbr"}
 GOOD = {name: TOP / "examples" / name for name in ("good/index", "good/chunks/000001", "good/tombstones")}
-failed = []
-
-
-def holds(name, fact):
-    if not fact:
-        failed.append(name)
-        print("not so:", name)
 
 
 # ---- cases: what the program is given, and what its page must have
@@ -79,17 +74,6 @@ def run_unproved(cases):
         case.ended = int(told[1]) if told else None
     if not outs:
         sys.exit(done.stderr.decode()[-2000:])
-
-
-def built():
-    if "EXPLAIN" in os.environ:
-        return os.path.abspath(os.environ["EXPLAIN"])
-    home = TOP / "crates" / "explain"
-    done = subprocess.run([os.environ.get("RT", "rt"), "run", "--", "--version"], cwd=home, capture_output=True,
-                          stdin=subprocess.DEVNULL)
-    if done.returncode:
-        sys.exit(done.stderr.decode()[-2000:])
-    return str(home / "out" / "explain")
 
 
 # ---- what each page must have
@@ -397,7 +381,7 @@ def main():
     if unproved:
         run_unproved(all_cases)
     else:
-        run(all_cases, built())
+        run(all_cases, find_program("explain"))
     for case in all_cases:
         checked(case)
     by_name = {case.name: case for case in all_cases}

@@ -1,7 +1,7 @@
 #!/usr/bin/env python3
 """Compares what the help texts, the man pages and the documents say, and names what one has and another lacks.
 
-    tests/pages
+    tests/pages.py
 
 It compares the commands, their usage, their options with values, choices and defaults, the codes of refusals and
 flaws, the order of these codes, the HTTP statuses, the exit statuses, the lines of `querier serve` about faults, the
@@ -18,13 +18,17 @@ import subprocess
 import sys
 import tempfile
 
-TOP = os.path.dirname(os.path.dirname(os.path.abspath(__file__)))
-PROGRAMS = {"querier": "querier", "auditor": "auditor_program", "explain": "explain", "blocktool": "blocktool"}
+sys.dont_write_bytecode = True
+from lib import CRATES, TOP, find_program  # noqa: E402
+
 INNER = {
     "querier": ["select", "check", "serve", "journal", "demo"],
-    "blocktool": ["from-prometheus", "from-openmetrics", "from-rows", "to-openmetrics", "rewrite", "add", "join", "list"],
+    "blocktool": [
+        "from-prometheus", "from-openmetrics", "from-rows", "to-openmetrics", "rewrite", "add", "join",
+        "list",
+    ],
 }
-COMMANDS = [f"{name} {inner}".strip() for name in PROGRAMS for inner in ["", *INNER.get(name, [])]]
+COMMANDS = [f"{name} {inner}".strip() for name in CRATES for inner in ["", *INNER.get(name, [])]]
 PAGES = ["querier.1", "auditor.1", "explain.1", "blocktool.1", "fuzzledge-block.5"]
 DOCUMENTS = ["SELECTORS.md", "FORMATS.md", "HTTP.md", "AUDITING.md", "OPERATING.md", "IMPORTING.md"]
 CODE = r"\b[BCEFHILMOPQTWX]\d{1,2}\b"
@@ -37,20 +41,6 @@ OF_CALLS = {"A1", "A2", "E7", "E8", "O4", "S1", "V1", "V2", "V3"}
 def read(*path):
     with open(os.path.join(TOP, *path), encoding="utf-8") as file:
         return file.read()
-
-
-def find_program(name):
-    """The path of a program, which is built if no variable names it."""
-    path, crate = os.environ.get(name.upper()), PROGRAMS[name]
-    if path:
-        return os.path.abspath(path)
-    built = subprocess.run(
-        [os.environ.get("RT", "rt"), "run", "--", "--version"],
-        cwd=os.path.join(TOP, "crates", crate), stdin=subprocess.DEVNULL, capture_output=True, text=True,
-    )
-    if built.returncode != 0:
-        sys.exit(built.stdout + built.stderr)
-    return os.path.join(TOP, "crates", crate, "out", crate)
 
 
 # what a text has
@@ -73,7 +63,9 @@ def between(text, begin, end):
 def whole_codes(text):
     """The codes between back quotes, of any letter."""
     found = re.findall(r"`([A-Z]\d{1,2})`(?: to `([A-Z]\d{1,2})`)?", text)
-    return {f"{first[0]}{n}" for first, last in found for n in range(int(first[1:]), int((last or first)[1:]) + 1)}
+    return {
+        f"{first[0]}{n}" for first, last in found for n in range(int(first[1:]), int((last or first)[1:]) + 1)
+    }
 
 
 def exit_statuses(text):
@@ -101,7 +93,11 @@ def help_usage(text):
     """The words of the usage of a help text: the name of an option, a value, and whether they may be left out."""
     line = re.search(r"^Usage: \w+(?: [a-z-]+)? ?(.*)$", text, re.M)[1]
     needed = re.findall(r"--([a-z-]+)", line)
-    words = {(name, value, name not in needed) for name, value, _ in option_lines(text) if name not in ("help", "version")}
+    words = {
+        (name, value, name not in needed)
+        for name, value, _ in option_lines(text)
+        if name not in ("help", "version")
+    }
     others = re.findall(r"([\[<])([A-Z]+)[\]>](\.\.\.)?", re.sub(r"\[OPTIONS\]|--[a-z-]+ <\w+>", "", line))
     return words | {("", value + dots, left == "[") for left, value, dots in others}
 
@@ -135,12 +131,18 @@ def man_option_items(text):
 
 def man_options(text):
     """The options that lists of a man page explain: name, value, default."""
-    return {(name, value, between(item, ".Pq default: ", "\n")) for name, value, item in man_option_items(text)}
+    return {
+        (name, value, between(item, ".Pq default: ", "\n")) for name, value, item in man_option_items(text)
+    }
 
 
 def man_choices(text):
     """The values that these options may have: name, value."""
-    return {(name, choice) for name, _, item in man_option_items(text) for choice in re.findall(r"^\.Cm (\w+)", item, re.M)}
+    return {
+        (name, choice)
+        for name, _, item in man_option_items(text)
+        for choice in re.findall(r"^\.Cm (\w+)", item, re.M)
+    }
 
 
 def man_usage(page, command):
@@ -149,7 +151,9 @@ def man_usage(page, command):
     for usage in section(page, "SYNOPSIS").split(".Nm\n")[1:]:
         if usage.startswith(begin):
             lines = re.findall(r"^\.(Op )?(?:Fl -([a-z-]+)(?: Ar (\w+))?|Ar (\w+)( \.\.\.)?)$", usage, re.M)
-            return {(name, value or word + dots.strip(), bool(left)) for left, name, value, word, dots in lines}
+            return {
+                (name, value or word + dots.strip(), bool(left)) for left, name, value, word, dots in lines
+            }
     return set()
 
 
@@ -178,7 +182,9 @@ def table_choices(document, title):
 def rows(document, title):
     """The rows of the tables below a heading of a document, each a list of cells, without their titles."""
     below = re.split("^#", between(document, f"\n## {title}\n", "\n## "), flags=re.M)[0]
-    cells = [[cell.strip() for cell in row.strip("|").split("|")] for row in re.findall(r"^\|.*\|$", below, re.M)]
+    cells = [
+        [cell.strip() for cell in row.strip("|").split("|")] for row in re.findall(r"^\|.*\|$", below, re.M)
+    ]
     return [row for row in cells if not set(row[0]) <= {"-"}]
 
 
@@ -259,7 +265,9 @@ def subjects_of_blocktool(texts):
     """What there is of blocktool alone."""
     page, importing, formats = (texts[text] for text in ("blocktool.1", "IMPORTING.md", "FORMATS.md"))
     refusals = section(page, "REFUSALS")
-    prometheus, text, own = (subsection(refusals, title) for title in ("Blocks of Prometheus", "Text", "Blocks of Fuzzledge"))
+    prometheus, text, own = (
+        subsection(refusals, title) for title in ("Blocks of Prometheus", "Text", "Blocks of Fuzzledge")
+    )
     importer = texts["blocktool from-prometheus"]
     table = table_choices(importing, "What is kept")
 
@@ -285,7 +293,10 @@ def subjects_of_blocktool(texts):
         "man": [code for code in man_items(prometheus) if code[0] == "X"],
         "FORMATS": codes(between(formats, "\n## Chunks that Prometheus wrote\n", "\n## ")),
     }
-    yield "codes of a text of metrics", {"FORMATS": document_codes(formats, "Text of metrics"), "man": man_items(text)}
+    yield "codes of a text of metrics", {
+        "FORMATS": document_codes(formats, "Text of metrics"),
+        "man": man_items(text),
+    }
     yield "codes of a text of metrics, in any order", {
         "help": set(codes(between(texts["blocktool from-openmetrics"], "is refused, with", "docs/"))),
         "man": set(man_items(text)),
@@ -302,16 +313,24 @@ def subjects_of_blocktool(texts):
     yield "the code of a block of Prometheus", {
         "IMPORTING": codes(importing.split("\n## ")[0]),
         "FORMATS": [row[0].strip("`") for row in rows(formats, "Chunks") if "blocktool" in row[1]],
-        "OPERATING": [row[0].strip("`") for row in rows(texts["OPERATING.md"], "What a refusal means") if "blocktool" in row[2]],
+        "OPERATING": [
+            row[0].strip("`")
+            for row in rows(texts["OPERATING.md"], "What a refusal means")
+            if "blocktool" in row[2]
+        ],
         "help": codes(between(texts["querier check"], "writes are refused with", ",")),
         "man": codes(between(texts["fuzzledge-block.5"], "that Prometheus wrote is refused with", ",")),
     }
     yield "codes of a store", {
         "help of join": codes_of_stores(between(texts["blocktool join"], "as by `querier serve`:", "\n")),
         "help of add": codes_of_stores(between(texts["blocktool add"], "\n`querier serve`:", "\n")),
-        "man": codes_of_stores("\n".join(re.findall(r"^\.It Cm (J.*)", subsection(refusals, "Stores"), re.M))),
+        "man": codes_of_stores(
+            "\n".join(re.findall(r"^\.It Cm (J.*)", subsection(refusals, "Stores"), re.M))
+        ),
         "man of querier": codes_of_stores("\n".join(re.findall(r"^\.It Cm (J.*)", texts["querier.1"], re.M))),
-        "OPERATING": codes_of_stores("\n".join(row[0] for row in rows(texts["OPERATING.md"], "What a refusal means"))),
+        "OPERATING": codes_of_stores(
+            "\n".join(row[0] for row in rows(texts["OPERATING.md"], "What a refusal means"))
+        ),
     }
     lines = re.findall('"(refused: [^"]*)"', texts["fault.rt"])
     yield "lines of blocktool without a code", {
@@ -350,13 +369,22 @@ def subjects_of_codes(texts):
 
     asked = codes(between(texts["querier select"], "Refusals, the first", "Exit status"))
     yield "refusals of a selection", {"help": asked, "man": man_items(subsection(refusals, ""))}
-    yield "refusals of a selector", {"help": [code for code in asked if code[0] == "M"], "SELECTORS": document_codes(selectors, "Refusals")}
+    yield "refusals of a selector", {
+        "help": [code for code in asked if code[0] == "M"],
+        "SELECTORS": document_codes(selectors, "Refusals"),
+    }
     yield "refusals of a range and of directories", {
         "help": {code for code in asked if code[0] in "QO"},
         "README": {code for code in codes(between(readme, "\n`M4` says", "\n")) if code[0] in "QO"},
     }
-    for title, file in (("Index", "index"), ("Chunks", "chunks/000001"), ("Tombstones", "tombstones"), ("Numbers and checksums", "Numbers")):
-        yield f"codes of {file}", {"FORMATS": document_codes(formats, title), "man": man_items(subsection("\n" + files, file))}
+    for title, file in (
+        ("Index", "index"), ("Chunks", "chunks/000001"), ("Tombstones", "tombstones"),
+        ("Numbers and checksums", "Numbers"),
+    ):
+        yield f"codes of {file}", {
+            "FORMATS": document_codes(formats, title),
+            "man": man_items(subsection("\n" + files, file)),
+        }
     whole = "\n".join(row[1] for row in rows(formats, "A whole block"))
     yield "the last codes of a whole block", {
         "FORMATS": [code for code in codes(whole) if code in ("T5", "B1")],
@@ -389,7 +417,10 @@ def subjects_of_codes(texts):
         "HTTP": {code for row in answers for code in codes(row[0] + row[2]) if code[0] in "HE"},
         "OPERATING": {code for code in explained if code[0] in "HE"},
     }
-    yield "flaws", {"AUDITING": document_codes(auditing, "Which flaw is reported"), "man": man_items(section(auditor, "OUTPUT"))}
+    yield "flaws", {
+        "AUDITING": document_codes(auditing, "Which flaw is reported"),
+        "man": man_items(section(auditor, "OUTPUT")),
+    }
     yield "flaws, in any order", {
         "AUDITING": set(document_codes(auditing, "Which flaw is reported")),
         "help": {code for code in codes(texts["auditor"]) if code[0] == "F"},
@@ -438,7 +469,9 @@ def complaints(texts):
 def words_to_miss(name, text):
     """The codes and options that a text has in its lists and tables."""
     if name in COMMANDS:
-        listed = re.sub(rf"(?:refused|with|of no path) \(?{CODE}|{CODE} at \d", "", text)  # without the examples
+        listed = re.sub(
+            rf"(?:refused|with|of no path) \(?{CODE}|{CODE} at \d", "", text
+        )  # without the examples
         return set(re.findall(CODE, listed)) | {f"--{option}" for option, _, _ in help_options(text)}
     if name in PAGES:
         lists = "\n".join(re.findall(r"^\.It (?:Cm|Fl) .*", text, re.M))
@@ -453,7 +486,9 @@ def lists_without_one(name, text):
     if name in COMMANDS:
         item = re.compile(r"^ +(?:-\w, +)?--[a-z-]+.*\n", re.M)
     elif name in PAGES:
-        item = re.compile(r"^\.It (?:Fl|Cm) .*\n|^\.(?:Op )?Fl -[a-z-]+ Ar \w+\n|^\.Op (?!Ar COMMAND).*\n", re.M)
+        item = re.compile(
+            r"^\.It (?:Fl|Cm) .*\n|^\.(?:Op )?Fl -[a-z-]+ Ar \w+\n|^\.Op (?!Ar COMMAND).*\n", re.M
+        )
         also = text.index("\n.Sh SEE ALSO\n")
         for one in re.compile(r"^\.Xr .*\n", re.M).finditer(text, also):
             yield one[0].strip(), text[: one.start()] + text[one.end() :]
@@ -497,7 +532,7 @@ def options_used(line):
     """The options in a line of commands, each with its command."""
     for part in line.split(" | "):
         name, inner, *_ = [*part.removeprefix("$ ").split(), "", ""]
-        if name in PROGRAMS:
+        if name in CRATES:
             command = f"{name} {inner}" if name in INNER else name
             yield from ((command, option) for option in re.findall(r" --([a-z-]+)", part))
 
@@ -528,7 +563,9 @@ def with_choices(options, choices):
 
 def completed(folder, name):
     """The options and choices that each shell completes of a program, by its commands."""
-    bash, zsh, fish = (read(folder, *path) for path in (["bash", name], ["zsh", "_" + name], ["fish", name + ".fish"]))
+    bash, zsh, fish = (
+        read(folder, *path) for path in (["bash", name], ["zsh", "_" + name], ["fish", name + ".fish"])
+    )
     for inner in INNER.get(name, [""]):
         words = between(bash, f"    {inner}) words='" if inner else " words='", "'").split()
         block = between(zsh, f"    {inner})\n", ";;") if inner else zsh
@@ -561,7 +598,9 @@ def bad_completions(texts, programs):
         for name in programs:
             for inner, shells in completed(folder, name):
                 command = f"{name} {inner}".strip()
-                wanted = with_choices((option for option, _, _ in help_options(texts[command])), help_choices(texts[command]))
+                wanted = with_choices(
+                    (option for option, _, _ in help_options(texts[command])), help_choices(texts[command])
+                )
                 for shell, found in shells.items():
                     if found != wanted:
                         yield f"{shell} completes {sorted(found)} of {command}, and its help has {sorted(wanted)}"
@@ -577,10 +616,15 @@ def run_examples(texts, programs):
         path = folder + os.pathsep + os.environ["PATH"]
         for page in PAGES:
             for command, wanted in examples(texts[page]):
-                ran = subprocess.run(command, shell=True, cwd=place, env={**os.environ, "PATH": path}, capture_output=True, text=True)
+                ran = subprocess.run(
+                    command, shell=True, cwd=place, env={**os.environ, "PATH": path}, capture_output=True,
+                    text=True,
+                )
                 count += 1
                 if ran.stdout + ran.stderr != wanted:
-                    wrong.append(f"{page}: {command}\n  prints {ran.stdout + ran.stderr!r}\n  and not {wanted!r}")
+                    wrong.append(
+                        f"{page}: {command}\n  prints {ran.stdout + ran.stderr!r}\n  and not {wanted!r}"
+                    )
     return count, wrong
 
 
@@ -601,7 +645,7 @@ def judged_by_readers():
 
 
 def main():
-    programs = {name: find_program(name) for name in PROGRAMS}
+    programs = {name: find_program(name) for name in CRATES}
     texts = {page: read("man", page) for page in PAGES}
     texts |= {document: read("docs", document) for document in DOCUMENTS} | {"README.md": read("README.md")}
     for command in COMMANDS:
@@ -610,7 +654,10 @@ def main():
         texts[command] = subprocess.run([*words, "--help"], check=True, capture_output=True, text=True).stdout
     texts["fault.rt"] = read("crates", "blocktool", "src", "fault.rt")
     documented = {code for text in (*DOCUMENTS, "README.md") for code in whole_codes(texts[text])}
-    wrong = [f"{code} is told by a source and by no document" for code in sorted(told_codes() - documented - OF_CALLS)]
+    wrong = [
+        f"{code} is told by a source and by no document"
+        for code in sorted(told_codes() - documented - OF_CALLS)
+    ]
     wrong += [*complaints(texts), *bad_examples(texts), *bad_completions(texts, programs)]
     print(f"{len(list(subjects(texts)))} subjects were compared")
     if not wrong:

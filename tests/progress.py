@@ -1,12 +1,12 @@
 #!/usr/bin/env python3
 """Looks at what `querier` tells a terminal of the directories that it reads, and that nothing else depends on it.
 
-    tests/progress
+    tests/progress.py
 
 It runs `check`, `select` and `serve` with a terminal as standard error, with and without --quiet, and with a file in
-place of the terminal. The terminal is told of each directory once, or with --quiet of none, and the file of none;
-standard output and the exit status are the same each time. The program is the one that QUERIER names, or else is built
-where its crate stands (RT).
+place of the terminal. The terminal is told of each directory once, or with --quiet of none, and the file of
+none; standard output and the exit status are the same each time. The program is the one that QUERIER names, or
+else is built where its crate stands (RT).
 """
 import os
 import pty
@@ -14,24 +14,12 @@ import subprocess
 import sys
 import tempfile
 
-TOP = os.path.dirname(os.path.dirname(os.path.abspath(__file__)))
+sys.dont_write_bytecode = True
+from lib import TOP, find_program  # noqa: E402
+
 DIRECTORIES = ["examples/" + "./" * number + "good" for number in range(9)]
 SERVE = ["serve", "--port", "0", "--workers", "1", "--requests", "0"]
 LINES = [["check"], ["select", "up"], SERVE]
-
-
-def querier():
-    """The path of the program, which is built if no variable names it."""
-    if "QUERIER" in os.environ:
-        return os.path.abspath(os.environ["QUERIER"])
-    folder = os.path.join(TOP, "crates", "querier")
-    built = subprocess.run(
-        [os.environ.get("RT", "rt"), "run", "--", "--version"],
-        cwd=folder, stdin=subprocess.DEVNULL, capture_output=True, text=True,
-    )
-    if built.returncode != 0:
-        sys.exit(built.stdout + built.stderr)
-    return os.path.join(folder, "out", "querier")
 
 
 def run(words, stderr):
@@ -81,7 +69,7 @@ def complaints(program, line, directories):
 
 
 def main():
-    program = querier()
+    program = find_program("querier")
     found = [text for line in LINES for some in ([], DIRECTORIES[:1], DIRECTORIES) if some or line != ["check"]
              for text in complaints(program, line, some)]
     print("\n".join(found + [f"{len(found)} complaints"]))

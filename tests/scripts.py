@@ -1,7 +1,7 @@
 #!/usr/bin/env python3
 """scripts: runs the scripts of tests/ that this machine has the programs for, and tells which ran, failed or were left out.
 
-    tests/scripts [NAME ..]
+    tests/scripts.py [NAME ..]
 
 It builds `querier`, `auditor`, `explain` and `blocktool` once (RT), or takes those that QUERIER, AUDITOR, EXPLAIN and
 BLOCKTOOL name, and hands them to the scripts. JOBS scripts run side by side (half of the processors if it is not set);
@@ -27,7 +27,7 @@ BESIDE = [
     ("importing", "promtool prometheus curl python3", None),
     ("pages", "python3", None),
     ("pages-html", "python3", None),
-    ("pages-browser", "chromium", 'tests/pages-html "$WORK" && tests/pages-browser "$WORK" "$WORK"/*.html'),
+    ("pages-browser", "chromium", 'tests/pages-html.py "$WORK" && tests/pages-browser.py "$WORK" "$WORK"/*.html'),
     ("browser", "chromium curl python3", None),
     ("progress", "python3", None),
     ("readme", "curl python3", None),

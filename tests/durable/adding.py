@@ -7,11 +7,11 @@ import shutil
 import signal
 import subprocess
 
-from durable_blocks import row, session
-from durable_house import (
-    OK, Batch, Cut, Deletion, Head, Looks, World, contents_of, equals, journal, read, recovered, refused, run, set_of, tree,
+from blocks import row, session
+from house import (
+    OK, Batch, Cut, Deletion, Head, World, contents_of, equals, journal, lines_of, read, recovered, refused, run, set_of, tree,
 )
-from durable_joining import CALLS, ERRORS, Joins, hinders, lines_of, refusals_in
+from joining import CALLS, ERRORS, Joins, hinders, refusals_in
 
 
 def part_of(rows):
@@ -286,8 +286,7 @@ def failing(them, looks):
             looks.that(f"{what}: there is a {kind.lower()}", count or kind in ("CUT", "REMOVE"))
 
 
-def adding(querier, others, preload, work):
-    looks = Looks("adding")
+def adding(looks, querier, others, preload, work):
     them = Adds(looks, querier, others, preload, work)
     lives(them, looks)
     deleted(them, looks)
@@ -297,5 +296,3 @@ def adding(querier, others, preload, work):
         failing(them, looks)
     else:
         looks.say("no library could be made: no call fails, and none is the last")
-    looks.done()
-    return looks

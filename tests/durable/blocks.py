@@ -4,8 +4,8 @@ import os
 import shutil
 import signal
 
-from durable_house import (
-    OK, Batch, Cut, Deletion, Head, Looks, Server, World, differences, equals, journal, read, recovered, rolled, run, tree,
+from house import (
+    OK, Batch, Cut, Deletion, Folders, Head, Server, World, differences, equals, journal, read, recovered, rolled, run, tree,
 )
 from read_block import block as read_block
 
@@ -27,14 +27,7 @@ def session():
     ]
 
 
-class Blocks:
-    def __init__(self, looks, querier, preload, work):
-        self.looks, self.querier, self.preload, self.work, self.count = looks, querier, preload, work, 0
-
-    def folder(self):
-        self.count += 1
-        return f"{self.work}/blocks{self.count}"
-
+class Blocks(Folders):
     def start(self, folder, *words, **env):
         if env:
             env = {"LD_PRELOAD": self.preload, "FOLDER": folder, **{name: str(value) for name, value in env.items()}}
@@ -347,8 +340,7 @@ def strangers(them, looks):
     looks.at("check of the blocks", (0, 3), (lambda done: (done[0], done[1].count(": ok ")))(run([them.querier, "check", *names])))
 
 
-def blocks(querier, preload, work):
-    looks = Looks("blocks")
+def blocks(looks, querier, preload, work):
     them = Blocks(looks, querier, preload, work)
     cuts(them, looks)
     long_journals(them, looks)
@@ -360,5 +352,3 @@ def blocks(querier, preload, work):
         failing(them, looks)
     else:
         looks.say("there is no C compiler: starts that are killed or fail are left")
-    looks.done()
-    return looks

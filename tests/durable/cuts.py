@@ -1,14 +1,14 @@
 """A server that cuts by itself: at which times, what it refuses from then on, what it tells, what is kept, and that without
 --cut-every nothing is cut. What is due is reckoned here from the sentence of docs/OPERATING.md."""
 import os
-import socket
 import struct
 import time
 import urllib.request
 
-from durable_house import (
-    LEAST, MOST, OK, Batch, Cut, Deletion, Looks, Server, World, equals, read, recovered, refused, run,
+from house import (
+    LEAST, MOST, OK, Batch, Cut, Deletion, Server, World, equals, read, recovered, refused, run,
 )
+from lib import free_port
 
 
 def labels(**more):
@@ -48,12 +48,6 @@ def wait_for(looks, what, server, world, seconds=20):
              [sorted(map(repr, part.items())) for part in server.select()[0]])
 
 
-def free():
-    with socket.socket() as one:
-        one.bind(("127.0.0.1", 0))
-        return one.getsockname()[1]
-
-
 def counts(status):
     with urllib.request.urlopen(f"http://127.0.0.1:{status}/metrics", timeout=60) as reply:
         return dict(line.rsplit(" ", 1) for line in reply.read().decode().splitlines() if line[0] != "#")
@@ -82,7 +76,7 @@ def session():
 
 def times(looks, querier, words, what):
     """A session, event by event; where a store is kept, it is there after a new start."""
-    status = free()
+    status = free_port()
     server, world, cuts = Server(querier, "--cut-every", str(EVERY), "--status-port", str(status), *words), World(), []
     if not looks.that(f"{what}: it starts", server.wait(), server.told):
         return world, cuts
@@ -152,8 +146,8 @@ def one_word(looks, querier):
         status, out, told = run([querier, "serve", "--port", "0", f"--cut-every={word}"])
         looks.at(f"--cut-every={word}", (2, "", True), (status, out, "--cut-every <MS>" in told))
     for words, room in [(("--workers", "64"), False), (("--workers", "63"), True),
-                        (("--workers", "63", "--status-port", str(free())), False),
-                        (("--workers", "62", "--status-port", str(free())), True)]:
+                        (("--workers", "63", "--status-port", str(free_port())), False),
+                        (("--workers", "62", "--status-port", str(free_port())), True)]:
         server = Server(querier, "--cut-every", "1000", *words)
         wanted = (True, -9, "") if room else (False, 1, "refused O2")
         looks.at(f"--cut-every with {' '.join(words)[:30]}", wanted, (server.wait(), server.end(), server.told))
@@ -220,7 +214,7 @@ def cpu_of(process):
 
 def ends(looks, querier):
     """A server of few connections ends, though it cuts."""
-    for words in [(), ("--status-port", str(free()))]:
+    for words in [(), ("--status-port", str(free_port()))]:
         server = Server(querier, "--workers", "2", "--requests", "1", "--cut-every", "1000", *words)
         server.wait()
         looks.at("a write", OK, server.tell(up((5000, 1))))
@@ -250,13 +244,10 @@ def never(looks, querier, block):
     server.end()
 
 
-def cuts(querier, preload, work, block):
-    looks = Looks("cuts")
+def cuts(looks, querier, preload, work, block):
     times(looks, querier, (), "in memory")
     kept(looks, querier, work)
     one_word(looks, querier)
     refusals(looks, querier, preload, work)
     ends(looks, querier)
     never(looks, querier, block)
-    looks.done()
-    return looks

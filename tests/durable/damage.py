@@ -4,8 +4,8 @@ import concurrent.futures
 import os
 import random
 
-from durable_house import (
-    LEAST, MOST, NEW, NOTHING, OK, Batch, Cut, Deletion, Head, Looks, Server, checksum, differences, equals, journal, read,
+from house import (
+    LEAST, MOST, NEW, NOTHING, OK, Batch, Cut, Deletion, Head, Server, checksum, differences, equals, journal, read,
     record, recovered, run, short, text_of, tree, uvarint, varint, world_of,
 )
 
@@ -278,8 +278,8 @@ class Served:
         self.looks.at(f"{what}: a start", (1, f"refused {code}", True), (status, server.told, tree(folder) == before), tell=False)
 
 
-def damage(querier, work, seed):
-    looks, chance = Looks("damage"), random.Random(f"{seed} damage")
+def damage(looks, querier, work, seed):
+    chance = random.Random(f"{seed} damage")
     looks.say(f"SEED={seed}")
     few, many = few_events(), many_events(chance)
     small, large = (written(looks, querier, f"{work}/{name}", events) for name, events in [("few", few), ("many", many)])
@@ -324,5 +324,3 @@ def damage(querier, work, seed):
         served.front(f"the large one cut to {length}", large[:length], front_of(of_many, length),
                      of_many[front_of(of_many, length)])
     looks.say(f"{served.count} starts over the large one")
-    looks.done()
-    return looks

@@ -1,8 +1,8 @@
 """Events of each kind at their bounds: what is acknowledged is in the journal byte for byte, and a start says the same."""
 import os
 
-from durable_house import (
-    LEAST, MOST, OK, OPERATORS, Batch, Cut, Deletion, Head, Looks, Server, World, differences, equals, journal, read,
+from house import (
+    LEAST, MOST, OK, OPERATORS, Batch, Cut, Deletion, Head, Server, World, differences, equals, journal, read,
     recovered, refused, rolled,
 )
 
@@ -128,13 +128,10 @@ def patterns(looks, querier, work):
 
 
 
-def events(querier, work):
-    looks = Looks("events")
+def events(looks, querier, work):
     server, world = kept(looks, querier, f"{work}/bounds", list(bounds()), "events at their bounds")
     for event in [Batch([(labels(), [(MOST, 2)])]), Batch([(labels(), [(MOST - 1, 1)])]), Cut(MOST)]:
         looks.at(f"after them: {event.line()}", world.judged(event), server.tell(event))
     server.end()
     blocks(looks, querier, work)
     patterns(looks, querier, work)
-    looks.done()
-    return looks

@@ -3,15 +3,15 @@ seen by nobody, queries go on, and a new start has all that was acknowledged."""
 import contextlib
 import os
 import shutil
-import socket
 import struct
 import subprocess
 import threading
 import urllib.request
 
-from durable_house import (
-    NOT_KEPT, OK, Batch, Cut, Deletion, Looks, Server, World, differences, equals, journal, read, run, tree,
+from house import (
+    NOT_KEPT, OK, Batch, Cut, Deletion, Folders, Server, World, differences, equals, journal, read, run, tree,
 )
+from lib import free_port
 
 ERRORS = {"EIO": 5, "ENOSPC": 28, "EROFS": 30, "EDQUOT": 122}
 NOBODY = 65534
@@ -40,14 +40,7 @@ def is_cannot(server):
     return bool(server.told_err) and server.told_err[-1].startswith("cannot ")
 
 
-class Faults:
-    def __init__(self, looks, querier, preload, work):
-        self.looks, self.querier, self.preload, self.work, self.count = looks, querier, preload, work, 0
-
-    def folder(self):
-        self.count += 1
-        return f"{self.work}/faults{self.count}"
-
+class Faults(Folders):
     def start(self, folder, *words, **fails):
         env = {"LD_PRELOAD": self.preload, "FOLDER": folder, "KEPT": f"{folder}.kept"}
         env |= {name: str(value) for name, value in fails.items()}
@@ -224,9 +217,7 @@ def several(faults, looks):
     server.wait()
     writes = faults.counts(probe)[0]
     server.end()
-    with socket.socket() as one:
-        one.bind(("127.0.0.1", 0))
-        status = one.getsockname()[1]
+    status = free_port()
     server = faults.start(folder, "--status-port", str(status), FAIL_WRITE=f"{writes + 20},10", FAIL_WITH=28)
     server.wait()
     replies = [[] for _ in range(4)]
@@ -405,8 +396,7 @@ def read_only(faults, looks, work):
                 looks.at("a file system that is read-only", (3, True), (server.end(), server.told.startswith("cannot ")))
 
 
-def faults(querier, preload, work):
-    looks = Looks("faults")
+def faults(looks, querier, preload, work):
     if preload is None:
         looks.say("there is no C compiler: faults are left, but for a full disk and read-only folders")
     them = Faults(looks, querier, preload, work)
@@ -418,5 +408,3 @@ def faults(querier, preload, work):
         several(them, looks)
     full(them, looks, work)
     read_only(them, looks, work)
-    looks.done()
-    return looks

@@ -4,8 +4,8 @@ import contextlib
 import os
 import signal
 
-from durable_house import (
-    NEW, OK, Batch, Cut, Deletion, Looks, Server, World, equals, journal, read, recovered, run, tree,
+from house import (
+    NEW, OK, Batch, Cut, Deletion, Server, World, equals, journal, lines_of, read, recovered, run, tree,
 )
 
 
@@ -253,10 +253,6 @@ def calls(looks, querier, preload, work):
         events = [up((5, 5)), Deletion([equals("suite", "durable")], 2, 2), Cut(4)]
 
 
-def lines_of(path):
-    return read(path).decode().splitlines()
-
-
 def short_of(lines):
     """Lines of which none stands twice in a row."""
     return [line for n, line in enumerate(lines) if not n or line != lines[n - 1]]
@@ -268,8 +264,7 @@ def is_within(wanted, lines):
     return all(line in rest for line in wanted)
 
 
-def folders(querier, preload, work, blocks):
-    looks = Looks("folders")
+def folders(looks, querier, preload, work, blocks):
     one_server(looks, querier, work)
     at_once(looks, querier, work)
     new_folders(looks, querier, work)
@@ -277,5 +272,3 @@ def folders(querier, preload, work, blocks):
     options(looks, querier, work)
     calls(looks, querier, preload, work)
     in_memory(looks, querier, preload, work, blocks)
-    looks.done()
-    return looks

@@ -1,15 +1,14 @@
-"""What tests/durable knows: events and the bytes of a journal as docs/FORMATS.md has them, what a store says after events,
-servers that are started and killed, and the count of what was looked at. Nothing here is taken from the program."""
-import contextlib
+"""What the parts know: events and the bytes of a journal as docs/FORMATS.md has them, what a store says after
+events, servers that are started and killed, and the count of what was looked at. Nothing here is taken from the
+program."""
 import http.client
 import json
 import os
-import signal
 import subprocess
-import sys
-import threading
 import time
 import urllib.parse
+
+from lib import Running
 
 LEAST, MOST = -(2**62), 2**62 - 1
 OK = (200, {"ok": True})
@@ -376,77 +375,11 @@ class Lost(Exception):
         self.sent = sent
 
 
-class Server:
-    """A program that serves; `told` is what it wrote on standard error."""
-
-    running = set()
+class Server(Running):
+    """`querier serve` on a free port."""
 
     def __init__(self, querier, *words, env=None, cwd=None, before=()):
-        self.told_out, self.told_err = [], []
-        self.process = subprocess.Popen(
-            [*before, querier, "serve", "--port", "0", *words],
-            stdin=subprocess.DEVNULL, stdout=subprocess.PIPE, stderr=subprocess.PIPE, cwd=cwd,
-            env={**os.environ, **(env or {})},
-        )
-        Server.running.add(self.process)
-        self.listens = threading.Event()
-        self.readers = [
-            threading.Thread(target=self.read, args=(pipe, lines), daemon=True)
-            for pipe, lines in [(self.process.stdout, self.told_out), (self.process.stderr, self.told_err)]
-        ]
-        for reader in self.readers:
-            reader.start()
-        self.port = None
-
-    def read(self, pipe, lines):
-        for line in pipe:
-            lines.append(line.decode(errors="replace").rstrip("\n"))
-            if lines is self.told_out:
-                self.listens.set()
-        if lines is self.told_out:
-            self.listens.set()
-
-    def wait(self, seconds=600):
-        """Waits until it listens, or has ended; whether it listens."""
-        if not self.listens.wait(seconds):
-            raise AssertionError(f"no line of the server in {seconds} s")
-        lines = [line for line in self.told_out if line.startswith("listening ")]
-        self.port = int(lines[0].split()[1]) if lines else None
-        return self.port is not None
-
-    @property
-    def told(self):
-        return "\n".join(self.told_err)
-
-    def first_lines(self, count):
-        """Its first lines on standard error, for which it has two seconds."""
-        for _ in range(200):
-            if len(self.told_err) >= count:
-                break
-            time.sleep(0.01)
-        return self.told_err[:count]
-
-    def first_told(self):
-        return "".join(self.first_lines(1))
-
-    def end(self, how=signal.SIGKILL):
-        """Kills it if it runs, and says its exit status."""
-        if self.process.poll() is None:
-            self.process.send_signal(how)
-        return self.ended()
-
-    def ended(self, seconds=120):
-        """Waits until it has ended: its exit status, or the number of the signal, negative."""
-        try:
-            status = self.process.wait(seconds)
-        except subprocess.TimeoutExpired:
-            self.process.kill()
-            status = self.process.wait()
-            self.told_err.append(f"(it did not end in {seconds} s)")
-        for reader in self.readers:
-            reader.join(5)
-        Server.running.discard(self.process)
-        return status
+        super().__init__([*before, querier, "serve", "--port", "0", *words], env, cwd)
 
     def exchange(self, method, target, body=None):
         """The status of a reply and its body, over a connection of its own."""
@@ -475,6 +408,17 @@ class Server:
         return [rows_in(part["rows"]) for part in reply["parts"]], rows_in(reply["rows"])
 
 
+class Folders:
+    """New folders of a part, each below the part's own."""
+
+    def __init__(self, looks, querier, preload, work):
+        self.looks, self.querier, self.preload, self.work, self.count = looks, querier, preload, work, 0
+
+    def folder(self):
+        self.count += 1
+        return f"{self.work}/{self.looks.name}{self.count}"
+
+
 def recovered(count, torn=0, blocks=0):
     """What a start says first."""
     over = f"{blocks} block{'' if blocks == 1 else 's'}, " if blocks else ""
@@ -486,13 +430,6 @@ def rolled(folder, head):
     """What a start says that began the journal anew with this head."""
     blocks = len(head.numbers)
     return f"rolled {folder}/journal: {blocks} block{'' if blocks == 1 else 's'}, {len(head.series)} series"
-
-
-def kill_all():
-    for process in list(Server.running):
-        with contextlib.suppress(OSError):
-            process.kill()
-        process.wait()
 
 
 def piped(words, text):
@@ -567,6 +504,11 @@ def read(path):
         return file.read()
 
 
+def lines_of(path):
+    """The lines of a trace."""
+    return read(path).decode().splitlines()
+
+
 def tree(folder):
     """Each file below a folder with its bytes, but for the lock."""
     found = {}
@@ -578,7 +520,3 @@ def tree(folder):
             if os.path.relpath(path, folder) != "lock":
                 found[os.path.relpath(path, folder)] = read(path)
     return found
-
-
-def tell(line):
-    print(line, file=sys.stderr, flush=True)

@@ -11,10 +11,10 @@ import signal
 import subprocess
 import urllib.parse
 
-from durable_blocks import Blocks, row, session
-from durable_faults import NOBODY, mounted
-from durable_house import (
-    LEAST, MOST, OK, Batch, Cut, Deletion, Head, Looks, World, contents_of, equals, journal, piped, read, record,
+from blocks import Blocks, row, session
+from faults import NOBODY, mounted
+from house import (
+    LEAST, MOST, OK, Batch, Cut, Deletion, Head, World, contents_of, equals, journal, lines_of, piped, read, record,
     recovered, refused, rows_in, run, tree,
 )
 
@@ -277,10 +277,6 @@ def large(them, looks):
     held = tree(folder)
     looks.at("halves: once more", (0, f"{folder}: 2 blocks, none joined\n", ""), them.join(folder))
     looks.that("halves: nothing changed", tree(folder) == held)
-
-
-def lines_of(path):
-    return read(path).decode().splitlines()
 
 
 def is_made(line):
@@ -685,8 +681,7 @@ def script(them, looks, work, path):
     looks.at("the script: the blocks of another user's folder", 1, len(them.numbers(folder)))
 
 
-def joining(querier, others_of, preload, work, path):
-    looks = Looks("joining")
+def joining(looks, querier, others_of, preload, work, path):
     them = Joins(looks, querier, others_of, preload, work)
     lives(them, looks)
     many(them, looks)
@@ -701,5 +696,3 @@ def joining(querier, others_of, preload, work, path):
         failing(them, looks)
     else:
         looks.say("there is no C compiler: joins that are killed or fail are left")
-    looks.done()
-    return looks

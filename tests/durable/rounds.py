@@ -8,8 +8,8 @@ import struct
 import threading
 import time
 
-from durable_house import (
-    LEAST, MOST, OK, Batch, Cut, Deletion, Head, Looks, Lost, Server, World, contents_of, differences, equals, piped, read,
+from house import (
+    LEAST, MOST, OK, Batch, Cut, Deletion, Head, Lost, Server, World, contents_of, differences, equals, piped, read,
     recovered, refused, rolled, run,
 )
 
@@ -361,8 +361,7 @@ def begins(looks, programs, preload, work, count, seed):
     looks.say(f"{count} servers were killed while they began a journal")
 
 
-def rounds(programs, preload, work, count, seed):
-    looks = Looks("rounds")
+def rounds(looks, programs, preload, work, count, seed):
     looks.say(f"{count} of them, SEED={seed}" + ("" if preload else ", without cuts of the power, since there is no C compiler"))
     begins(looks, programs, preload, work, max(1, count // 5), seed)
     store = server = None
@@ -403,5 +402,3 @@ def rounds(programs, preload, work, count, seed):
             store = None
     if server is not None:
         server.end()
-    looks.done()
-    return looks

@@ -6,9 +6,9 @@ import shutil
 import signal
 import time
 
-from durable_blocks import Blocks
-from durable_house import (
-    OK, Batch, Cut, Deletion, Head, Looks, Lost, World, contents_of, differences, equals, read, recovered,
+from blocks import Blocks
+from house import (
+    OK, Batch, Cut, Deletion, Head, Lost, World, contents_of, differences, equals, lines_of, read, recovered,
 )
 
 WORDS = ("--journal-mb", "1")
@@ -91,7 +91,7 @@ def same(server, world):
 
 def is_of_roll(trace):
     """Whether the last call of a server, before which it was killed, was one of a roll."""
-    lines = [line for line in read(trace).decode().splitlines() if line != "reply"]
+    lines = [line for line in lines_of(trace) if line != "reply"]
     return bool(lines) and lines[-1].split()[1].startswith(("journal.next", "blocks"))
 
 
@@ -207,8 +207,7 @@ def rounds(them, looks, count, seed):
     looks.say(f"{count} rounds, {rolls} journals begun anew while the server ran")
 
 
-def running(querier, preload, work, count, seed):
-    looks = Looks("running")
+def running(looks, querier, preload, work, count, seed):
     them = Blocks(looks, querier, preload, work)
     grows(them, looks)
     rounds(them, looks, count, seed)
@@ -217,5 +216,3 @@ def running(querier, preload, work, count, seed):
         failing(them, looks)
     else:
         looks.say("there is no C compiler: servers that are killed at a call are left")
-    looks.done()
-    return looks
