@@ -1,19 +1,19 @@
 #!/usr/bin/env python3
-"""durable [--folder FOLDER] [--rounds N] [--quick]: measures `querier serve` with --data and without, in one run.
+"""durable [--folder FOLDER] [--rounds N] [--quick]: measures `querier serve` with --data and without.
 
-It starts both on free ports of 127.0.0.1, the first over a new folder below FOLDER (TMPDIR), which has to be on a real disk,
-and prints one table as Markdown, in ratios, with what one fdatasync of 4 kB takes there:
-  writes    4,096 samples of 256 series by one client and four, 100 samples by 16 clients, each in turn with the server
-            without --data
+In one run it starts both on free ports of 127.0.0.1, the first over a new folder below FOLDER (TMPDIR), which
+has to be on a real disk, and prints one table as Markdown, in ratios, with what one fdatasync of 4 kB takes
+there:
+  writes    4,096 samples of 256 series by one client and four, 100 samples by 16 clients, each in turn with
+            the server without --data
   reads     of one series by four clients, while nobody writes
   bytes     the journal beside the bodies of the requests
   start     the samples of a journal that a start replays in a second, less what a start over nothing takes
 Rates are medians of N turns of a second (5). A target that is missed is told.
 
-QUERIER names a program that is built already (or PREFIX, where make install put it); else it is built where it stands.
-It needs rustc. All that it makes is removed at the end.
-Exit status: 0 if all was measured, 1 if something did not run, 2 for words that it does not know, 130 or 143 if it was
-interrupted."""
+QUERIER names a program that is built already (or PREFIX, where make install put it); else it is built where
+it stands. It needs rustc. All that it makes is removed at the end. Exit status: 0 if all was measured, 1 if
+something did not run, 2 for words that it does not know, 130 or 143 if it was interrupted."""
 import json
 import os
 import shutil
@@ -92,13 +92,17 @@ def writes(house, table, rounds):
             million = series * samples / 1e6
             ratio = here / beside
             clients_told = "one client" if clients == 1 else f"{clients} clients"
-            table.row(f"{work}, {clients_told}", f"{here * million:.2f}", f"{beside * million:.2f}", f"{ratio:.2f}",
-                      f"{least} and more" if least else "", not least or ratio >= least)
+            table.row(
+                f"{work}, {clients_told}", f"{here * million:.2f}", f"{beside * million:.2f}", f"{ratio:.2f}",
+                f"{least} and more" if least else "", not least or ratio >= least,
+            )
             if clients == 16:
                 times = sync_times(house.disk, 100)
                 each = 1e3 / statistics.mean(times)
-                table.row("the same, replies a second, beside one `fdatasync` each", f"{here:,.0f}", f"{each:,.0f}",
-                          f"{here / each:.2f}", "5 and more", here / each >= 5)
+                table.row(
+                    "the same, replies a second, beside one `fdatasync` each", f"{here:,.0f}", f"{each:,.0f}",
+                    f"{here / each:.2f}", "5 and more", here / each >= 5,
+                )
 
 
 def reads(house, table, rounds):
@@ -137,8 +141,10 @@ def sizes(house, table):
                 sent += len(body)
                 urllib.request.urlopen(f"http://127.0.0.1:{server.port}/write", body, 60).close()
             grown, count = os.path.getsize(f"{folder}/journal") - before, 5 * series * samples
-        table.row(f"{series * samples:,} samples of {series:,} series", f"{grown / count:.1f}", f"{sent / count:.1f}",
-                  f"{grown / sent:.2f}", "1.2", grown / sent <= 1.2)
+        table.row(
+            f"{series * samples:,} samples of {series:,} series", f"{grown / count:.1f}",
+            f"{sent / count:.1f}", f"{grown / sent:.2f}", "1.2", grown / sent <= 1.2,
+        )
 
 
 def start_of(house, folder):
@@ -171,9 +177,14 @@ def starts(house, table, rounds, quick):
         found = [start_of(house, folder) for _ in range(min(3, rounds))]
         took = min(seconds for seconds, _ in found)
         rate = count / max(took - alone, 1e-3) / 1e6
-        table.row(f"{count:,} samples: {work}", f"{rate:.2f}",
-                  f"{took:.2f} (over nothing {alone:.2f}), {size:.0f} MB, {max(peak for _, peak in found):.0f} MB", "",
-                  "2 million" if fill else "", not fill or rate >= 2)
+        table.row(
+            f"{count:,} samples: {work}",
+            f"{rate:.2f}",
+            f"{took:.2f} (over nothing {alone:.2f}), {size:.0f} MB, {max(peak for _, peak in found):.0f} MB",
+            "",
+            "2 million" if fill else "",
+            not fill or rate >= 2,
+        )
         shutil.rmtree(folder)
 
 
@@ -187,8 +198,10 @@ def main():
     rounds = min(2, words.rounds) if words.quick else words.rounds
     with Data(find_program("querier"), words.folder) as house:
         times = sorted(sync_times(house.disk, 50 if words.quick else 200))
-        print(f"One `fdatasync` of 4 kB in {words.folder} ({kind}): {milli(statistics.median(times))} ms, mean "
-              f"{milli(statistics.mean(times))}, 99th {milli(times[len(times) * 99 // 100])}.\n")
+        print(
+            f"One `fdatasync` of 4 kB in {words.folder} ({kind}): {milli(statistics.median(times))} ms, mean "
+            f"{milli(statistics.mean(times))}, 99th {milli(times[len(times) * 99 // 100])}.\n"
+        )
         table = Table()
         writes(house, table, rounds)
         reads(house, table, rounds)

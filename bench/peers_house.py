@@ -1,5 +1,5 @@
-"""What bench/peers.py and bench/durable.py start and measure: programs, and servers on 127.0.0.1 over the same
-samples."""
+"""What bench/peers.py and bench/durable.py start and measure: programs, and servers on 127.0.0.1 over the
+same samples."""
 import argparse
 import contextlib
 import os
@@ -79,8 +79,8 @@ class Cost:
         self.times, self.peak = [], 0.0
 
     def add(self, words, out="/dev/null", given="/dev/null", processors=None):
-        """One run more, on so many processors. The script stays small, since the peak that the system tells of
-        a child is never below its parent's."""
+        """One run more, on so many processors. The script stays small, since the peak that the system tells
+        of a child is never below its parent's."""
         everywhere = os.sched_getaffinity(0)
         files = [(os.POSIX_SPAWN_OPEN, 0, given, os.O_RDONLY, 0),
                  (os.POSIX_SPAWN_OPEN, 1, out, os.O_WRONLY | os.O_CREAT | os.O_TRUNC, 0o600)]

@@ -5,7 +5,7 @@
 # built where it stands. Exit status 0 if each of the three servers has what is wanted.
 set -eu
 . "$(dirname "$0")/lib.sh"
-needs chromium curl python3
+needs "${CHROMIUM:-chromium}" curl python3
 find_programs querier
 (umask 077 && printf 's3cret\n' >"$work/token")
 # a form with plain text sends its name, an equals sign and its value: together a batch of two rows
@@ -38,7 +38,7 @@ shows() {
   python3 "$work/page.py" "$port" >"$work/site" &
   running+=("$!")
   until [ -s "$work/site" ]; do sleep 0.1; done
-  timeout 60 chromium --headless --no-sandbox --disable-gpu --user-data-dir="$work/profile" \
+  timeout 60 "${CHROMIUM:-chromium}" --headless --no-sandbox --disable-gpu --user-data-dir="$work/profile" \
     --virtual-time-budget=3000 --dump-dom "http://127.0.0.1:$(cat "$work/site")/" \
     >"$work/shown" 2>/dev/null || true
   [ "$(curl -s "$at/select?selector=up&from=0&to=9")" = "$none" ] && got=no

@@ -3,11 +3,12 @@
 
     tests/gate-times.py [COMMAND ..]
 
-Twice a second it looks at which checks and compilations of which crate the command has at work, and at the processor time
-that each has taken. When the command has ended it prints two tables on standard error. The first has, for each
-crate, the processor seconds of its proof, of the proofs of its tests, of its must-fail edits and of the compilation of a
-program, and from which minute to which they were at work. The second has the same by kind, the minutes in which nothing
-was proved or compiled (tests and programs ran then), and the minutes of the whole. The exit status is the command's.
+Twice a second it looks at which checks and compilations of which crate the command has at work, and at the
+processor time that each has taken. When the command has ended it prints two tables on standard error. The
+first has, for each crate, the processor seconds of its proof, of the proofs of its tests, of its must-fail
+edits and of the compilation of a program, and from which minute to which they were at work. The second has
+the same by kind, the minutes in which nothing was proved or compiled (tests and programs ran then), and the
+minutes of the whole. The exit status is the command's.
 """
 import collections
 import os
@@ -55,7 +56,8 @@ def is_call(words):
 
 
 def at_work(top):
-    """The calls of the prover that run below a process: for each its number and start, crate, kind and processor seconds."""
+    """The calls of the prover that run below a process: for each its number and start, crate, kind and
+    processor seconds."""
     for entry in filter(str.isdigit, os.listdir("/proc")):
         try:
             words = words_of(entry)
@@ -97,17 +99,24 @@ def main():
     print("\nProcessor seconds, and from which minute to which.\n", file=sys.stderr)
     tell("Crate", "Proof", "Tests", "Edits", "Programs", "From", "Until")
     tell(*["---"] * 7)
-    for crate in sorted({it[0] for it in first}, key=lambda it: min(first[task] for task in first if task[0] == it)):
+    for crate in sorted(
+        {it[0] for it in first}, key=lambda it: min(first[task] for task in first if task[0] == it)
+    ):
         mine = [it for it in first if it[0] == crate]
         ends = min(first[it] for it in mine), max(last[it] for it in mine)
-        tell(f"`{crate}`", *(round(seconds[crate, kind]) for kind in KINDS), *(f"{it / 60:.1f}" for it in ends))
+        tell(
+            f"`{crate}`", *(round(seconds[crate, kind]) for kind in KINDS), *(f"{it / 60:.1f}" for it in ends)
+        )
     print("", file=sys.stderr)
     tell("Kind", "Processor seconds")
     tell("---", "---")
     for kind in KINDS:
         tell(kind, round(sum(spent for task, spent in seconds.items() if task[1] == kind)))
     tell("all", round(sum(seconds.values())))
-    print(f"\nNothing proved or compiled: {idle / 60:.1f} minutes. The whole: {whole / 60:.1f} minutes.", file=sys.stderr)
+    print(
+        f"\nNothing proved or compiled: {idle / 60:.1f} minutes. The whole: {whole / 60:.1f} minutes.",
+        file=sys.stderr,
+    )
     return running.returncode
 
 

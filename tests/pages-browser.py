@@ -1,13 +1,13 @@
 #!/usr/bin/env python3
-"""pages-browser: opens pages of `explain` in headless Chromium (Debian's package `chromium`), and takes pictures.
+"""pages-browser: opens pages of `explain` in headless Chromium (Debian: chromium), and takes pictures.
 
     tests/pages-browser.py FOLDER PAGE.html..
 
-Each page is opened at 1200 and at 600 pixels, light and dark; the pictures are FOLDER/PAGE-WIDTH-SCHEME.png, as long as
-the page. A proxy sees all that the browser asks for: of a page it may ask for the page alone. A script, an image and a
-style that are put into a copy of the page by hand neither run nor are fetched, since the policy in its head forbids it;
-in a copy without the policy the script runs and the image is fetched, so the test can tell. CHROMIUM names the program.
-Exit status 0 if all holds.
+Each page is opened at 1200 and at 600 pixels, light and dark; the pictures are FOLDER/PAGE-WIDTH-SCHEME.png,
+as long as the page. A proxy sees all that the browser asks for: of a page it may ask for the page alone. A
+script, an image and a style that are put into a copy of the page by hand neither run nor are fetched, since
+the policy in its head forbids it; in a copy without the policy the script runs and the image is fetched, so
+the test can tell. CHROMIUM names the program. Exit status 0 if all holds.
 """
 import http.server
 import os
@@ -22,8 +22,12 @@ sys.dont_write_bytecode = True
 from lib import failed, holds  # noqa: E402
 
 CHROMIUM = os.environ.get("CHROMIUM", "chromium")
-PUT_IN = ('<script>document.title="ran"</script><img src="http://other.test/image.png" onerror="document.title=\'ran\'">'
-          '<p style="background:url(http://other.test/style.png)">x</p><iframe src="http://other.test/frame"></iframe>')
+PUT_IN = (
+    '<script>document.title="ran"</script>'
+    '<img src="http://other.test/image.png" onerror="document.title=\'ran\'">'
+    '<p style="background:url(http://other.test/style.png)">x</p>'
+    '<iframe src="http://other.test/frame"></iframe>'
+)
 pages, asked = {}, []
 
 
@@ -50,11 +54,16 @@ class Proxy(http.server.BaseHTTPRequestHandler):
 def chromium(url, port, *words):
     with tempfile.TemporaryDirectory() as home:
         done = subprocess.run(
-            [CHROMIUM, "--headless=new", "--no-sandbox", "--disable-gpu", "--hide-scrollbars", "--no-first-run",
-             "--disable-background-networking", "--disable-component-update", "--disable-sync", "--disable-extensions",
-             "--disable-default-apps", "--disable-domain-reliability", "--no-pings", f"--user-data-dir={home}",
-             f"--proxy-server=http://127.0.0.1:{port}", "--proxy-bypass-list=<-loopback>", *words, url],
-            capture_output=True, timeout=120)
+            [
+                CHROMIUM, "--headless=new", "--no-sandbox", "--disable-gpu", "--hide-scrollbars",
+                "--no-first-run", "--disable-background-networking", "--disable-component-update",
+                "--disable-sync", "--disable-extensions", "--disable-default-apps",
+                "--disable-domain-reliability", "--no-pings", f"--user-data-dir={home}",
+                f"--proxy-server=http://127.0.0.1:{port}", "--proxy-bypass-list=<-loopback>", *words, url,
+            ],
+            capture_output=True,
+            timeout=120,
+        )
     return done.stdout.decode(errors="replace")
 
 
@@ -104,8 +113,10 @@ def main():
             for scheme, number in (("light", 1), ("dark", 0)):
                 picture = folder / f"{path.stem}-{width}-{scheme}.png"
                 _, others, opened = fetched(
-                    path.name, page, port, f"--screenshot={picture}", f"--window-size={width},{height_of(page, width)}",
-                    f"--blink-settings=preferredColorScheme={number}")
+                    path.name, page, port, f"--screenshot={picture}",
+                    f"--window-size={width},{height_of(page, width)}",
+                    f"--blink-settings=preferredColorScheme={number}",
+                )
                 holds(f"{path.stem}: opened", opened and picture.exists())
                 holds(f"{path.stem}: nothing is fetched, but {others}", not others)
                 cut(picture)
@@ -117,7 +128,9 @@ def main():
         bare = re.sub(r"<meta http-equiv[^>]*>", "", changed, count=1)
         told, others, opened = fetched("bare-" + path.name, bare, port, "--dump-dom")
         holds(f"{path.stem}: without the policy the script runs", "<title>ran</title>" in told)
-        holds(f"{path.stem}: without the policy the image is fetched", any("image.png" in one for one in others))
+        holds(
+            f"{path.stem}: without the policy the image is fetched", any("image.png" in one for one in others)
+        )
         print(path.stem, "opened")
     print(f"{len(failed)} failed")
     return 1 if failed else 0

@@ -3,14 +3,15 @@
 
     tests/pages-html.py [--try] [FOLDER]
 
-The elements nest; nothing is fetched or run; the policy names the style's own hash; the columns of each strip meet and
-their heights sum to the strip's; each number of the reply stands in the tables; label values of any characters change
-neither elements nor each other; a page claims that no series is missing exactly if the reply was not damaged; with the
-block's directory each part carries its judgement; the texts for a terminal fit 80 columns; and pages stay small.
+The elements nest; nothing is fetched or run; the policy names the style's own hash; the columns of each strip
+meet and their heights sum to the strip's; each number of the reply stands in the tables; label values of any
+characters change neither elements nor each other; a page claims that no series is missing exactly if the
+reply was not damaged; with the block's directory each part carries its judgement; the texts for a terminal
+fit 80 columns; and pages stay small.
 
-It takes the program that EXPLAIN names, or builds it where it stands (RT), with --try with no proof. The replies of the
-files REPLIES/NAME.json are tried too, if REPLIES names a folder: NAME.args has the selector and the two times, a line
-each. In FOLDER the pages are left. Exit status 0 if all holds.
+It takes the program that EXPLAIN names, or builds it where it stands (RT), with --try with no proof. The
+replies of the files REPLIES/NAME.json are tried too, if REPLIES names a folder: NAME.args has the selector
+and the two times, a line each. In FOLDER the pages are left. Exit status 0 if all holds.
 """
 import base64
 import hashlib
@@ -43,14 +44,20 @@ class Case:
     def __init__(self, name, reply, words, status=0, checks=()):
         self.name, self.words, self.status, self.checks = name, words, status, checks
         self.reply = None if isinstance(reply, bytes) else reply
-        self.text = reply if isinstance(reply, bytes) else json.dumps(reply, ensure_ascii=False, separators=(",", ":")).encode()
+        self.text = (
+            reply
+            if isinstance(reply, bytes)
+            else json.dumps(reply, ensure_ascii=False, separators=(",", ":")).encode()
+        )
         self.out, self.err, self.ended, self.took = b"", b"", None, 0
 
 
 def run(cases, program):
     for case in cases:
         began = time.monotonic()
-        done = subprocess.run([program, *case.words], input=case.text, capture_output=True, cwd=TOP / "examples")
+        done = subprocess.run(
+            [program, *case.words], input=case.text, capture_output=True, cwd=TOP / "examples"
+        )
         case.took = time.monotonic() - began
         case.out, case.err, case.ended = done.stdout, done.stderr, done.returncode
 
@@ -70,7 +77,9 @@ def run_unproved(cases):
     outs = dict(zip((name.decode() for name in parts[1::2]), parts[2::2]))
     for case in cases:
         case.out = outs.get(case.name, b"")
-        told = re.search(rb"(?m)^case=%s .*?status=(\d+)" % re.escape(case.name.encode()), done.stderr + done.stdout)
+        told = re.search(
+            rb"(?m)^case=%s .*?status=(\d+)" % re.escape(case.name.encode()), done.stderr + done.stdout
+        )
         case.ended = int(told[1]) if told else None
     if not outs:
         sys.exit(done.stderr.decode()[-2000:])
@@ -88,7 +97,9 @@ class Elements(HTMLParser):
 
     def handle_starttag(self, tag, attributes):
         for key, value in attributes:
-            holds(f"{self.name}: no {key}", not key.startswith("on") and key not in ("style", "src", "action"))
+            holds(
+                f"{self.name}: no {key}", not key.startswith("on") and key not in ("style", "src", "action")
+            )
             holds(f"{self.name}: a link within", key != "href" or value.startswith("#"))
         if tag not in VOID:
             self.open.append(tag)
@@ -147,7 +158,10 @@ def policy(name, page):
     head = page.split("<style>")[0]
     holds(f"{name}: the policy names the style", f"style-src 'sha256-{digest}'" in head)
     holds(f"{name}: the policy lets nothing be fetched", "default-src 'none'" in head)
-    holds(f"{name}: the policy stands first", head.index("charset") < head.index("Policy") < head.index("viewport"))
+    holds(
+        f"{name}: the policy stands first",
+        head.index("charset") < head.index("Policy") < head.index("viewport"),
+    )
     low = re.sub(r"&lt;[^&]*", "", page.lower())
     for word in ("<script", "http:", "https:", "javascript:", "@import", "url(h"):
         holds(f"{name}: no {word}", word not in low)
@@ -169,7 +183,9 @@ def numbers(name, page, reply):
 
 
 def checked(case):
-    holds(f"{case.name}: status {case.ended}, wanted {case.status} {case.err[:200]}", case.ended == case.status)
+    holds(
+        f"{case.name}: status {case.ended}, wanted {case.status} {case.err[:200]}", case.ended == case.status
+    )
     page = case.out.decode()
     if "--text" in case.words:
         width = lambda line: sum(2 if unicodedata.east_asian_width(c) in "WF" else 1 for c in line)
@@ -217,10 +233,17 @@ def part(name, count, rng, matchers, apart=7, every=5, start=1, most=40):
         verdict = "match" if i % every == 0 else "none" if i % every == 1 else rng.randrange(matchers)
         intervals.append({"from": at, "until": until, "verdict": verdict})
         if verdict == "match":
-            samples = [[1700000000000 + 15000 * k, rng.randrange(-50, 50)] for k in range(rng.randrange(1, most))]
+            samples = [
+                [1700000000000 + 15000 * k, rng.randrange(-50, 50)] for k in range(rng.randrange(1, most))
+            ]
             rows.append({"labels": {"__name__": "up", "i": f"{i:06}"}, "samples": samples})
         at = until
-    return {"part": name, "intervals": intervals, "rows": rows, "separators": [one["from"] for one in intervals]}
+    return {
+        "part": name,
+        "intervals": intervals,
+        "rows": rows,
+        "separators": [one["from"] for one in intervals],
+    }
 
 
 def reply_of(parts):
@@ -236,16 +259,24 @@ def damaged(reply):
     one = copy(); del one["rows"][0]; yield "merged-row-missing", one
     one = copy(); one["rows"][0]["samples"][0][1] += 1; yield "changed-value", one
     one = copy(); del one["parts"][0]["separators"][0]; yield "separator-missing", one
-    one = copy(); one["parts"][0]["separators"][0] = one["parts"][0]["intervals"][0]["until"]; yield "separator-moved", one
+    one = copy()
+    one["parts"][0]["separators"][0] = one["parts"][0]["intervals"][0]["until"]
+    yield "separator-moved", one
     one = copy(); one["parts"][0]["intervals"][2]["verdict"] = 9; yield "no-such-matcher", one
 
 
-HOSTILE = ["<", ">", "&", '"', "'", "\\", "\n", "\0", "\t", "\u202e", "\u2028", "]]>", "<!--", "-->", "</code>",
-           "</style>", "</title>", "<script>", "&lt;", "&#39;", "\ufeff", "é", "東", "\U0001f600", "\u0300", "`", "=",
-           "{", "}", "\x7f", "\x85", "\U000e0041", "\U0010ffff"]
-UNSEEN = [(0, 31), (127, 159), (173, 173), (0x61C, 0x61C), (0x115F, 0x1160), (0x180E, 0x180E), (0x200B, 0x200F),
-          (0x2028, 0x202E), (0x2060, 0x206F), (0x3164, 0x3164), (0xFE00, 0xFE0F), (0xFEFF, 0xFEFF), (0xFFA0, 0xFFA0),
-          (0xFFF0, 0xFFFB), (0xE0000, 0xE0FFF)]
+HOSTILE = [
+    "<", ">", "&", '"', "'", "\\", "\n", "\0", "\t", "\u202e", "\u2028", "]]>", "<!--", "-->", "</code>",
+    "</style>", "</title>", "<script>", "&lt;",
+    "&#39;",
+    "\ufeff", "é", "東", "\U0001f600", "\u0300", "`", "=", "{", "}", "\x7f", "\x85", "\U000e0041",
+    "\U0010ffff",
+]
+UNSEEN = [
+    (0, 31), (127, 159), (173, 173), (0x61C, 0x61C), (0x115F, 0x1160), (0x180E, 0x180E), (0x200B, 0x200F),
+    (0x2028, 0x202E), (0x2060, 0x206F), (0x3164, 0x3164), (0xFE00, 0xFE0F), (0xFEFF, 0xFEFF),
+    (0xFFA0, 0xFFA0), (0xFFF0, 0xFFFB), (0xE0000, 0xE0FFF),
+]
 
 
 def read(text):
@@ -269,7 +300,9 @@ def hostile(rng):
     same = lambda name, page: plain.append(elements(name, page).all)
     yield Case("plain", of_values(["x", "y", "z"]), ["--selector", "up"], checks=[same])
     for turn in range(60):
-        values = sorted("".join(rng.choice(HOSTILE) for _ in range(rng.randrange(0, 12))) + str(i) for i in range(3))
+        values = sorted(
+            "".join(rng.choice(HOSTILE) for _ in range(rng.randrange(0, 12))) + str(i) for i in range(3)
+        )
         reply = of_values(values)
         wanted = ['up{a="' + read(row["labels"]["a"]) + '"}' for row in reply["rows"]]
 
@@ -282,8 +315,12 @@ def hostile(rng):
     yield Case("long", of_values(["x" * 10000]), ["--selector", "up"],
                checks=[has("x" * 120, "+9,880 characters"), lacks("x" * 121)])
     seen = lambda name, page: holds(f"{name}: at most sixteen boxes", page.count("U+202E</i>") == 16)
-    yield Case("unseen", of_values(["\u202e" * 40]), ["--selector", "up"], checks=[seen, has("+24 characters")])
-    escape = lambda name, page: holds(f"{name}: no escape sequence", "\x1b" not in page and "\u202e" not in page)
+    yield Case(
+        "unseen", of_values(["\u202e" * 40]), ["--selector", "up"], checks=[seen, has("+24 characters")]
+    )
+    escape = lambda name, page: holds(
+        f"{name}: no escape sequence", "\x1b" not in page and "\u202e" not in page
+    )
     yield Case("escapes", of_values(["\x1b[2J\u202e" * 3]), ['--selector', 'up{a!="\x1b[31m"}', "--text",
                "--about", 'up{a="\x1b[2J"}'], checks=[escape])
 
@@ -308,13 +345,20 @@ def about(reply):
 def judged():
     """The worked answer of the README over its block, as it is, skipped, and lied about."""
     readme = (TOP / "README.md").read_text()
-    found = lambda command: re.search(re.escape(f"$ querier select {command}\n") + r"\s+(\{.*\})", readme)[1].encode()
+    found = lambda command: re.search(re.escape(f"$ querier select {command}\n") + r"\s+(\{.*\})", readme)[
+        1
+    ].encode()
     answer = found("--from=0 --to=100 'up{job=\"a\"}' good")
     skip = found("--to=100 --from=20 'up{job=\"a\"}' good")
     words = ["--selector", 'up{job="a"}', "--to=100"]
-    yield Case("worked", answer, [*words, "--from=0"], checks=[has("by the certificates below"), lacks("auditor found")])
-    yield Case("worked-judged", answer, [*words, "--from=0", "good"],
-               checks=[has("The auditor found no flaw.", "block 0: valid", '<span class="v">&quot;<bdi>b</bdi>')])
+    yield Case(
+        "worked", answer, [*words, "--from=0"],
+        checks=[has("by the certificates below"), lacks("auditor found")],
+    )
+    yield Case(
+        "worked-judged", answer, [*words, "--from=0", "good"],
+        checks=[has("The auditor found no flaw.", "block 0: valid", '<span class="v">&quot;<bdi>b</bdi>')],
+    )
     yield Case("worked-about", answer, [*words, "--from=0", "--about", 'up{job="b"}', "good"],
                checks=[has("rejects these labels")])
     yield Case("skip-judged", skip, [*words, "--from=20", "good"], checks=[has("block 0: skipped")])
@@ -369,7 +413,9 @@ def cases(rng):
     yield from about(reply)
     yield from given()
     for name, text in (("no-reply", b"{}"), ("half-a-reply", b'{"parts":[],'), ("no-text", b"\xff")):
-        yield Case(name, text, two, status=3, checks=[lambda name, page: holds(f"{name}: no page", page == "")])
+        yield Case(
+            name, text, two, status=3, checks=[lambda name, page: holds(f"{name}: no page", page == "")]
+        )
     yield Case("large", reply_of([part("block 0", 100000, rng, 2, every=2, most=10)]), two)
     yield Case("again", reply, two)
 

@@ -1,15 +1,17 @@
 #!/usr/bin/env python3
-"""Compares what the help texts, the man pages and the documents say, and names what one has and another lacks.
+"""pages: compares what the help texts, the man pages and the documents say.
+
+It names what one has and another lacks.
 
     tests/pages.py
 
-It compares the commands, their usage, their options with values, choices and defaults, the codes of refusals and
-flaws, the order of these codes, the HTTP statuses, the exit statuses, the lines of `querier serve` about faults, the
-lines of `blocktool` without a code, and what shells complete. It runs the commands of the man pages that begin with
-`$`, and compares what they print; of the other examples it looks at the options. It takes each option and each code out
-of one text at a time, and wants this to be noticed. The programs are those that QUERIER, AUDITOR, EXPLAIN and BLOCKTOOL
-name, or else are built where their crates stand (RT). mandoc and man are asked about the man pages if they are there.
-Exit status 0 if all texts agree.
+It compares the commands, their usage, their options with values, choices and defaults, the codes of refusals
+and flaws, the order of these codes, the HTTP statuses, the exit statuses, the lines of `querier serve` about
+faults, the lines of `blocktool` without a code, and what shells complete. It runs the commands of the man
+pages that begin with `$`, and compares what they print; of the other examples it looks at the options. It
+takes each option and each code out of one text at a time, and wants this to be noticed. The programs are
+those that QUERIER, AUDITOR, EXPLAIN and BLOCKTOOL name, or else are built where their crates stand (RT).
+mandoc and man are asked about the man pages if they are there. Exit status 0 if all texts agree.
 """
 import os
 import re
@@ -90,7 +92,8 @@ def help_choices(text):
 
 
 def help_usage(text):
-    """The words of the usage of a help text: the name of an option, a value, and whether they may be left out."""
+    """The words of the usage of a help text: the name of an option, a value, and whether they may be left
+    out."""
     line = re.search(r"^Usage: \w+(?: [a-z-]+)? ?(.*)$", text, re.M)[1]
     needed = re.findall(r"--([a-z-]+)", line)
     words = {
@@ -146,7 +149,8 @@ def man_choices(text):
 
 
 def man_usage(page, command):
-    """The words of a synopsis of a man page: the name of an option, a value, and whether they may be left out."""
+    """The words of a synopsis of a man page: the name of an option, a value, and whether they may be left
+    out."""
     begin = f".Cm {command.split()[1]}\n" if " " in command else ".Fl "
     for usage in section(page, "SYNOPSIS").split(".Nm\n")[1:]:
         if usage.startswith(begin):
@@ -158,7 +162,8 @@ def man_usage(page, command):
 
 
 def usage(document, command):
-    """The same of the first usage of a command in a document, which is a line of code or stands between back quotes."""
+    """The same of the first usage of a command in a document, which is a line of code or stands between back
+    quotes."""
     place = r"[A-Z]+(?:\.\.\.| (?=[A-Z])|(?=[`\n]))"
     found = re.search(rf"(?:^    |`){command} ((?:\[--|--[a-z-]+ [A-Z]|{place})[^`\n<]*)", document, re.M)
     words = re.findall(r"(\[?)(?:--([a-z-]+)(?: ([A-Z]+))?|([A-Z]+))\]?(\.\.\.)?", found[1] if found else "")
@@ -166,7 +171,8 @@ def usage(document, command):
 
 
 def table_choices(document, title):
-    """The options that begin rows of the tables below a heading of a document, each with its choices, the default first."""
+    """The options that begin rows of the tables below a heading of a document, each with its choices, the
+    default first."""
     found = {}
     for row in rows(document, title):
         for word in re.findall("`([^`]*)`", row[0]):
@@ -482,7 +488,8 @@ def words_to_miss(name, text):
 
 
 def lists_without_one(name, text):
-    """What stands in a list, a table, a usage or among the other pages of a text, each with the text without it."""
+    """What stands in a list, a table, a usage or among the other pages of a text, each with the text without
+    it."""
     if name in COMMANDS:
         item = re.compile(r"^ +(?:-\w, +)?--[a-z-]+.*\n", re.M)
     elif name in PAGES:
@@ -499,8 +506,8 @@ def lists_without_one(name, text):
 
 
 def missed(texts):
-    """What can be taken out of one text without a complaint, and how much was tried: words, wherever they stand in it, and
-    single places of lists."""
+    """What can be taken out of one text without a complaint, and how much was tried: words, wherever they
+    stand in it, and single places of lists."""
     tried, unnoticed = 0, []
     for name, text in texts.items():
         words = sorted(words_to_miss(name, text))
@@ -538,7 +545,8 @@ def options_used(line):
 
 
 def bad_examples(texts):
-    """What is wrong with examples that are not run: a help text ends in one, and each option is one of its command."""
+    """What is wrong with examples that are not run: a help text ends in one, and each option is one of its
+    command."""
     lines = [line for page in PAGES for text in shown(texts[page]) for line in text.split("\n")]
     for command in COMMANDS:
         example = re.search(r"\n\nExample: (.*)\n$", texts[command])
@@ -603,7 +611,8 @@ def bad_completions(texts, programs):
                 )
                 for shell, found in shells.items():
                     if found != wanted:
-                        yield f"{shell} completes {sorted(found)} of {command}, and its help has {sorted(wanted)}"
+                        has = f"and its help has {sorted(wanted)}"
+                        yield f"{shell} completes {sorted(found)} of {command}, {has}"
 
 
 def run_examples(texts, programs):

@@ -1,12 +1,12 @@
 #!/usr/bin/env python3
-"""Looks at what `querier` tells a terminal of the directories that it reads, and that nothing else depends on it.
+"""progress: looks at what `querier` tells a terminal of the directories that it reads.
 
     tests/progress.py
 
-It runs `check`, `select` and `serve` with a terminal as standard error, with and without --quiet, and with a file in
-place of the terminal. The terminal is told of each directory once, or with --quiet of none, and the file of
-none; standard output and the exit status are the same each time. The program is the one that QUERIER names, or
-else is built where its crate stands (RT).
+It runs `check`, `select` and `serve` with a terminal as standard error, with and without --quiet, and with a
+file in place of the terminal. The terminal is told of each directory once, or with --quiet of none, and the
+file of none; standard output and the exit status are the same each time. The program is the one that QUERIER
+names, or else is built where its crate stands (RT).
 """
 import os
 import pty
@@ -70,8 +70,13 @@ def complaints(program, line, directories):
 
 def main():
     program = find_program("querier")
-    found = [text for line in LINES for some in ([], DIRECTORIES[:1], DIRECTORIES) if some or line != ["check"]
-             for text in complaints(program, line, some)]
+    found = [
+        text
+        for line in LINES
+        for some in ([], DIRECTORIES[:1], DIRECTORIES)
+        if some or line != ["check"]
+        for text in complaints(program, line, some)
+    ]
     print("\n".join(found + [f"{len(found)} complaints"]))
     return 1 if found else 0
 

@@ -1,6 +1,6 @@
-/* Preloaded into a program, refuses its allocation number REFUSE, counted from 1 over all threads (0: none), if
-   it is compiled with REFUSE_ALLOCATIONS, or each thread, with REFUSE_THREADS. If file descriptor 9 is open, it
-   tells there how many of them were asked for. */
+/* Preloaded into a program, refuses its allocation number REFUSE, counted from 1 over all threads (0:
+   none), if it is compiled with REFUSE_ALLOCATIONS, or each thread, with REFUSE_THREADS. If file
+   descriptor 9 is open, it tells there how many of them were asked for. */
 #include <errno.h>
 #include <pthread.h>
 #include <stdio.h>

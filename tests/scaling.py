@@ -1,13 +1,13 @@
 #!/usr/bin/env python3
-"""scaling: asks four queriers over the quarters of a block, and compares their rows with those of one querier.
+"""scaling: asks four queriers over the quarters of a block, and one over the whole of it.
 
-Each of the four has a quarter of the series of one block (cut by the label `job`). A front asks all four and joins
-their rows. The rows must be those of the querier over the whole block, and the auditor must find each of the four
-replies valid for its own directory (docs/SCALING.md says what that means).
+Each of the four has a quarter of the series of one block (cut by the label `job`). A front asks all four and
+joins their rows. The rows must be those of the querier over the whole block, and the auditor must find each
+of the four replies valid for its own directory (docs/SCALING.md says what that means).
 
-QUERIER and AUDITOR name programs that are built already (or PREFIX, where make install put them); else they are built
-where they stand. The block has SERIES (4000) of SAMPLES (120). It needs rustc (RUSTC). Exit status 0 if all is as
-wanted.
+QUERIER and AUDITOR name programs that are built already (or PREFIX, where make install put them); else they
+are built where they stand. The block has SERIES (4000) of SAMPLES (120). It needs rustc (RUSTC). Exit status
+0 if all is as wanted.
 """
 import concurrent.futures
 import heapq

@@ -1,12 +1,17 @@
 #!/usr/bin/env python3
-"""scripts: runs the scripts of tests/ that this machine has the programs for, and tells which ran, failed or were left out.
+"""scripts: runs the scripts of tests/ that this machine has the programs for.
 
     tests/scripts.py [NAME ..]
 
-It builds `querier`, `auditor`, `explain` and `blocktool` once (RT), or takes those that QUERIER, AUDITOR, EXPLAIN and
-BLOCKTOOL name, and hands them to the scripts. JOBS scripts run side by side (half of the processors if it is not set);
-those that count memory, time or threads run alone, after the others. With names only these run. What a script prints
-is left in a folder, which is told if a script fails. The last line counts. Exit status 0 if none failed.
+With names only these run. It builds those of `querier`, `auditor`, `explain` and `blocktool` that they need
+once (RT), or takes those that QUERIER, AUDITOR, EXPLAIN and BLOCKTOOL name (or PREFIX, where make install put
+them), and hands them to the scripts. JOBS scripts run side by side (half of the processors if it is not set):
+each has its own folder and ports. Those that look at time or memory, or have the prover at work, run alone
+after the others.
+
+Each script is told when it ends; at the end are those that passed, those that failed and those that were left
+out, and why. What a script prints is left in a folder, which is told if one failed. Exit status 0 if none
+failed.
 """
 import concurrent.futures
 import os
@@ -17,80 +22,93 @@ import sys
 import tempfile
 import time
 
-TOP = pathlib.Path(__file__).resolve().parent.parent
-PROGRAMS = {"QUERIER": "querier", "AUDITOR": "auditor_program", "EXPLAIN": "explain", "BLOCKTOOL": "blocktool"}
-# The name, the programs of the machine that it needs, and the command if it is not the script alone.
+sys.dont_write_bytecode = True
+from lib import CRATES, TOP, find_program  # noqa: E402
+
+# the variables that name programs of this machine, if they are not of that name
+VARIABLES = {"cc": "CC", "chromium": "CHROMIUM", "rt": "RT", "rustc": "RUSTC"}
+ALL = " ".join(CRATES)
+HTML = "tests/pages-html.py"
+# Each has a name, the programs that it asks, the programs of this machine that it needs, and the command.
+# Those that take long are first.
 BESIDE = [
-    ("serving", "curl awk python3", None),
-    ("scraping", "prometheus promtool curl python3", None),
-    ("audits", "rustc curl", None),
-    ("importing", "promtool prometheus curl python3", None),
-    ("pages", "python3", None),
-    ("pages-html", "python3", None),
-    ("pages-browser", "chromium", 'tests/pages-html.py "$WORK" && tests/pages-browser.py "$WORK" "$WORK"/*.html'),
-    ("browser", "chromium curl python3", None),
-    ("progress", "python3", None),
-    ("readme", "curl python3", None),
-    ("nginx", "nginx openssl curl", None),
-    ("scaling", "python3 rustc", None),
+    ("importing", "querier auditor blocktool", "promtool prometheus curl python3", "tests/importing.sh"),
+    ("audits", "querier auditor", "rustc curl", "tests/audits.sh"),
+    ("scraping", "querier", "prometheus promtool curl python3", "tests/scraping.sh"),
+    ("serving", "querier", "curl awk python3", "tests/serving.sh"),
+    ("nginx", "querier", "nginx openssl curl python3", "tests/nginx.sh"),
+    ("browser", "querier", "chromium curl python3", "tests/browser.sh"),
+    ("scaling", "querier auditor", "rustc", "tests/scaling.py"),
+    ("readme", ALL, "curl python3", "tests/readme.sh"),
+    ("pages", ALL, "", "tests/pages.py"),
+    ("progress", "querier", "", "tests/progress.py"),
 ]
 ALONE = [
-    ("durable", "python3 cc", None),
-    ("allocations", "cc", None),
+    ("pages-html", "explain", "", HTML),
+    (
+        "pages-browser", "explain", "chromium",
+        f'{HTML} "$WORK" && tests/pages-browser.py "$WORK" "$WORK"/*.html',
+    ),
+    ("durable", "querier auditor blocktool", "cc", "tests/durable/run.py"),
+    ("allocations", "", "cc rt", "tests/allocations.sh"),
 ]
 
 
-def build(crate):
-    """Builds a program where its crate stands, and gives its path."""
-    folder = TOP / "crates" / crate
-    print(f"building {crate}", file=sys.stderr, flush=True)
-    done = subprocess.run([os.environ.get("RT", "rt"), "run", "--", "--version"], cwd=folder,
-                          stdin=subprocess.DEVNULL, stdout=subprocess.PIPE, stderr=subprocess.STDOUT, text=True)
-    if not (folder / "out" / crate).exists():
-        sys.exit(f"scripts: {crate} is not built:\n" + "\n".join(done.stdout.splitlines()[-20:]))
-    return str(folder / "out" / crate)
+def lacking(tools):
+    """The programs that this machine does not have."""
+    names = [os.environ.get(VARIABLES.get(tool, "")) or tool for tool in tools.split()]
+    return [name for name in names if shutil.which(name) is None]
 
 
 def run(row, logs):
-    """Runs a script, and gives its name, what became of it, and the seconds that it took."""
-    name, needs, command = row
-    lacking = [it for it in needs.split() if shutil.which(it) is None]
-    if lacking:
-        return name, f"left out, since {' and '.join(lacking)} {'is' if len(lacking) == 1 else 'are'} not here", 0
-    began = time.time()
+    """Runs a script: its name, what became of it, and more of that."""
+    name, _, tools, command = row
+    if absent := lacking(tools):
+        return name, "left out", f"{' and '.join(absent)} {'is' if len(absent) == 1 else 'are'} not here"
+    began = time.monotonic()
     with tempfile.TemporaryDirectory() as work, open(logs / name, "w", encoding="utf-8") as log:
-        done = subprocess.run(["bash", "-c", command or f"tests/{name}"], cwd=TOP, env={**os.environ, "WORK": work},
-                              stdin=subprocess.DEVNULL, stdout=log, stderr=subprocess.STDOUT)
-    return name, "passed" if done.returncode == 0 else f"failed with status {done.returncode}", time.time() - began
+        done = subprocess.run(
+            ["bash", "-c", command], cwd=TOP, env={**os.environ, "WORK": work}, stdin=subprocess.DEVNULL,
+            stdout=log, stderr=subprocess.STDOUT,
+        )
+    took = f"{time.monotonic() - began:.0f} s"
+    return (
+        (name, "failed", f"status {done.returncode}, {took}") if done.returncode else (name, "passed", took)
+    )
+
+
+def results(beside, alone, logs):
+    """Runs the scripts, and gives what became of each when it ends."""
+    jobs = int(os.environ.get("JOBS") or max(1, (os.cpu_count() or 2) // 2))
+    with concurrent.futures.ThreadPoolExecutor(jobs) as pool:
+        for ended in concurrent.futures.as_completed([pool.submit(run, row, logs) for row in beside]):
+            yield ended.result()
+    for row in alone:
+        yield run(row, logs)
 
 
 def main(names):
-    unknown = [it for it in names if it not in [row[0] for row in BESIDE + ALONE]]
+    unknown = set(names) - {row[0] for row in BESIDE + ALONE}
     if unknown:
-        sys.exit(f"scripts: no script is named {' or '.join(unknown)}")
-    for variable, crate in PROGRAMS.items():
-        os.environ[variable] = os.path.abspath(os.environ.get(variable) or build(crate))
+        sys.exit(f"scripts: no script is named {' or '.join(sorted(unknown))}")
+    beside, alone = ([row for row in rows if not names or row[0] in names] for rows in (BESIDE, ALONE))
+    for program in CRATES:
+        if any(program in row[1].split() and not lacking(row[2]) for row in beside + alone):
+            os.environ[program.upper()] = find_program(program)
     logs = pathlib.Path(tempfile.mkdtemp(prefix="scripts-"))
-    wanted = lambda rows: [row for row in rows if not names or row[0] in names]
-    jobs = int(os.environ.get("JOBS") or max(1, (os.cpu_count() or 2) // 2))
-    counts = {"passed": 0, "failed": 0, "left": 0}
-
-    def tell(found):
-        name, what, seconds = found
-        counts[what.split()[0]] += 1
-        print(f"{name}: {what}" + (f" in {seconds:.0f} s" if seconds else ""), flush=True)
-
-    with concurrent.futures.ThreadPoolExecutor(jobs) as pool:
-        for found in concurrent.futures.as_completed([pool.submit(run, row, logs) for row in wanted(BESIDE)]):
-            tell(found.result())
-    for row in wanted(ALONE):
-        tell(run(row, logs))
-    if counts["failed"]:
+    ended = {"passed": [], "failed": [], "left out": []}
+    for name, what, more in results(beside, alone, logs):
+        print(f"{name}: {what} ({more})", flush=True)
+        ended[what].append(f"{name} ({more})")
+    print()
+    for what, scripts in ended.items():
+        print(f"{what}: {', '.join(scripts) or 'none'}")
+    if ended["failed"]:
         print(f"what they printed is in {logs}")
     else:
         shutil.rmtree(logs)
-    print(f"{counts['passed']} passed, {counts['failed']} failed, {counts['left']} left out")
-    return 1 if counts["failed"] else 0
+    print(", ".join(f"{len(scripts)} {what}" for what, scripts in ended.items()))
+    return 1 if ended["failed"] else 0
 
 
 if __name__ == "__main__":

@@ -1,11 +1,13 @@
-"""Blocks in the folder of a store: a start writes those of its cuts there and begins the journal anew, whatever step of it is the
-last; what is damaged is refused and left as it is, and what is not the store's stays."""
+"""Blocks in the folder of a store: a start writes those of its cuts there and begins the journal anew,
+whatever step of it is the last; what is damaged is refused and left as it is, and what is not the store's
+stays."""
 import os
 import shutil
 import signal
 
 from house import (
-    OK, Batch, Cut, Deletion, Folders, Head, Server, World, differences, equals, journal, read, recovered, rolled, run, tree,
+    OK, Batch, Cut, Deletion, Folders, Head, Server, World, differences, equals, journal, read, recovered,
+    rolled, run, tree,
 )
 from read_block import block as read_block
 
@@ -30,24 +32,37 @@ def session():
 class Blocks(Folders):
     def start(self, folder, *words, **env):
         if env:
-            env = {"LD_PRELOAD": self.preload, "FOLDER": folder, **{name: str(value) for name, value in env.items()}}
+            env = {
+                "LD_PRELOAD": self.preload,
+                "FOLDER": folder,
+                **{name: str(value) for name, value in env.items()},
+            }
         return Server(self.querier, "--data", folder, *words, env=env)
 
     def says(self, what, server, world):
         parts, rows = server.select()
-        self.looks.that(f"{what}: the samples", rows == world.rows(), differences(world.rows(), rows), tell=False)
+        self.looks.that(
+            f"{what}: the samples", rows == world.rows(), differences(world.rows(), rows), tell=False
+        )
         self.looks.that(f"{what}: the parts", parts == world.parts(),
                         f"{[sum(map(len, part.values())) for part in parts]}", tell=False)
 
     def there(self, what, folder, world, numbers):
         """The folder has these blocks and no others, and their bytes are those of what was cut."""
         names = [f"{folder}/blocks/{number}" for number in numbers]
-        self.looks.at(f"{what}: the folders of blocks", sorted(map(str, numbers)), sorted(os.listdir(f"{folder}/blocks")), tell=False)
+        self.looks.at(
+            f"{what}: the folders of blocks",
+            sorted(map(str, numbers)),
+            sorted(os.listdir(f"{folder}/blocks")),
+            tell=False,
+        )
         status, out, err = run([self.querier, "check", *names])
         self.looks.at(f"{what}: check", (0, len(names), ""), (status, out.count(": ok "), err), tell=False)
         for name, part in zip(names, world.parts()):
             found = {labels: dict(samples) for labels, samples in read_block(name).items()}
-            self.looks.that(f"{what}: the bytes of {name}", found == part, differences(part, found), tell=False)
+            self.looks.that(
+                f"{what}: the bytes of {name}", found == part, differences(part, found), tell=False
+            )
 
     def kept(self, events):
         """A folder with a journal of these events, of which none was rolled; and their world."""
@@ -66,7 +81,9 @@ class Blocks(Folders):
         if self.looks.that(f"{what}: it starts", server.wait(), server.told, tell=False):
             self.looks.at(f"{what}: what it says", said, server.first_lines(count), tell=False)
             head = Head.of(world, numbers)
-            self.looks.that(f"{what}: the journal", read(f"{folder}/journal") == journal([], head.contents()), tell=False)
+            self.looks.that(
+                f"{what}: the journal", read(f"{folder}/journal") == journal([], head.contents()), tell=False
+            )
             self.says(what, server, world)
         return server
 
@@ -90,25 +107,36 @@ def cuts(them, looks):
     server.end()
     first = {name: data for name, data in held.items() if name.startswith("blocks/")}
     numbers = [1, 2, 3, 4]
-    server = them.again("after one cut more", folder, [recovered(2, blocks=3), rolled(folder, Head.of(world, numbers))],
-                        world, numbers, 2)
+    server = them.again(
+        "after one cut more", folder, [recovered(2, blocks=3), rolled(folder, Head.of(world, numbers))],
+        world, numbers, 2,
+    )
     them.there("after one cut more", folder, world, numbers)
     now = tree(folder)
-    looks.that("blocks that lay there stay as they were", all(now.get(name, 0) == data for name, data in first.items()))
+    looks.that(
+        "blocks that lay there stay as they were",
+        all(now.get(name, 0) == data for name, data in first.items()),
+    )
     more = [Deletion([equals("n", "1")], 0, 20), Cut(650)]
     for event in more:
         looks.at(event.line(), OK, server.tell(event), tell=False)
         world.apply(event)
     server.end()
     numbers = [5, 6, 7, 8, 9]
-    server = them.again("after a deletion", folder, [recovered(2, blocks=4), rolled(folder, Head.of(world, numbers))],
-                        world, numbers, 2)
+    server = them.again(
+        "after a deletion", folder, [recovered(2, blocks=4), rolled(folder, Head.of(world, numbers))], world,
+        numbers, 2,
+    )
     them.there("after a deletion", folder, world, numbers)
     server.end()
     server = them.again("and once more", folder, [recovered(0, blocks=5)], world, numbers)
     server.end()
     status, out, err = run([them.querier, "journal", folder])
-    looks.at("what journal says of a head", (0, Head.of(world, numbers).line(), ""), (status, out.splitlines()[0], err))
+    looks.at(
+        "what journal says of a head",
+        (0, Head.of(world, numbers).line(), ""),
+        (status, out.splitlines()[0], err),
+    )
     # a deletion that leaves a block nothing
     server = them.start(folder)
     server.wait()
@@ -117,14 +145,18 @@ def cuts(them, looks):
         world.apply(event)
     server.end()
     numbers = list(range(10, 10 + len(world.blocks)))
-    server = them.again("an empty block", folder, [recovered(2, blocks=5), rolled(folder, Head.of(world, numbers))], world,
-                        numbers, 2)
+    server = them.again(
+        "an empty block", folder, [recovered(2, blocks=5), rolled(folder, Head.of(world, numbers))], world,
+        numbers, 2,
+    )
     server.end()
 
 
 def long_journals(them, looks):
     """A journal that is longer than --journal-mb is begun anew without a cut; one that is not stays."""
-    folder, world = them.kept([Batch([row(n, *[(k, 2**62 - n - k) for k in range(4000)])]) for n in range(26)])
+    folder, world = them.kept(
+        [Batch([row(n, *[(k, 2**62 - n - k) for k in range(4000)])]) for n in range(26)]
+    )
     size = os.path.getsize(f"{folder}/journal")
     looks.that("a journal between one MB and two", 2**20 < size < 2**21, size)
     for words in [(), ("--journal-mb", "2"), ("--journal-mb", "1048576")]:
@@ -134,9 +166,13 @@ def long_journals(them, looks):
         server.end()
         looks.at("it is not begun anew", size, os.path.getsize(f"{folder}/journal"))
     head = Head.of(world, [])
-    server = them.again("--journal-mb 1", folder, [recovered(26), rolled(folder, head)], world, [], 2, "--journal-mb", "1")
+    server = them.again(
+        "--journal-mb 1", folder, [recovered(26), rolled(folder, head)], world, [], 2, "--journal-mb", "1"
+    )
     server.end()
-    server = them.again("--journal-mb 1 without an event", folder, [recovered(0)], world, [], 1, "--journal-mb", "1")
+    server = them.again(
+        "--journal-mb 1 without an event", folder, [recovered(0)], world, [], 1, "--journal-mb", "1"
+    )
     server.end()
 
 
@@ -148,7 +184,11 @@ def before(them, looks):
         with open(f"{folder}/journal", "wb") as file:
             file.write(journal([event.text() for event in events], ()) + b"\x00\x00")
         status, out, _ = run([them.querier, "journal", folder])
-        looks.at(f"what journal says of {what} without a head", (0, f"1 {events[0].line()}"), (status, out.splitlines()[0]))
+        looks.at(
+            f"what journal says of {what} without a head",
+            (0, f"1 {events[0].line()}"),
+            (status, out.splitlines()[0]),
+        )
         server = them.start(folder)
         for event in events:
             world.apply(event)
@@ -157,14 +197,19 @@ def before(them, looks):
             them.says(f"{what} without a head", server, world)
         server.end()
         if what == "events":
-            looks.that("it has a head", read(f"{folder}/journal") == journal([event.text() for event in events]))
+            looks.that(
+                "it has a head", read(f"{folder}/journal") == journal([event.text() for event in events])
+            )
         else:
             them.there("cuts without a head", folder, world, [1, 2, 3])
 
 
 def killed(them, looks):
     """A start that rolls is killed before each of its calls in turn, or in the middle of a write."""
-    for what, more in [("cuts", []), ("cuts and a deletion", [Deletion([equals("n", "3")], 0, 210), Cut(300)])]:
+    for what, more in [
+        ("cuts", []),
+        ("cuts and a deletion", [Deletion([equals("n", "3")], 0, 210), Cut(300)]),
+    ]:
         base, world = them.kept(session())
         numbers, said = [1, 2, 3], [recovered(len(session()))]
         if more:
@@ -195,12 +240,17 @@ def killed(them, looks):
             looks.at(f"{what}, killed at call {n}: a batch after it", OK, server.tell(event), tell=False)
             server.end()
             shutil.rmtree(folder)
-        looks.that(f"{what}: a start was killed at each of its calls, before the new journal and after", late and ended > late, (ended, late))
+        looks.that(
+            f"{what}: a start was killed at each of its calls, before the new journal and after",
+            late and ended > late,
+            (ended, late),
+        )
         looks.say(f"{what}: {ended} starts were killed, {late} of them after the rename")
 
 
 def failing(them, looks):
-    """A start that rolls, of which each write, sync and removal fails in turn: it serves, or nothing is lost."""
+    """A start that rolls, of which each write, sync and removal fails in turn: it serves, or nothing is
+    lost."""
     base, world = them.kept(session())
     for kind in ("WRITE", "SYNC"):
         ended, not_rolled = 0, 0
@@ -229,7 +279,9 @@ def failing(them, looks):
             if not failed:
                 break
         looks.that(f"each {kind.lower()} of a roll fails in turn", not_rolled > 3, not_rolled)
-        looks.say(f"each {kind.lower()} of a roll failed in turn: {not_rolled} starts did not roll, {ended} ended")
+        looks.say(
+            f"each {kind.lower()} of a roll failed in turn: {not_rolled} starts did not roll, {ended} ended"
+        )
 
 
 def damaged(them, looks):
@@ -247,8 +299,14 @@ def damaged(them, looks):
             os.remove(path)
             refused(them, looks, f"{name} of block {number} is missing", folder, f"J15 at {number}")
             for what, change in [
-                ("empty", lambda data: b""), ("cut short", lambda data: data[: len(data) // 2]),
-                ("changed", lambda data: data[: len(data) // 2] + bytes([data[len(data) // 2] ^ 1]) + data[len(data) // 2 + 1 :]),
+                ("empty", lambda data: b""),
+                ("cut short", lambda data: data[: len(data) // 2]),
+                (
+                    "changed",
+                    lambda data: data[: len(data) // 2]
+                    + bytes([data[len(data) // 2] ^ 1])
+                    + data[len(data) // 2 + 1 :],
+                ),
             ]:
                 data = read(f"{base}/blocks/{number}/{name}")
                 with open(path, "wb") as file:
@@ -267,7 +325,9 @@ def damaged(them, looks):
         shutil.copyfile(f"{base}/blocks/1/{name}", f"{folder}/blocks/2/{name}")
     refused(them, looks, "a block in the place of another", folder, "J16 at 2")
     # a head that names a block twice, and one that is not there
-    for numbers, code in [([1, 1], None), ([1, 2, 3, 4], "J15 at 4"), ([0], "J15 at 0"), ([2**64 - 1], f"J15 at {2**64 - 1}")]:
+    for numbers, code in [
+        ([1, 1], None), ([1, 2, 3, 4], "J15 at 4"), ([0], "J15 at 0"), ([2**64 - 1], f"J15 at {2**64 - 1}"),
+    ]:
         folder = them.folder()
         shutil.copytree(base, folder)
         with open(f"{folder}/journal", "wb") as file:
@@ -291,19 +351,24 @@ def refused(them, looks, what, folder, code):
     for _ in range(2):
         server = them.start(folder)
         server.wait()
-        looks.at(what, (1, f"refused {code}", True), (server.end(), server.told, tree(folder) == held), tell=False)
+        looks.at(
+            what, (1, f"refused {code}", True), (server.end(), server.told, tree(folder) == held), tell=False
+        )
 
 
 def strangers(them, looks):
-    """What stands beside the blocks: what a roll left that was cut off is removed by the next one, all else stays."""
+    """What stands beside the blocks: what a roll left that was cut off is removed by the next one, all else
+    stays."""
     folder, world = them.kept(session())
     left = {
-        "blocks/3/chunks/000001": b"half", "blocks/3/index": b"", "blocks/8/meta.json": b"{", "blocks/9/chunks/": None,
-        "blocks/08/index": b"x",
+        "blocks/3/chunks/000001": b"half", "blocks/3/index": b"", "blocks/8/meta.json": b"{",
+        "blocks/9/chunks/": None, "blocks/08/index": b"x",
     }
     stays = {
-        "blocks/notes": b"mine", "blocks/7x/index": b"x", "blocks/77/mine": b"mine", "blocks/78/chunks/000002": b"mine",
-        "blocks/1/mine": b"mine", "notes": b"mine", "journal.old": b"mine",
+        "blocks/notes": b"mine", "blocks/7x/index": b"x", "blocks/77/mine": b"mine",
+        "blocks/78/chunks/000002": b"mine", "blocks/1/mine": b"mine",
+        "notes": b"mine",
+        "journal.old": b"mine",
     }
     for name, data in [*left.items(), *stays.items(), ("blocks/77/index", b"x")]:
         os.makedirs(os.path.dirname(f"{folder}/{name}"), exist_ok=True)
@@ -337,7 +402,11 @@ def strangers(them, looks):
     looks.at("what it says", [f"began {alone}/journal"], server.first_lines(1))
     server.end()
     names = [f"{folder}/blocks/{n}" for n in (1, 2, 3)]
-    looks.at("check of the blocks", (0, 3), (lambda done: (done[0], done[1].count(": ok ")))(run([them.querier, "check", *names])))
+    looks.at(
+        "check of the blocks",
+        (0, 3),
+        (lambda done: (done[0], done[1].count(": ok ")))(run([them.querier, "check", *names])),
+    )
 
 
 def blocks(looks, querier, preload, work):

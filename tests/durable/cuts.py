@@ -1,5 +1,6 @@
-"""A server that cuts by itself: at which times, what it refuses from then on, what it tells, what is kept, and that without
---cut-every nothing is cut. What is due is reckoned here from the sentence of docs/OPERATING.md."""
+"""A server that cuts by itself: at which times, what it refuses from then on, what it tells, what is kept,
+and that without --cut-every nothing is cut. What is due is reckoned here from the sentence of
+docs/OPERATING.md."""
 import os
 import struct
 import time
@@ -20,7 +21,8 @@ def up(*samples, **more):
 
 
 def due(every, floor, newest):
-    """The last multiple above the floor of which the newest sample is half of the milliseconds later; or None."""
+    """The last multiple above the floor of which the newest sample is half of the milliseconds later; or
+    None."""
     at = (2 * newest - every) // (2 * every) * every
     return at if at > floor else None
 
@@ -77,7 +79,11 @@ def session():
 def times(looks, querier, words, what):
     """A session, event by event; where a store is kept, it is there after a new start."""
     status = free_port()
-    server, world, cuts = Server(querier, "--cut-every", str(EVERY), "--status-port", str(status), *words), World(), []
+    server, world, cuts = (
+        Server(querier, "--cut-every", str(EVERY), "--status-port", str(status), *words),
+        World(),
+        [],
+    )
     if not looks.that(f"{what}: it starts", server.wait(), server.told):
         return world, cuts
     for event, wanted in session():
@@ -96,8 +102,10 @@ def times(looks, querier, words, what):
     world.apply(Cut(20001))
     wait_for(looks, f"{what}: the parts after it", server, world)
     got = counts(status)
-    for name, count in [('events_total{kind="cut"}', len(cuts) + 1), ("blocks", len(world.blocks)), ("workers", 4),
-                        ('requests_total{path="cut",status="200"}', 1)]:
+    for name, count in [
+        ('events_total{kind="cut"}', len(cuts) + 1), ("blocks", len(world.blocks)), ("workers", 4),
+        ('requests_total{path="cut",status="200"}', 1),
+    ]:
         looks.at(f"{what}: the count of {name}", str(count), got.get(f"fuzzledge_{name}"))
     looks.at(f"{what}: what it tells", [], [line for line in server.told_err if line.startswith("cannot")])
     server.end()
@@ -139,7 +147,11 @@ def one_word(looks, querier):
         at = follow(world, every)
         wait_for(looks, f"every {every}: a sample at {newest}: cut at {at}", server, world)
         if at is not None:
-            looks.at(f"every {every}: a sample before it", refused("E1", 0), server.tell(up((at - 1, 1), a="other")))
+            looks.at(
+                f"every {every}: a sample before it",
+                refused("E1", 0),
+                server.tell(up((at - 1, 1), a="other")),
+            )
             looks.at(f"every {every}: a sample at it", OK, server.tell(up((at, 1), a="other")))
         server.end()
     for word in ["0", "-1", "x", "", str(2**62), str(2**64), "1.5"]:
@@ -150,7 +162,9 @@ def one_word(looks, querier):
                         (("--workers", "62", "--status-port", str(free_port())), True)]:
         server = Server(querier, "--cut-every", "1000", *words)
         wanted = (True, -9, "") if room else (False, 1, "refused O2")
-        looks.at(f"--cut-every with {' '.join(words)[:30]}", wanted, (server.wait(), server.end(), server.told))
+        looks.at(
+            f"--cut-every with {' '.join(words)[:30]}", wanted, (server.wait(), server.end(), server.told)
+        )
 
 
 def refusals(looks, querier, preload, work):
@@ -165,7 +179,9 @@ def refusals(looks, querier, preload, work):
         looks.at(f"63 blocks: a sample at {newest}", OK, server.tell(up((newest, 1))))
         world.apply(up((newest, 1)))
         wait_for(looks, "63 blocks: the parts", server, world)
-    looks.at("63 blocks: what is told", ["cannot cut at 1000000: E6", "cannot cut at 2000000: E6"], server.told_err)
+    looks.at(
+        "63 blocks: what is told", ["cannot cut at 1000000: E6", "cannot cut at 2000000: E6"], server.told_err
+    )
     began = cpu_of(server.process.pid)
     time.sleep(2)
     looks.that("63 blocks: it does not try at full speed", cpu_of(server.process.pid) - began < 0.5)
@@ -185,7 +201,12 @@ def refusals(looks, querier, preload, work):
         server.end()
         numbers = {"FAIL_WRITE": writes, "FAIL_SYNC": syncs}
         folder += "2"
-        env |= {"FOLDER": folder, "KEPT": f"{folder}.kept", fault: f"{numbers[fault] + 1},1", "FAIL_WITH": "5"}
+        env |= {
+            "FOLDER": folder,
+            "KEPT": f"{folder}.kept",
+            fault: f"{numbers[fault] + 1},1",
+            "FAIL_WITH": "5",
+        }
         server, world = Server(querier, "--data", folder, "--cut-every", "1000", env=env), World()
         server.wait()
         looks.at(f"{fault}: a cut", OK, server.tell(Cut(0)))

@@ -1,12 +1,13 @@
-"""Journals that are cut short at each of their last 4,096 bytes, or have a byte changed: each is refused, and nothing on the
-disk is changed, or is read as a front of the events that were sent. The same of contents that are no events."""
+"""Journals that are cut short at each of their last 4,096 bytes, or have a byte changed: each is refused, and
+nothing on the disk is changed, or is read as a front of the events that were sent. The same of contents that
+are no events."""
 import concurrent.futures
 import os
 import random
 
 from house import (
-    LEAST, MOST, NEW, NOTHING, OK, Batch, Cut, Deletion, Head, Server, checksum, differences, equals, journal, read,
-    record, recovered, run, short, text_of, tree, uvarint, varint, world_of,
+    LEAST, MOST, NEW, NOTHING, OK, Batch, Cut, Deletion, Head, Server, checksum, differences, equals, journal,
+    read, record, recovered, run, short, text_of, tree, uvarint, varint, world_of,
 )
 
 
@@ -53,8 +54,11 @@ def written(looks, querier, folder, events):
         looks.at(event.line()[:60], OK, server.tell(event), tell=False)
     server.end()
     wanted = journal([event.text() for event in events])
-    looks.that("the bytes of the journal are those that FORMATS.md gives for what was sent",
-               read(f"{folder}/journal") == wanted, f"wanted {wanted.hex()}, got {read(f'{folder}/journal').hex()}")
+    looks.that(
+        "the bytes of the journal are those that FORMATS.md gives for what was sent",
+        read(f"{folder}/journal") == wanted,
+        f"wanted {wanted.hex()}, got {read(f'{folder}/journal').hex()}",
+    )
     return wanted
 
 
@@ -90,7 +94,11 @@ class Journals:
             wanted = 0, "".join(f"{line}\n" for line in [Head().line(), *self.lines[:wanted], last]), ""
         else:
             wanted = 1, "", f"refused {wanted}\n"
-        return None if (status, out, err) == wanted else f"{what}: wanted {short(wanted)}, got {short((status, out, err))}"
+        return (
+            None
+            if (status, out, err) == wanted
+            else f"{what}: wanted {short(wanted)}, got {short((status, out, err))}"
+        )
 
     def look_at(self, what, cases):
         with concurrent.futures.ThreadPoolExecutor(os.cpu_count()) as pool:
@@ -145,8 +153,12 @@ def longer(data, ends):
     yield "a record that is cut short more", data + record(b"\x03\x02" * 50)[:-1], count
     for size in (0, 2**26 + 1, 2**32 - 1):
         length = size.to_bytes(4, "big")
-        yield f"a length of {size} more", data + length + checksum(length) + b"\x07" * 20, f"J4 at {len(data)}"
-    yield "a length of 67108864 more", data + (2**26).to_bytes(4, "big") + checksum((2**26).to_bytes(4, "big")) + b"\x07", count
+        yield f"a length of {size} more", data + length + checksum(
+            length
+        ) + b"\x07" * 20, f"J4 at {len(data)}"
+    yield "a length of 67108864 more", data + (2**26).to_bytes(4, "big") + checksum(
+        (2**26).to_bytes(4, "big")
+    ) + b"\x07", count
 
 
 def texts(pairs):
@@ -174,12 +186,18 @@ def no_events():
     yield "two runs of one label set", b"\x01\x02" + 2 * (one + b"\x01" + sample), "J11"
     yield "a cut at no time", b"\x03" + varint(2**62), "J12"
     yield "a sample at no time", b"\x01\x01" + one + b"\x01" + varint(LEAST - 1) + varint(0), "J12"
-    yield "a range that ends before it begins", b"\x02\x01\x00" + text_of("a") + text_of("b") + varint(2) + varint(1), "J12"
-    yield "17 matchers", b"\x02\x11" + 17 * (b"\x00" + text_of("a") + text_of("b")) + varint(1) + varint(2), "J12"
+    yield "a range that ends before it begins", b"\x02\x01\x00" + text_of("a") + text_of("b") + varint(
+        2
+    ) + varint(1), "J12"
+    yield "17 matchers", b"\x02\x11" + 17 * (b"\x00" + text_of("a") + text_of("b")) + varint(1) + varint(
+        2
+    ), "J12"
     yield "4,097 samples", b"\x01\x01" + one + uvarint(4097) + b"".join(
         varint(1000 + n) + varint(n) for n in range(4097)), "J12"
     yield "a byte behind a cut", b"\x03\x02\x00", "J13"
-    yield "a pattern that is none", b"\x02\x01\x02" + text_of("a") + text_of("(") + varint(1) + varint(2), "J14"
+    yield "a pattern that is none", b"\x02\x01\x02" + text_of("a") + text_of("(") + varint(1) + varint(
+        2
+    ), "J14"
     yield "a name that is none", b"\x02\x01\x00" + text_of("1a") + text_of("b") + varint(1) + varint(2), "J14"
 
 
@@ -197,7 +215,10 @@ def no_heads():
     yield "a head of one series, which is missing", [b"\x10" + floor + b"\x00\x01"], "J8 at 1"
     yield "an event in the place of a series", [b"\x10" + floor + b"\x00\x01", Cut(5).text()], "J8 at 1"
     yield "a series that is cut short", [b"\x10" + floor + b"\x00\x02", series, series[:-1]], "J9 at 2"
-    yield "a series of no label set", [b"\x10" + floor + b"\x00\x01", b"\x11" + texts([("1a", "b")]) + sample + b"\x00"], "J10 at 1"
+    yield "a series of no label set", [
+        b"\x10" + floor + b"\x00\x01",
+        b"\x11" + texts([("1a", "b")]) + sample + b"\x00",
+    ], "J10 at 1"
     yield "a byte behind a series", [b"\x10" + floor + b"\x00\x01", series + b"\x00"], "J13 at 1"
     yield "a head behind a head", [*NOTHING, *NOTHING], "J8 at 0"
     yield "a series too many", [b"\x10" + floor + b"\x00\x01", series, series], "J8 at 0"
@@ -241,7 +262,8 @@ class Served:
         return folder
 
     def front(self, what, data, count, whole):
-        """A server says the first events, goes on with them, and says them and what was added when it starts again."""
+        """A server says the first events, goes on with them, and says them and what was added when it starts
+        again."""
         looks, folder, events = self.looks, self.folder(data), self.events[:count]
         server = Server(self.querier, "--data", folder)
         if not looks.that(f"{what}: it starts", server.wait(), server.told, tell=False):
@@ -253,7 +275,11 @@ class Served:
         if any(isinstance(event, Cut) for event in events):
             # the start began the journal anew
             left = journal([], Head.of(world, range(1, 1 + len(world.blocks))).contents())
-        looks.that(f"{what}: the torn end is cut off, and nothing else", read(f"{folder}/journal") == left, tell=False)
+        looks.that(
+            f"{what}: the torn end is cut off, and nothing else",
+            read(f"{folder}/journal") == left,
+            tell=False,
+        )
         more = Batch([(up("more"), [(2**61, count)])])
         for again in (False, True):
             parts, rows = server.select()
@@ -275,14 +301,21 @@ class Served:
         server = Server(self.querier, "--data", folder)
         server.wait()
         status = server.end() if server.port else server.ended()
-        self.looks.at(f"{what}: a start", (1, f"refused {code}", True), (status, server.told, tree(folder) == before), tell=False)
+        self.looks.at(
+            f"{what}: a start",
+            (1, f"refused {code}", True),
+            (status, server.told, tree(folder) == before),
+            tell=False,
+        )
 
 
 def damage(looks, querier, work, seed):
     chance = random.Random(f"{seed} damage")
     looks.say(f"SEED={seed}")
     few, many = few_events(), many_events(chance)
-    small, large = (written(looks, querier, f"{work}/{name}", events) for name, events in [("few", few), ("many", many)])
+    small, large = (
+        written(looks, querier, f"{work}/{name}", events) for name, events in [("few", few), ("many", many)]
+    )
     of_few, of_many = ends_of(few), ends_of(many)
     journals = Journals(looks, querier, work, few)
     journals.look_at("the small journal cut short at each byte", list(cut_short(small, of_few)))
@@ -295,7 +328,9 @@ def damage(looks, querier, work, seed):
     journals.look_at("first contents that are no head", [
         (what, journal([], contents), code) for what, contents, code in no_heads()])
     large_ones = list(cut_short(large, of_many))
-    Journals(looks, querier, work, many).look_at(f"the last {len(large_ones) - 1} bytes cut off, one after another", large_ones)
+    Journals(looks, querier, work, many).look_at(
+        f"the last {len(large_ones) - 1} bytes cut off, one after another", large_ones
+    )
 
     served = Served(looks, querier, work, few)
     for what, data, wanted in [*chance.sample(list(changed(small, of_few)), 24), *longer(small, of_few)]:
@@ -317,7 +352,9 @@ def damage(looks, querier, work, seed):
         served.refused(what, journal([few[0].text()], contents), "J17 at 0")
     for what, event in replayed():
         served.refused(what, journal([one.text() for one in [*few, event]]), f"J18 at {at}")
-        served.refused(f"{what}, of before", journal([one.text() for one in [*few, event]], ()), f"J18 at {at}")
+        served.refused(
+            f"{what}, of before", journal([one.text() for one in [*few, event]], ()), f"J18 at {at}"
+        )
     looks.say(f"{served.count} starts over them")
     served = Served(looks, querier, f"{work}/many", many)
     for length in [*chance.sample(range(len(large) - 4096, len(large)), 12), len(large)]:

@@ -1,4 +1,5 @@
-"""Events of each kind at their bounds: what is acknowledged is in the journal byte for byte, and a start says the same."""
+"""Events of each kind at their bounds: what is acknowledged is in the journal byte for byte, and a start says
+the same."""
 import os
 
 from house import (
@@ -8,9 +9,10 @@ from house import (
 
 # patterns that are dear to build, or odd; each is accepted or refused, and what is accepted is read again
 PATTERNS = [
-    "", ".", ".*", "a|", "(a|b)*c", "[^a]", "[[:alpha:]]+", r"\d+\.\d+", r"(?i)UP", r"(?s:.)", r"\p{Greek}+", "größer|ß", "日本",
-    r"\x{1F600}", r"\w{400}", r"(\w*\W*){100}", "a{1000}", "((((a{10}){10}){10}){10})", "(((((((a{10}){10}){10}){10}){10}){10}){10})",
-    "(" * 40 + "a" + ")" * 40, "x" * 256, "x" * 257, "(", "a**", r"\b", r"^a$", r"\z", "a\nb", 'say "hi"', "back\\\\slash", "\t\x01\x7f",
+    "", ".", ".*", "a|", "(a|b)*c", "[^a]", "[[:alpha:]]+", r"\d+\.\d+", r"(?i)UP", r"(?s:.)", r"\p{Greek}+",
+    "größer|ß", "日本", r"\x{1F600}", r"\w{400}", r"(\w*\W*){100}", "a{1000}", "((((a{10}){10}){10}){10})",
+    "(((((((a{10}){10}){10}){10}){10}){10}){10})", "(" * 40 + "a" + ")" * 40, "x" * 256, "x" * 257, "(",
+    "a**", r"\b", r"^a$", r"\z", "a\nb", 'say "hi"', "back\\\\slash", "\t\x01\x7f",
 ]
 
 
@@ -29,8 +31,12 @@ def bounds():
         ["größer", "日本語", "🙂", 'a "quote"', "a \\ backslash", "line\nfeed", "\t\r\x01", "x" * 10000])])
     yield Batch([(labels(**{f"l{n:02}": str(n) for n in range(62)}), [(5, 5)])])
     # one label set in several rows, one after another and with others between
-    yield Batch([(labels(), [(6, 1)]), (labels(), [(7, 2)]), (labels(n="1"), [(6, 3)]), (labels(), []), (labels(n="1"), [(7, 4)]),
-                 (labels(), [(8, 5)])])
+    yield Batch(
+        [
+            (labels(), [(6, 1)]), (labels(), [(7, 2)]), (labels(n="1"), [(6, 3)]), (labels(), []),
+            (labels(n="1"), [(7, 4)]), (labels(), [(8, 5)]),
+        ]
+    )
     # the same sample again, alone and before others
     yield Batch([(labels(), [(8, 5)])])
     yield Batch([(labels(), [(8, 5), (8, 5), (9, 6)])])
@@ -67,12 +73,19 @@ def kept(looks, querier, folder, events, what):
         world.apply(event)
     compare(looks, what, server, world)
     server.end()
-    looks.that(f"{what}: the journal", read(f"{folder}/journal") == journal([event.text() for event in events]))
+    looks.that(
+        f"{what}: the journal", read(f"{folder}/journal") == journal([event.text() for event in events])
+    )
     server = Server(querier, "--data", folder)
     if looks.that(f"{what}: it starts again", server.wait(), server.told):
         head = Head.of(world, range(1, 1 + len(world.blocks)))
-        looks.at(f"{what}: what it says", [recovered(len(events)), rolled(folder, head)], server.first_lines(2))
-        looks.that(f"{what}: the journal that was begun anew", read(f"{folder}/journal") == journal([], head.contents()))
+        looks.at(
+            f"{what}: what it says", [recovered(len(events)), rolled(folder, head)], server.first_lines(2)
+        )
+        looks.that(
+            f"{what}: the journal that was begun anew",
+            read(f"{folder}/journal") == journal([], head.contents()),
+        )
         compare(looks, f"{what}, again", server, world)
     return server, world
 
@@ -83,7 +96,11 @@ def blocks(looks, querier, work):
     for n in range(63):
         events += [Batch([(labels(n=str(n % 7)), [(10 * n, n), (10 * n + 9, -n)])]), Cut(10 * n + 5)]
     server, world = kept(looks, querier, folder, events, "63 blocks")
-    for event, wanted in [(Cut(10**6), refused("E6")), (Cut(5), refused("E5")), (Batch([(labels(), [(1, 1)])]), refused("E1", 0))]:
+    for event, wanted in [
+        (Cut(10**6), refused("E6")),
+        (Cut(5), refused("E5")),
+        (Batch([(labels(), [(1, 1)])]), refused("E1", 0)),
+    ]:
         looks.at(f"beside 63 blocks: {event.line()}", wanted, server.tell(event))
     # a cut that makes no block is taken
     deletion = Deletion([equals("suite", "durable")], 625, MOST)
@@ -97,10 +114,16 @@ def blocks(looks, querier, work):
     server = Server(querier, "--data", folder)
     if looks.that("63 blocks: a third start", server.wait(), server.told):
         head = Head.of(world, range(1, 64))
-        looks.at("63 blocks: what a third start says", [recovered(2, blocks=63), rolled(folder, head)], server.first_lines(2))
+        looks.at(
+            "63 blocks: what a third start says",
+            [recovered(2, blocks=63), rolled(folder, head)],
+            server.first_lines(2),
+        )
         compare(looks, "63 blocks, a third time", server, world)
         looks.at("a cut at the floor", refused("E5"), server.tell(Cut(10**6)))
-        looks.at("63 blocks: their folders", {str(n) for n in range(1, 64)}, set(os.listdir(f"{folder}/blocks")))
+        looks.at(
+            "63 blocks: their folders", {str(n) for n in range(1, 64)}, set(os.listdir(f"{folder}/blocks"))
+        )
     server.end()
 
 
@@ -116,11 +139,16 @@ def patterns(looks, querier, work):
             if status == 200:
                 told.append(event)
             else:
-                looks.at(f"the refusal of {event.selector()[:60]}", (400, "H6"), (status, reply["refused"]), tell=False)
+                looks.at(
+                    f"the refusal of {event.selector()[:60]}", (400, "H6"), (status, reply["refused"]),
+                    tell=False,
+                )
             count += 1
     server.end()
     looks.say(f"{count} deletions by patterns, of which {len(told)} were accepted")
-    looks.that("patterns: the journal", read(f"{folder}/journal") == journal([event.text() for event in told]))
+    looks.that(
+        "patterns: the journal", read(f"{folder}/journal") == journal([event.text() for event in told])
+    )
     server = Server(querier, "--data", folder)
     looks.that("patterns: a start", server.wait(), server.told)
     looks.at("patterns: what it says", recovered(len(told)), server.first_told())

@@ -1,17 +1,21 @@
-/* Preloaded into a program, has calls on the files of a folder fail, FOLDER and what is below it. FAIL_WRITE, FAIL_SYNC
-   (fsync and fdatasync), FAIL_CUT (ftruncate), FAIL_MAKE (a file that is made or emptied, and mkdir), FAIL_RENAME and
-   FAIL_REMOVE (unlink and rmdir) are two numbers, as 3,1: which such call is the first that fails, counted from 1 over all
-   threads, and how many fail from there on (0: all). FAIL_WITH is the error's number (5, EIO).
-   KILL_AT is a number: the program is killed before its nth call that changes something in FOLDER (a file that is made or
-   emptied, a write, a sync, a cut, a folder that is made, a rename, a removal), or in the middle of it if it is a write.
-   FAIL_PART has the first of the failing writes take so many bytes, and the next ones fail. FAIL_ROOM refuses, as a full
-   disk does, what goes beyond so many bytes of a file, and takes what has room.
-   KEPT is a file of eight numbers of eight bytes: the length of FOLDER/journal up to which the last sync kept it, how
-   many writes, syncs and cuts there were, how many calls failed, and how many files were made, renamed and removed.
-   OPENED is a file to which each path is added that is opened to be written, made, renamed or removed, wherever it is.
-   TRACE is a file to which a line is added before each of these calls: `open PATH HOW`, `make`, `rename`, `remove`,
-   `lock`, `read`, `write`, `sync` and `cut`, each with a path, if it is in FOLDER or that of FOLDER; and `reply`, for what
-   is written to a socket. */
+/* Preloaded into a program, has calls on the files of a folder fail, FOLDER and what is below it. FAIL_WRITE,
+   FAIL_SYNC (fsync and fdatasync), FAIL_CUT (ftruncate), FAIL_MAKE (a file that is made or emptied, and
+   mkdir), FAIL_RENAME and FAIL_REMOVE (unlink and rmdir) are two numbers, as 3,1: which such call is the
+   first that fails, counted from 1 over all threads, and how many fail from there on (0: all). FAIL_WITH is
+   the error's number (5, EIO).
+   KILL_AT is a number: the program is killed before its nth call that changes something in FOLDER (a file
+   that is made or emptied, a write, a sync, a cut, a folder that is made, a rename, a removal), or in the
+   middle of it if it is a write.
+   FAIL_PART has the first of the failing writes take so many bytes, and the next ones fail. FAIL_ROOM
+   refuses, as a full disk does, what goes beyond so many bytes of a file, and takes what has room.
+   KEPT is a file of eight numbers of eight bytes: the length of FOLDER/journal up to which the last sync kept
+   it, how many writes, syncs and cuts there were, how many calls failed, and how many files were made,
+   renamed and removed.
+   OPENED is a file to which each path is added that is opened to be written, made, renamed or removed,
+   wherever it is.
+   TRACE is a file to which a line is added before each of these calls: `open PATH HOW`, `make`, `rename`,
+   `remove`, `lock`, `read`, `write`, `sync` and `cut`, each with a path, if it is in FOLDER or that of
+   FOLDER; and `reply`, for what is written to a socket. */
 #define _GNU_SOURCE
 #include <errno.h>
 #include <fcntl.h>
@@ -45,7 +49,9 @@ static unsigned long number(const char *name, unsigned long otherwise)
 
 __attribute__((constructor)) static void begin(void)
 {
-    static const char *const names[] = {"FAIL_WRITE", "FAIL_SYNC", "FAIL_CUT", "FAIL_MAKE", "FAIL_RENAME", "FAIL_REMOVE"};
+    static const char *const names[] = {
+        "FAIL_WRITE", "FAIL_SYNC", "FAIL_CUT", "FAIL_MAKE", "FAIL_RENAME", "FAIL_REMOVE",
+    };
     const char *kept = getenv("KEPT");
     for (int it = 0; it < CALLS; it++) {
         const char *text = getenv(names[it]);
@@ -77,7 +83,8 @@ static void add_line(const char *file, const char *first, const char *second, co
     if (file) {
         char line[8400];
         int fd = (int)syscall(SYS_openat, AT_FDCWD, file, O_WRONLY | O_APPEND | O_CREAT, 0644);
-        int length = snprintf(line, sizeof line, "%s%s%s%s%s\n", first, *second ? " " : "", second, *third ? " " : "", third);
+        int length = snprintf(line, sizeof line, "%s%s%s%s%s\n", first, *second ? " " : "", second,
+                              *third ? " " : "", third);
         syscall(SYS_write, fd, line, length);
         syscall(SYS_close, fd);
     }
@@ -94,7 +101,8 @@ static int is_below(const char *whole, char *path, size_t size)
     return 1;
 }
 
-/* Whether a file is the folder or below it; then its path from there. A socket and the folder above are told in a trace. */
+/* Whether a file is the folder or below it; then its path from there. A socket and the folder above are told in
+   a trace. */
 static int is_inside(int fd, const char *what, char *path, size_t size)
 {
     char name[64], whole[4096];
@@ -144,7 +152,8 @@ static int fails(int kind, unsigned long *taken)
     return 1;
 }
 
-/* A call that may change something is told, if it does; the program may be killed before it. Whether it fails. */
+/* A call that may change something is told, if it does; the program may be killed before it. Whether it
+   fails. */
 static int tell(int kind, const char *what, const char *path, const char *how, int is_change)
 {
     char below[4096];
@@ -207,7 +216,8 @@ static int synced(int fd, long how)
     if (fails(SYNC, &taken))
         return -1;
     struct stat now;
-    int is_next = !strcmp(path, "journal.next"), is_known = (is_next || !strcmp(path, "journal")) && !fstat(fd, &now);
+    int is_next = !strcmp(path, "journal.next");
+    int is_known = (is_next || !strcmp(path, "journal")) && !fstat(fd, &now);
     errno = before;
     int result = (int)syscall(how, fd);
     if (!result && is_known)

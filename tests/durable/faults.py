@@ -1,5 +1,5 @@
-"""A device that fails, a disk that is full, and a folder that nobody may write to: what is not kept is refused with H11 and
-seen by nobody, queries go on, and a new start has all that was acknowledged."""
+"""A device that fails, a disk that is full, and a folder that nobody may write to: what is not kept is
+refused with H11 and seen by nobody, queries go on, and a new start has all that was acknowledged."""
 import contextlib
 import os
 import shutil
@@ -75,13 +75,21 @@ class Faults(Folders):
             return
         parts, rows = server.select()
         same = [world for world in worlds if (world.parts(), world.rows()) == (parts, rows)]
-        self.looks.that(f"{what}: what a new start says", same, differences(worlds[0].rows(), rows), tell=False)
+        self.looks.that(
+            f"{what}: what a new start says", same, differences(worlds[0].rows(), rows), tell=False
+        )
         for world in same[:1]:
-            self.looks.at(f"{what}: refusals after it", [], self.tell(what, server, [Batch([row(9, (10**6, 1))])], world), tell=False)
+            self.looks.at(
+                f"{what}: refusals after it",
+                [],
+                self.tell(what, server, [Batch([row(9, (10**6, 1))])], world),
+                tell=False,
+            )
         server.end()
 
     def one(self, what, **fails):
-        """A session with faults, and a start after it. Which events were refused, and how many calls failed."""
+        """A session with faults, and a start after it. Which events were refused, and how many calls
+        failed."""
         folder, world, events = self.folder(), World(), session()
         server = self.start(folder, **fails)
         if not server.wait():
@@ -97,7 +105,9 @@ class Faults(Folders):
         after = [world]
         if refused and "FAIL_SYNC" in fails:
             # the event whose sync failed may be found
-            after.append(self.replay([event for event in events if event not in refused or event is refused[0]]))
+            after.append(
+                self.replay([event for event in events if event not in refused or event is refused[0]])
+            )
         self.again(what, folder, after)
         return [events.index(event) for event in refused], failed
 
@@ -117,13 +127,17 @@ def each_call(faults, looks):
             # the numbers of those that are refused
             for many, name in [(1, "EIO"), (0, "ENOSPC" if kind == "WRITE" else "EIO")]:
                 what = f"{kind.lower()} {n} fails, {'once' if many else 'and all later ones'}"
-                refused, failed = faults.one(what, **{f"FAIL_{kind}": f"{n},{many}", "FAIL_WITH": ERRORS[name]})
+                refused, failed = faults.one(
+                    what, **{f"FAIL_{kind}": f"{n},{many}", "FAIL_WITH": ERRORS[name]}
+                )
                 if refused is None or not failed:
                     starts += refused is None
                     continue
                 sessions += 1
                 is_one = kind == "WRITE" and many == 1
-                wanted = refused[:1] if is_one else list(range(refused[0], count)) if refused else ["one at least"]
+                wanted = (
+                    refused[:1] if is_one else list(range(refused[0], count)) if refused else ["one at least"]
+                )
                 looks.at(f"{what}: which events are refused", wanted, refused, tell=False)
             if not failed:
                 break
@@ -147,20 +161,27 @@ def other_faults(faults, looks):
         refused, _ = faults.one(f"{part} bytes are written, and the next write fails",
                                 FAIL_WRITE=f"{writes + 2},2", FAIL_PART=part, FAIL_WITH=28)
         looks.at(f"{part} bytes are written, and the next write fails", [1], refused)
-    refused, _ = faults.one("five bytes are written, and the rest later", FAIL_WRITE=f"{writes + 2},1", FAIL_PART=5)
+    refused, _ = faults.one(
+        "five bytes are written, and the rest later", FAIL_WRITE=f"{writes + 2},1", FAIL_PART=5
+    )
     looks.at("five bytes are written, and the rest later", [], refused)
     refused, _ = faults.one("a write is interrupted", FAIL_WRITE=first, FAIL_WITH=4)
     looks.at("a write is interrupted", [], refused)
-    refused, _ = faults.one("part is written, and cannot be cut off again", FAIL_WRITE=f"{writes + 2},2", FAIL_PART=9,
-                            FAIL_CUT=f"{cuts + 1},1")
+    refused, _ = faults.one(
+        "part is written, and cannot be cut off again", FAIL_WRITE=f"{writes + 2},2", FAIL_PART=9,
+        FAIL_CUT=f"{cuts + 1},1",
+    )
     looks.at("part is written, and cannot be cut off again: nothing more is taken", everything[1:], refused)
-    refused, _ = faults.one("part is written, and the cut is not synced", FAIL_WRITE=f"{writes + 2},2", FAIL_PART=9,
-                            FAIL_SYNC=f"{syncs + 2},1")
+    refused, _ = faults.one(
+        "part is written, and the cut is not synced", FAIL_WRITE=f"{writes + 2},2", FAIL_PART=9,
+        FAIL_SYNC=f"{syncs + 2},1",
+    )
     looks.at("part is written, and the cut is not synced: nothing more is taken", everything[1:], refused)
 
 
 def cut_back(faults, looks):
-    """What a failed write left is cut off: the journal has the bytes of what was acknowledged, before a new start too."""
+    """What a failed write left is cut off: the journal has the bytes of what was acknowledged, before a new
+    start too."""
     folder, world = faults.folder(), World()
     probe = faults.folder()
     server = faults.start(probe)
@@ -172,13 +193,17 @@ def cut_back(faults, looks):
     refused = faults.tell("a write that is cut off", server, session(), world)
     kept = [event.text() for event in session() if event.line() not in [one.line() for one in refused]]
     looks.at("which event is refused", [session()[1].line()], [event.line() for event in refused])
-    looks.that("the bytes of the journal are those of what was acknowledged", read(f"{folder}/journal") == journal(kept))
+    looks.that(
+        "the bytes of the journal are those of what was acknowledged",
+        read(f"{folder}/journal") == journal(kept),
+    )
     server.end()
     faults.again("a write that is cut off", folder, [world])
 
 
 def failing_starts(faults, looks):
-    """Each call of a start over a journal with a torn end fails in turn: nothing that was acknowledged is lost."""
+    """Each call of a start over a journal with a torn end fails in turn: nothing that was acknowledged is
+    lost."""
     base, world = faults.folder(), World()
     server = faults.start(base)
     server.wait()
@@ -206,12 +231,16 @@ def failing_starts(faults, looks):
             faults.again(what, folder, [faults.replay(session())])
             if not failed:
                 break
-        looks.that(f"each {kind.lower()} of a start failed in turn: some starts ended, or did not roll", ended + not_rolled, (ended, not_rolled))
+        looks.that(
+            f"each {kind.lower()} of a start failed in turn: some starts ended, or did not roll",
+            ended + not_rolled,
+            (ended, not_rolled),
+        )
 
 
 def several(faults, looks):
-    """Ten writes in a row fail beside four clients. Changes that wait are written together, so each failure refuses the
-    changes of one to four clients, and none of them is seen."""
+    """Ten writes in a row fail beside four clients. Changes that wait are written together, so each failure
+    refuses the changes of one to four clients, and none of them is seen."""
     folder, probe = faults.folder(), faults.folder()
     server = faults.start(probe)
     server.wait()
@@ -238,9 +267,11 @@ def several(faults, looks):
     looks.that("ten writes fail beside four clients: how many are refused", 10 <= refused <= 40, refused)
     with urllib.request.urlopen(f"http://127.0.0.1:{status}/metrics", timeout=60) as reply:
         counts = dict(line.rsplit(" ", 1) for line in reply.read().decode().splitlines() if line[0] != "#")
-    for name, count in [('refusals_total{code="H11"}', refused), ('refusals_total{code="H10"}', 0),
-                        ('events_total{kind="batch"}', kept), ('requests_total{path="write",status="503"}', refused),
-                        ('requests_total{path="write",status="200"}', kept), ("samples_accepted_total", kept)]:
+    for name, count in [
+        ('refusals_total{code="H11"}', refused), ('refusals_total{code="H10"}', 0),
+        ('events_total{kind="batch"}', kept), ('requests_total{path="write",status="503"}', refused),
+        ('requests_total{path="write",status="200"}', kept), ("samples_accepted_total", kept),
+    ]:
         looks.at(f"the count of {name}", str(count), counts.get(f"fuzzledge_{name}"))
     world = faults.replay([event for event, got in told if got == OK])
     faults.says("ten writes fail beside four clients", server, world)
@@ -252,7 +283,9 @@ def several(faults, looks):
 def mounted(folder, size):
     """A file system in memory, of so many bytes; or None if none may be mounted."""
     os.mkdir(folder)
-    done = subprocess.run(["mount", "-t", "tmpfs", "-o", f"size={size}", "durable", folder], capture_output=True)
+    done = subprocess.run(
+        ["mount", "-t", "tmpfs", "-o", f"size={size}", "durable", folder], capture_output=True
+    )
     try:
         yield None if done.returncode else folder
     finally:
@@ -276,7 +309,9 @@ def fill(faults, looks, what, server, world, base, make_room=None):
     faults.says(f"{what}: queries go on", server, world)
     if make_room:
         make_room()
-        looks.at(f"{what}: with room again", [], faults.tell(what, server, [Batch([row(1, (10**6, 1))])], world))
+        looks.at(
+            f"{what}: with room again", [], faults.tell(what, server, [Batch([row(1, (10**6, 1))])], world)
+        )
 
 
 def full(faults, looks, work):
@@ -361,7 +396,11 @@ def read_only(faults, looks, work):
     own(folder)
     os.chmod(folder, 0o555)
     server = starts(folder)
-    looks.at("an empty folder that is read-only", (3, True, {}), (server.end(), server.told.startswith("cannot "), tree(folder)))
+    looks.at(
+        "an empty folder that is read-only",
+        (3, True, {}),
+        (server.end(), server.told.startswith("cannot "), tree(folder)),
+    )
     os.chmod(folder, 0o755)
     server = starts(folder)
     looks.that("a folder that may be written to", server.port, server.told)
@@ -393,7 +432,11 @@ def read_only(faults, looks, work):
             if not subprocess.run(["mount", "-o", "remount,ro", disk], capture_output=True).returncode:
                 server = Server(faults.querier, "--data", f"{disk}/data")
                 server.wait()
-                looks.at("a file system that is read-only", (3, True), (server.end(), server.told.startswith("cannot ")))
+                looks.at(
+                    "a file system that is read-only",
+                    (3, True),
+                    (server.end(), server.told.startswith("cannot ")),
+                )
 
 
 def faults(looks, querier, preload, work):

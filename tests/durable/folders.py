@@ -1,5 +1,5 @@
-"""The folder of a store that is kept: two servers, other versions, what is left over, words that are refused; and a server
-without --data, which writes no file."""
+"""The folder of a store that is kept: two servers, other versions, what is left over, words that are refused;
+and a server without --data, which writes no file."""
 import contextlib
 import os
 import signal
@@ -23,18 +23,34 @@ def one_server(looks, querier, work):
     held = tree(folder)
     other = Server(querier, "--data", folder)
     other.wait()
-    looks.at("a second server", (3, f"cannot lock {folder}: process {server.process.pid} has it"), (other.end(), other.told))
+    looks.at(
+        "a second server",
+        (3, f"cannot lock {folder}: process {server.process.pid} has it"),
+        (other.end(), other.told),
+    )
     looks.at("what the second one changed", held, tree(folder))
     status, out, _ = run([querier, "journal", folder])
-    looks.at("journal beside a server", (0, ["head: floor -4611686018427387904, 0 blocks, 0 series, 0 samples",
-                                             "1 batch 1 samples of 1 series, 1 to 1"]), (status, out.splitlines()[:2]))
+    looks.at(
+        "journal beside a server",
+        (
+            0,
+            [
+                "head: floor -4611686018427387904, 0 blocks, 0 series, 0 samples",
+                "1 batch 1 samples of 1 series, 1 to 1",
+            ],
+        ),
+        (status, out.splitlines()[:2]),
+    )
     looks.at("the first one goes on", OK, server.tell(up((2, 2))))
     with open(f"{folder}/lock", "wb"):
         pass
     other = Server(querier, "--data", folder)
     other.wait()
-    looks.at("a second server, if the lock names none", (3, f"cannot lock {folder}: another process has it (see the file lock there)"),
-             (other.end(), other.told))
+    looks.at(
+        "a second server, if the lock names none",
+        (3, f"cannot lock {folder}: another process has it (see the file lock there)"),
+        (other.end(), other.told),
+    )
     server.end(signal.SIGTERM)
     server = Server(querier, "--data", folder)
     looks.that("a server after it", server.wait(), server.told)
@@ -52,7 +68,11 @@ def at_once(looks, querier, work):
         # who has it is named as soon as it has written its number
         held = [f"cannot lock {folder}: {who} has it" for who in
                 ["another process", *(f"process {server.process.pid}" for server in serving)]]
-        others = [(server.ended(), server.told.split(" (")[0] in held) for server in servers if server not in serving]
+        others = [
+            (server.ended(), server.told.split(" (")[0] in held)
+            for server in servers
+            if server not in serving
+        ]
         looks.at("the others", [(3, True)] * 5, others)
         for server in serving[:1]:
             looks.at("a write to the one", OK, server.tell(up((1, 1))))
@@ -136,13 +156,19 @@ def refused_folders(looks, querier, work, blocks):
         before = tree(path)
         server = Server(querier, "--data", path)
         server.wait()
-        looks.at(what, (3, True, True), (server.end(), server.told.startswith("cannot "), tree(path) == before))
+        looks.at(
+            what, (3, True, True), (server.end(), server.told.startswith("cannot "), tree(path) == before)
+        )
     server = Server(querier, "--data", f"{work}/none/none")
     server.wait()
     looks.at("a folder in one that is not there", (3, True, False),
              (server.end(), server.told.startswith("cannot "), os.path.exists(f"{work}/none")))
     folder = f"{work}/beside"
-    for words in [("--data", folder, *blocks[:1]), (*blocks[:1], "--data", folder), ("--data", folder, "none")]:
+    for words in [
+        ("--data", folder, *blocks[:1]),
+        (*blocks[:1], "--data", folder),
+        ("--data", folder, "none"),
+    ]:
         server = Server(querier, *words)
         server.wait()
         looks.at(f"blocks beside --data ({' '.join(words)[-40:]})", (2, True, False),
@@ -208,39 +234,68 @@ def in_memory(looks, querier, preload, work, blocks):
     looks.at("without --data: the samples", world.rows(), server.select()[1])
     looks.at("without --data: files open to be written", [], written_by(server.process.pid))
     with open(f"/proc/{server.process.pid}/io") as counts:
-        looks.at("without --data: bytes to a disk", "0", next(line.split()[1] for line in counts if line.startswith("write_bytes")))
+        looks.at(
+            "without --data: bytes to a disk",
+            "0",
+            next(line.split()[1] for line in counts if line.startswith("write_bytes")),
+        )
     server.end(signal.SIGTERM)
     looks.at("without --data: what its folder has", {}, tree(folder))
     if preload:
-        looks.that("without --data: files opened to be written", not os.path.exists(opened), os.path.exists(opened) and read(opened))
+        looks.that(
+            "without --data: files opened to be written",
+            not os.path.exists(opened),
+            os.path.exists(opened) and read(opened),
+        )
 
 
 def calls(looks, querier, preload, work):
-    """The order of the calls on a folder, as the preloaded library tells it: what a start reads is synced, and each record
-    is synced before the reply goes out."""
+    """The order of the calls on a folder, as the preloaded library tells it: what a start reads is synced,
+    and each record is synced before the reply goes out."""
     if not preload:
         looks.say("there is no C compiler: the order of calls is left")
         return
-    folder, events = f"{work}/calls", [up((1, 1)), Deletion([equals("suite", "durable")], 0, 0), Cut(1), up((2, 2))]
+    folder, events = f"{work}/calls", [
+        up((1, 1)), Deletion([equals("suite", "durable")], 0, 0), Cut(1), up((2, 2)),
+    ]
     for start in ("a first start", "a second start"):
         trace = f"{folder}.{start.replace(' ', '-')}"
-        server = Server(querier, "--workers", "1", "--data", folder, env={"LD_PRELOAD": preload, "FOLDER": folder, "TRACE": trace})
+        server = Server(
+            querier, "--workers", "1", "--data", folder,
+            env={"LD_PRELOAD": preload, "FOLDER": folder, "TRACE": trace},
+        )
         looks.that(f"{start}: it listens", server.wait(), server.told)
         before = lines_of(trace)
         wanted = ["lock lock", "sync journal", "sync .", "read journal", "cut journal", "sync journal"]
         if start == "a first start":
-            wanted = ["make .", "sync ..", "lock lock", "write journal.next", "sync journal.next", "sync .", "rename journal",
-                      "sync ."]
+            wanted = [
+                "make .", "sync ..", "lock lock", "write journal.next", "sync journal.next", "sync .",
+                "rename journal", "sync .",
+            ]
         looks.that(f"{start}: its calls", is_within(wanted, before), before)
-        looks.that(f"{start}: the folder and the one above are synced", {"sync .", "sync .."} <= set(before), before)
+        looks.that(
+            f"{start}: the folder and the one above are synced", {"sync .", "sync .."} <= set(before), before
+        )
         touched = [line for line in before if line.split()[0] != "remove" and "journal" in line]
-        looks.that(f"{start}: nothing before the lock", before.index("lock lock") < before.index(touched[0]), before)
-        opened = ["open journal r"] if start == "a first start" else ["open journal r", "open journal w append"]
-        looks.at(f"{start}: how the journal is opened", opened, [line for line in before if line.startswith("open journal ")])
+        looks.that(
+            f"{start}: nothing before the lock", before.index("lock lock") < before.index(touched[0]), before
+        )
+        opened = (
+            ["open journal r"] if start == "a first start" else ["open journal r", "open journal w append"]
+        )
+        looks.at(
+            f"{start}: how the journal is opened",
+            opened,
+            [line for line in before if line.startswith("open journal ")],
+        )
         refused = [up((0, 5)), Cut(0)] if start == "a second start" else []
         for event in refused:
             looks.at(f"{start}: {event.line()}", 409, server.tell(event)[0])
-        looks.at(f"{start}: calls of refused events", ["reply"] if refused else [], short_of(lines_of(trace)[len(before):]))
+        looks.at(
+            f"{start}: calls of refused events",
+            ["reply"] if refused else [],
+            short_of(lines_of(trace)[len(before) :]),
+        )
         for event in events:
             before = lines_of(trace)
             looks.at(f"{start}: {event.line()}", OK, server.tell(event))

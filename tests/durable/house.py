@@ -1,6 +1,6 @@
 """What the parts know: events and the bytes of a journal as docs/FORMATS.md has them, what a store says after
-events, servers that are started and killed, and the count of what was looked at. Nothing here is taken from the
-program."""
+events, servers that are started and killed, and the count of what was looked at. Nothing here is taken from
+the program."""
 import http.client
 import json
 import os
@@ -9,6 +9,7 @@ import time
 import urllib.parse
 
 from lib import Running
+from read_block import checksum, uvarint, varint
 
 LEAST, MOST = -(2**62), 2**62 - 1
 OK = (200, {"ok": True})
@@ -17,39 +18,7 @@ NOT_KEPT = (503, {"refused": "H11"})
 OPERATORS = {"=": 0, "!=": 1, "=~": 2, "!~": 3}
 
 
-# numbers, records and the texts of events
-
-
-def sums():
-    table = []
-    for byte in range(256):
-        for _ in range(8):
-            byte = byte >> 1 ^ (0x82F63B78 if byte & 1 else 0)
-        table.append(byte)
-    return table
-
-
-TABLE = sums()
-
-
-def checksum(data):
-    """CRC-32C, the most significant byte first."""
-    state = 0xFFFFFFFF
-    for byte in data:
-        state = state >> 8 ^ TABLE[(state ^ byte) & 255]
-    return (state ^ 0xFFFFFFFF).to_bytes(4, "big")
-
-
-def uvarint(number):
-    text = bytearray()
-    while number > 127:
-        text.append(number & 127 | 128)
-        number >>= 7
-    return bytes(text) + bytes([number])
-
-
-def varint(number):
-    return uvarint(2 * number if number >= 0 else -2 * number - 1)
+# records and the texts of events
 
 
 def text_of(string):
@@ -128,8 +97,8 @@ class Reader:
 
 
 class Head:
-    """What a journal begins with: a floor, the numbers of the folders of blocks, and series of label set, newest sample and
-    samples by their times."""
+    """What a journal begins with: a floor, the numbers of the folders of blocks, and series of label set,
+    newest sample and samples by their times."""
 
     def __init__(self, floor=LEAST, numbers=(), series=()):
         self.floor, self.numbers, self.series = floor, list(numbers), list(series)
@@ -140,8 +109,14 @@ class Head:
     @staticmethod
     def of(world, numbers):
         """The head that a roll writes."""
-        return Head(world.floor, numbers, [
-            (labels, last, sorted(world.head.get(labels, {}).items())) for labels, last in world.newest.items()])
+        return Head(
+            world.floor,
+            numbers,
+            [
+                (labels, last, sorted(world.head.get(labels, {}).items()))
+                for labels, last in world.newest.items()
+            ],
+        )
 
     @staticmethod
     def read(contents):
@@ -164,18 +139,27 @@ class Head:
         return Head(floor, numbers, series), contents[1 + count :]
 
     def contents(self):
-        texts = [b"\x10" + varint(self.floor) + uvarint(len(self.numbers))
-                 + b"".join(uvarint(number) + uvarint(0) for number in self.numbers) + uvarint(len(self.series))]
+        texts = [
+            b"\x10"
+            + varint(self.floor)
+            + uvarint(len(self.numbers))
+            + b"".join(uvarint(number) + uvarint(0) for number in self.numbers)
+            + uvarint(len(self.series))
+        ]
         for labels, newest, samples in self.series:
-            text = b"\x11" + uvarint(len(labels)) + b"".join(text_of(name) + text_of(value) for name, value in labels)
+            text = (
+                b"\x11"
+                + uvarint(len(labels))
+                + b"".join(text_of(name) + text_of(value) for name, value in labels)
+            )
             text += b"".join(varint(number) for number in newest) + uvarint(len(samples))
             texts.append(text + b"".join(varint(time) + varint(value) for time, value in samples))
         return texts
 
     def line(self):
         """What `querier journal` says of it."""
-        samples = sum(len(samples) for _, _, samples in self.series)
-        return f"head: floor {self.floor}, {len(self.numbers)} blocks, {len(self.series)} series, {samples} samples"
+        series, samples = len(self.series), sum(len(samples) for _, _, samples in self.series)
+        return f"head: floor {self.floor}, {len(self.numbers)} blocks, {series} series, {samples} samples"
 
 
 class Batch:
@@ -325,7 +309,8 @@ class World:
             if low := self.below(event.at):
                 self.blocks.append(low)
             self.head = {
-                labels: {t: v for t, v in samples.items() if t >= event.at} for labels, samples in self.head.items()
+                labels: {t: v for t, v in samples.items() if t >= event.at}
+                for labels, samples in self.head.items()
             }
             self.newest = {labels: last for labels, last in self.newest.items() if last[0] >= event.at}
             self.floor = event.at
@@ -334,7 +319,8 @@ class World:
     def parts(self):
         """The samples of each block, and those of the head."""
         return [
-            {labels: samples for labels, samples in part.items() if samples} for part in [*self.blocks, self.head]
+            {labels: samples for labels, samples in part.items() if samples}
+            for part in [*self.blocks, self.head]
         ]
 
     def rows(self):
@@ -483,7 +469,10 @@ class Looks:
         print(f"{self.name}: {line}", flush=True)
 
     def done(self):
-        print(f"{self.name}: {self.passed} passed, {self.failed} failed, {time.monotonic() - self.began:.0f} s", flush=True)
+        print(
+            f"{self.name}: {self.passed} passed, {self.failed} failed, {time.monotonic() - self.began:.0f} s",
+            flush=True,
+        )
 
 
 def short(value):
@@ -493,7 +482,10 @@ def short(value):
 
 def differences(wanted, got):
     """The first few points that two lists of samples do not both have."""
-    points = [{(labels, t, v) for labels, samples in rows.items() for t, v in samples.items()} for rows in (wanted, got)]
+    points = [
+        {(labels, t, v) for labels, samples in rows.items() for t, v in samples.items()}
+        for rows in (wanted, got)
+    ]
     missing, strange = points[0] - points[1], points[1] - points[0]
     return (f"{len(missing)} samples missing, as {sorted(missing)[:2]}; "
             f"{len(strange)} that nobody sent or that were deleted, as {sorted(strange)[:2]}")

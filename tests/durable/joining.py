@@ -1,5 +1,5 @@
-"""`blocktool join` of a store that no server keeps: the store says the same as before, in fewer blocks, whichever call of the
-join is the last or fails; and what is not joined stays as it is."""
+"""`blocktool join` of a store that no server keeps: the store says the same as before, in fewer blocks,
+whichever call of the join is the last or fails; and what is not joined stays as it is."""
 import contextlib
 import copy
 import http.client
@@ -14,8 +14,8 @@ import urllib.parse
 from blocks import Blocks, row, session
 from faults import NOBODY, mounted
 from house import (
-    LEAST, MOST, OK, Batch, Cut, Deletion, Head, World, contents_of, equals, journal, lines_of, piped, read, record,
-    recovered, refused, rows_in, run, tree,
+    LEAST, MOST, OK, Batch, Cut, Deletion, Head, World, contents_of, equals, journal, lines_of, piped, read,
+    record, recovered, refused, rows_in, run, tree,
 )
 
 # a selector, what it takes, and a range
@@ -31,7 +31,11 @@ QUESTIONS = [
 ERRORS = {"EIO": 5, "ENOSPC": 28}
 # the calls that may fail, and how a trace names them
 CALLS = {
-    "WRITE": ("write ",), "SYNC": ("sync ",), "CUT": ("cut ",), "MAKE": ("make ", "open "), "RENAME": ("rename ",),
+    "WRITE": ("write ",),
+    "SYNC": ("sync ",),
+    "CUT": ("cut ",),
+    "MAKE": ("make ", "open "),
+    "RENAME": ("rename ",),
     "REMOVE": ("remove ",),
 }
 
@@ -87,11 +91,16 @@ class Joins(Blocks):
     def join(self, folder, **env):
         """A join, to its end."""
         if env:
-            env = {"LD_PRELOAD": self.preload, "FOLDER": folder, **{name: str(value) for name, value in env.items()}}
+            env = {
+                "LD_PRELOAD": self.preload,
+                "FOLDER": folder,
+                **{name: str(value) for name, value in env.items()},
+            }
         return run([self.blocktool, "join", folder], env)
 
     def lived(self, *phases):
-        """A folder of a store that was told of these events, with a start before each list of them; and its world."""
+        """A folder of a store that was told of these events, with a start before each list of them; and its
+        world."""
         folder, world = self.folder(), World()
         for events in phases:
             server = self.start(folder)
@@ -116,7 +125,9 @@ class Joins(Blocks):
         selector, _, first, end = question
         link = http.client.HTTPConnection("127.0.0.1", server.port, timeout=120)
         with contextlib.closing(link):
-            link.request("GET", "/select?" + urllib.parse.urlencode({"selector": selector, "from": first, "to": end}))
+            link.request(
+                "GET", "/select?" + urllib.parse.urlencode({"selector": selector, "from": first, "to": end})
+            )
             reply = link.getresponse()
             body = reply.read()
         self.looks.at(f"the status of {selector}", 200, reply.status, tell=False)
@@ -128,7 +139,9 @@ class Joins(Blocks):
         for question in QUESTIONS:
             body = self.reply(server, question)
             rows = rows_in(json.loads(body)["rows"])
-            self.looks.at(f"{what}: the rows of {question[0]}", selected(world, *question[1:]), rows, tell=False)
+            self.looks.at(
+                f"{what}: the rows of {question[0]}", selected(world, *question[1:]), rows, tell=False
+            )
             # the last member of a reply; a text has no such bytes, since its quotes are escaped
             found.append(body.rsplit(b'"rows":', 1)[1])
         return found
@@ -149,7 +162,8 @@ class Joins(Blocks):
         return codes
 
     def audited(self, what, server, folder):
-        """The auditor accepts the reply of the server to each question, and that of `select` over the blocks."""
+        """The auditor accepts the reply of the server to each question, and that of `select` over the
+        blocks."""
         names = [f"{folder}/blocks/{number}" for number in self.numbers(folder)]
         for question in QUESTIONS:
             selector, _, first, end = question
@@ -159,7 +173,12 @@ class Joins(Blocks):
             for text in (self.reply(server, question), reply.encode()):
                 status, out, err = piped([self.auditor, *words], text)
                 lines = [line.split(": ")[-1] for line in out.splitlines()]
-                self.looks.at(f"{what}: how many parts the auditor judges of {selector}", len(names) + 2, len(lines), tell=False)
+                self.looks.at(
+                    f"{what}: how many parts the auditor judges of {selector}",
+                    len(names) + 2,
+                    len(lines),
+                    tell=False,
+                )
                 self.looks.at(f"{what}: the auditor on {selector}", (0, set(), ""),
                               (status, set(lines) - {"valid", "skipped"}, err), tell=False)
 
@@ -168,22 +187,33 @@ class Joins(Blocks):
         one = joined(world)
         server = self.start(folder)
         if self.looks.that(f"{what}: it starts", server.wait(), server.told, tell=False):
-            self.looks.at(f"{what}: what it says", [recovered(0, blocks=len(one.blocks))], server.first_lines(1), tell=False)
+            self.looks.at(
+                f"{what}: what it says",
+                [recovered(0, blocks=len(one.blocks))],
+                server.first_lines(1),
+                tell=False,
+            )
             self.says(what, server, one)
             found = self.numbers(folder)
             self.looks.at(f"{what}: how many blocks there are", len(one.blocks), len(found), tell=False)
             if numbers:
                 self.looks.at(f"{what}: the number of the block", numbers, found, tell=False)
             head = Head.of(world, found)
-            self.looks.that(f"{what}: the journal", read(f"{folder}/journal") == journal([], head.contents()), tell=False)
+            self.looks.that(
+                f"{what}: the journal", read(f"{folder}/journal") == journal([], head.contents()), tell=False
+            )
             if one.blocks:
                 self.there(what, folder, one, found)
         return server
 
 
 def lives(them, looks):
-    """A store of several cuts, rolls and deletions: before the join and after it, and in a life after that."""
-    for what, phases in [("a saved store", [session(), []]), ("a store of a life", [session(), later(), last()])]:
+    """A store of several cuts, rolls and deletions: before the join and after it, and in a life after
+    that."""
+    for what, phases in [
+        ("a saved store", [session(), []]),
+        ("a store of a life", [session(), later(), last()]),
+    ]:
         folder, world = them.lived(*phases)
         count = len(world.blocks)
         # a server is asked over a copy, so that the store keeps what it has
@@ -192,7 +222,11 @@ def lives(them, looks):
         before = them.merged(f"{what}, before", server, world)
         codes = them.refusals(f"{what}, before", server, world)
         server.end()
-        looks.at(f"{what}: what the join says", (0, f"{folder}: {count} blocks joined into 1\n", ""), them.join(folder))
+        looks.at(
+            f"{what}: what the join says",
+            (0, f"{folder}: {count} blocks joined into 1\n", ""),
+            them.join(folder),
+        )
         held = tree(folder)
         server = them.same(what, folder, world)
         looks.that(f"{what}: a start changed nothing", tree(folder) == held)
@@ -247,14 +281,22 @@ def many(them, looks):
     one = joined(world).apply(cut)
     them.says("63 blocks, joined and cut", server, one)
     server.end()
-    looks.at("63 blocks, joined and cut: the join", (0, f"{folder}: 2 blocks joined into 1\n", ""), them.join(folder))
-    looks.at("63 blocks, joined and cut: once more", (0, f"{folder}: 1 block, none joined\n", ""), them.join(folder))
+    looks.at(
+        "63 blocks, joined and cut: the join",
+        (0, f"{folder}: 2 blocks joined into 1\n", ""),
+        them.join(folder),
+    )
+    looks.at(
+        "63 blocks, joined and cut: once more",
+        (0, f"{folder}: 1 block, none joined\n", ""),
+        them.join(folder),
+    )
     them.same("63 blocks, joined twice", folder, world.apply(cut)).end()
 
 
 def large(them, looks):
-    """A series of more samples than one block may have (1,048,576): each half of three blocks is joined by itself, and then
-    nothing more."""
+    """A series of more samples than one block may have (1,048,576): each half of three blocks is joined by
+    itself, and then nothing more."""
     each, folder, world, events = 360_000, them.folder(), World(), []
     for block in range(3):
         for first in range(block * each, (block + 1) * each, 4000):
@@ -265,7 +307,11 @@ def large(them, looks):
     os.mkdir(folder)
     with open(f"{folder}/journal", "wb") as file:
         file.write(journal([event.text() for event in events]))
-    looks.at("blocks that one may not have together", (0, f"{folder}: 3 blocks joined into 2\n", ""), them.join(folder))
+    looks.at(
+        "blocks that one may not have together",
+        (0, f"{folder}: 3 blocks joined into 2\n", ""),
+        them.join(folder),
+    )
     halves, back = World(), World()
     back.blocks = world.blocks[1:]
     halves.blocks = [world.blocks[0], *joined(back).blocks]
@@ -285,36 +331,55 @@ def is_made(line):
 
 
 def order(them, looks, base):
-    """What is written is synced, and so are the folders in which it is made, before the journal has its new head; the old
-    blocks go after that name is synced."""
+    """What is written is synced, and so are the folders in which it is made, before the journal has its new
+    head; the old blocks go after that name is synced."""
     folder = them.copied(base)
     old = them.numbers(folder)
     status, _, _ = them.join(folder, TRACE=f"{folder}.trace")
     lines = lines_of(f"{folder}.trace")
     looks.at("the status of a join that is traced", 0, status)
-    looks.that("nothing of the store is looked at before the lock",
-               lines.index("lock lock") < min(n for n, line in enumerate(lines) if line.split()[1] != "lock"), lines)
+    looks.that(
+        "nothing of the store is looked at before the lock",
+        lines.index("lock lock") < min(n for n, line in enumerate(lines) if line.split()[1] != "lock"),
+        lines,
+    )
     looks.at("how often the journal is renamed", 1, lines.count("rename journal"))
     renamed = lines.index("rename journal")
     before, after = lines[:renamed], lines[renamed + 1 :]
     new, = them.numbers(folder)
-    wanted = {f"blocks/{new}/{name}" for name in ("chunks/000001", "index", "meta.json", "tombstones")} | {"journal.next"}
+    wanted = {f"blocks/{new}/{name}" for name in ("chunks/000001", "index", "meta.json", "tombstones")} | {
+        "journal.next"
+    }
     looks.at("what is written", wanted, {line[6:] for line in lines if line.startswith("write ")} - {"lock"})
-    looks.that("all of it before the rename", wanted <= {line[6:] for line in before if line.startswith("write ")}, lines)
+    looks.that(
+        "all of it before the rename",
+        wanted <= {line[6:] for line in before if line.startswith("write ")},
+        lines,
+    )
     made = 0
     for n, line in enumerate(before):
         path = line.split()[1]
         if line.startswith("write ") and path != "lock":
-            looks.that(f"{path} is synced after it is written", f"sync {path}" in before[n:], lines, tell=False)
+            looks.that(
+                f"{path} is synced after it is written", f"sync {path}" in before[n:], lines, tell=False
+            )
         if is_made(line):
             made += 1
             place = os.path.dirname(path) or "."
-            looks.that(f"{place} is synced after {path} is made", f"sync {place}" in before[n:], lines, tell=False)
+            looks.that(
+                f"{place} is synced after {path} is made", f"sync {place}" in before[n:], lines, tell=False
+            )
     looks.that("files and folders are made", made >= len(wanted) + 2, lines)
     gone = [n for n, line in enumerate(after) if line.startswith("remove blocks/")]
-    looks.at("the blocks that are removed", {str(number) for number in old}, {after[n].split("/")[1] for n in gone})
-    looks.that("the new name is synced before anything is removed", gone and "sync ." in after[: gone[0]], lines)
-    looks.that("and nothing of a block before", not any(line.startswith("remove blocks/") for line in before), lines)
+    looks.at(
+        "the blocks that are removed", {str(number) for number in old}, {after[n].split("/")[1] for n in gone}
+    )
+    looks.that(
+        "the new name is synced before anything is removed", gone and "sync ." in after[: gone[0]], lines
+    )
+    looks.that(
+        "and nothing of a block before", not any(line.startswith("remove blocks/") for line in before), lines
+    )
 
 
 def either(them, looks, what, folder, world, late):
@@ -326,8 +391,8 @@ def either(them, looks, what, folder, world, late):
 
 
 def again(them, looks, what, folder, world, late):
-    """A second join over what the first left: it joins, or there is nothing to join, and what was not removed goes at the
-    next roll."""
+    """A second join over what the first left: it joins, or there is nothing to join, and what was not removed
+    goes at the next roll."""
     wanted = "1 block, none joined" if late else f"{len(world.blocks)} blocks joined into 1"
     looks.at(f"{what}: a second join", (0, f"{folder}: {wanted}\n", ""), them.join(folder), tell=False)
     if not late:
@@ -368,8 +433,11 @@ def killed(them, looks):
             folder = them.copied(base)
             status, out, err = them.join(folder, KILL_AT=n)
             if status != -signal.SIGKILL:
-                looks.at(f"{what}: a join of {n - 1} calls", (0, f"{folder}: {len(world.blocks)} blocks joined into 1\n", ""),
-                         (status, out, err))
+                looks.at(
+                    f"{what}: a join of {n - 1} calls",
+                    (0, f"{folder}: {len(world.blocks)} blocks joined into 1\n", ""),
+                    (status, out, err),
+                )
                 break
             looks.at(f"{what}, killed at call {n}: what it says", ("", ""), (out, err), tell=False)
             after = is_late(them, folder)
@@ -379,13 +447,17 @@ def killed(them, looks):
                 either(them, looks, f"{what}, killed at call {n}", folder, world, after)
             again(them, looks, f"{what}, killed at call {n}", folder, world, after)
             shutil.rmtree(folder)
-        looks.that(f"{what}: it was killed before the new journal and after", late and n - 1 > 2 * late, (n - 1, late))
+        looks.that(
+            f"{what}: it was killed before the new journal and after",
+            late and n - 1 > 2 * late,
+            (n - 1, late),
+        )
         looks.say(f"{what}: {n - 1} joins were killed, {late} of them after the new journal had its name")
 
 
 def failing(them, looks):
-    """Each call of a join fails once: it says so with status 3 and the store is as it was, or joined; a lock that names
-    nobody and a block that is not removed hinder nothing."""
+    """Each call of a join fails once: it says so with status 3 and the store is as it was, or joined; a lock
+    that names nobody and a block that is not removed hinder nothing."""
     for what, base, world in bases(them):
         for kind, begins in CALLS.items():
             ended, went_on = 0, 0
@@ -399,25 +471,44 @@ def failing(them, looks):
                 if not failed:
                     break
                 lines = lines_of(trace)
-                places = [at for at, line in enumerate(lines) if line.startswith(begins) and line != "sync .."
-                          and (kind != "MAKE" or line.startswith("make ") or " create" in line or " empty" in line)]
+                places = [
+                    at
+                    for at, line in enumerate(lines)
+                    if line.startswith(begins)
+                    and line != "sync .."
+                    and (kind != "MAKE" or line.startswith("make ") or " create" in line or " empty" in line)
+                ]
                 it = f"{what}: {lines[places[n - 1]]} ({kind.lower()} {n}) fails with {name}"
                 after = is_late(them, folder)
                 if hinders(lines, places[n - 1]):
                     looks.at(f"{it}: the status", (3, ""), (status, out), tell=False)
-                    looks.that(f"{it}: what it says", err.startswith("cannot ") and err.count("\n") == 1, err, tell=False)
+                    looks.that(
+                        f"{it}: what it says",
+                        err.startswith("cannot ") and err.count("\n") == 1,
+                        err,
+                        tell=False,
+                    )
                     ended += 1
                 else:
-                    looks.at(f"{it}: what it says", (0, f"{folder}: {len(world.blocks)} blocks joined into 1\n", ""),
-                             (status, out, err), tell=False)
+                    looks.at(
+                        f"{it}: what it says",
+                        (0, f"{folder}: {len(world.blocks)} blocks joined into 1\n", ""),
+                        (status, out, err),
+                        tell=False,
+                    )
                     looks.that(f"{it}: it is joined", after, tell=False)
                     went_on += 1
                 if n % 4 < 2:
                     either(them, looks, it, folder, world, after)
                 again(them, looks, it, folder, world, after)
                 shutil.rmtree(folder)
-            looks.that(f"{what}: each {kind.lower()} fails in turn", not failed and ended + went_on, (ended, went_on))
-            looks.say(f"{what}: each {kind.lower()} of a join failed in turn: {ended} joins ended, {went_on} went on")
+            looks.that(
+                f"{what}: each {kind.lower()} fails in turn", not failed and ended + went_on, (ended, went_on)
+            )
+            looks.say(
+                f"{what}: each {kind.lower()} of a join failed in turn: "
+                f"{ended} joins ended, {went_on} went on"
+            )
 
 
 def is_of_folder(line):
@@ -426,8 +517,8 @@ def is_of_folder(line):
 
 
 def hinders(lines, at):
-    """Whether a join has to end if this call fails: not if it names the holder of the lock, or removes what is no more the
-    store's, or syncs a folder after that."""
+    """Whether a join has to end if this call fails: not if it names the holder of the lock, or removes what
+    is no more the store's, or syncs a folder after that."""
     what, path = lines[at].split()[:2]
     if path == "lock":
         return what == "open"
@@ -461,7 +552,9 @@ def full(them, looks, work):
                     file.write(bytes(4096))
             os.truncate(ballast, max(0, os.path.getsize(ballast) - room))
             status, out, err = them.join(folder)
-            looks.at(f"a disk with {room} bytes of room", (3, "", f"cannot write {folder}\n"), (status, out, err))
+            looks.at(
+                f"a disk with {room} bytes of room", (3, "", f"cannot write {folder}\n"), (status, out, err)
+            )
             looks.that("the journal is as it was", read(f"{folder}/journal") == held["journal"])
             now = tree(folder)
             looks.that("so are its blocks", all(now.get(name, 0) == data for name, data in held.items()))
@@ -485,14 +578,21 @@ def not_joined(them, looks):
     server = them.start(folder)
     looks.that("a server", server.wait(), server.told)
     held = tree(folder)
-    looks.at("a join beside a server", (3, "", f"cannot lock {folder}: process {server.process.pid} has it\n"), them.join(folder))
+    looks.at(
+        "a join beside a server",
+        (3, "", f"cannot lock {folder}: process {server.process.pid} has it\n"),
+        them.join(folder),
+    )
     looks.that("it changed nothing", tree(folder) == held)
     them.says("beside a join", server, world)
     looks.at("a batch beside a join", OK, server.tell(Batch([row(9, (10**6, 1))])))
     with open(f"{folder}/lock", "wb"):
         pass
-    looks.at("a join beside a server, if the lock names none",
-             (3, "", f"cannot lock {folder}: another process has it (see the file lock there)\n"), them.join(folder))
+    looks.at(
+        "a join beside a server, if the lock names none",
+        (3, "", f"cannot lock {folder}: another process has it (see the file lock there)\n"),
+        them.join(folder),
+    )
     server.end()
 
     folder = them.folder()
@@ -515,14 +615,19 @@ def not_joined(them, looks):
     batch = Batch([row(1, (450, 1))]).text()
     for what, data, code, place in [
         ("another magic", b"FZLK" + sound[4:], "J1", 0),
-        ("another version", sound[:4] + b"\x02" + sound[5:], "J2", 4),
-        ("a journal of no byte", b"", "J1", 0),
+        ("another version", sound[:4] + b"\x02" + sound[5:], "J2", 4), ("a journal of no byte", b"", "J1", 0),
         ("a journal of no record", sound[:5], "J8", 0),
         ("a length that is changed", sound[:5] + bytes([sound[5] ^ 1]) + sound[6:], "J4", 5),
         ("a content that is changed", sound[:13] + bytes([sound[13] ^ 1]) + sound[14:], "J3", 5),
-        ("a block that is not there", journal([], Head(head.floor, [1, 2, 9], head.series).contents()), "J15", 9),
+        (
+            "a block that is not there", journal([], Head(head.floor, [1, 2, 9], head.series).contents()),
+            "J15", 9,
+        ),
         ("a block above the floor", journal([], Head(99, [1]).contents()), "J17", 0),
-        ("a sample that is refused", journal([batch, batch, Batch([row(1, (449, 1))]).text()], head.contents()), "J18", 2),
+        (
+            "a sample that is refused",
+            journal([batch, batch, Batch([row(1, (449, 1))]).text()], head.contents()), "J18", 2,
+        ),
     ]:
         folder = them.copied(base)
         with open(f"{folder}/journal", "wb") as file:
@@ -533,7 +638,9 @@ def not_joined(them, looks):
         looks.that(f"{what}: it stays", tree(folder) == held, tell=False)
         server = them.start(folder)
         server.wait()
-        looks.at(f"{what}: a server", (1, f"refused {code} at {place}"), (server.end(), server.told), tell=False)
+        looks.at(
+            f"{what}: a server", (1, f"refused {code} at {place}"), (server.end(), server.told), tell=False
+        )
     for name in ("meta.json", "index", "chunks/000001", "tombstones"):
         folder = them.copied(base)
         path = f"{folder}/blocks/2/{name}"
@@ -550,19 +657,29 @@ def not_joined(them, looks):
 
 
 def others(them, looks):
-    """A store of no block or one, a journal of events alone, a torn end, blocks without a sample, and what is not the store's."""
+    """A store of no block or one, a journal of events alone, a torn end, blocks without a sample, and what is
+    not the store's."""
     folder, world = them.lived([])
     held = tree(folder)
     looks.at("an empty store", (0, f"{folder}: 0 blocks, none joined\n", ""), them.join(folder))
     looks.that("it stays", tree(folder) == held)
     folder, world = them.lived(session(), [])
     with open("/dev/full", "wb") as nowhere:
-        done = subprocess.run([them.blocktool, "join", folder], stdout=nowhere, stderr=subprocess.PIPE, timeout=120)
-    looks.at("a join that cannot tell what it did", (3, b"cannot write the lines\n"), (done.returncode, done.stderr))
+        done = subprocess.run(
+            [them.blocktool, "join", folder], stdout=nowhere, stderr=subprocess.PIPE, timeout=120
+        )
+    looks.at(
+        "a join that cannot tell what it did",
+        (3, b"cannot write the lines\n"),
+        (done.returncode, done.stderr),
+    )
     them.same("a join that cannot tell what it did", folder, world).end()
     folder, world = them.lived(session()[:1])
     looks.at("a store without a block", (0, f"{folder}: 0 blocks, none joined\n", ""), them.join(folder))
-    looks.that("what its journal had is saved", read(f"{folder}/journal") == journal([], Head.of(world, []).contents()))
+    looks.that(
+        "what its journal had is saved",
+        read(f"{folder}/journal") == journal([], Head.of(world, []).contents()),
+    )
     them.same("a store without a block", folder, world).end()
     folder, world = them.lived(session()[:2])
     looks.at("a store of one block", (0, f"{folder}: 1 block, none joined\n", ""), them.join(folder))
@@ -591,13 +708,25 @@ def others(them, looks):
         looks.at(what, (0, f"{folder}: 3 blocks joined into 1\n", ""), them.join(folder))
         them.same(what, folder, world).end()
     folder, world = them.lived(session(), [Deletion([equals("suite", "durable")], 0, 499)])
-    looks.at("nothing but blocks without a sample", (0, f"{folder}: 3 blocks joined into 1\n", ""), them.join(folder))
+    looks.at(
+        "nothing but blocks without a sample",
+        (0, f"{folder}: 3 blocks joined into 1\n", ""),
+        them.join(folder),
+    )
     them.same("nothing but blocks without a sample", folder, world).end()
 
     # what a roll left that was cut off goes, all else stays
     folder, world = them.lived(session(), [])
-    stays = {"blocks/notes": b"mine", "blocks/7x/index": b"x", "blocks/2/mine": b"mine", "notes": b"mine", "journal.old": b"mine"}
-    for name, data in [*stays.items(), ("blocks/8/index", b"x"), ("blocks/4/index", b"half"), ("journal.next", b"half")]:
+    stays = {
+        "blocks/notes": b"mine",
+        "blocks/7x/index": b"x",
+        "blocks/2/mine": b"mine",
+        "notes": b"mine",
+        "journal.old": b"mine",
+    }
+    for name, data in [
+        *stays.items(), ("blocks/8/index", b"x"), ("blocks/4/index", b"half"), ("journal.next", b"half"),
+    ]:
         os.makedirs(os.path.dirname(f"{folder}/{name}"), exist_ok=True)
         with open(f"{folder}/{name}", "wb") as file:
             file.write(data)
@@ -641,8 +770,14 @@ def script(them, looks, work, path):
     count = len(world.blocks)
     folder = them.copied(base)
     status, out, err, calls = told("one.service", folder)
-    looks.at("the script: what it does", (0, ["stop one.service", "start one.service"], ""), (status, calls, err))
-    looks.that("the script: what it says", f"{count} blocks joined into 1" in out and folder in out and "one.service" in out, out)
+    looks.at(
+        "the script: what it does", (0, ["stop one.service", "start one.service"], ""), (status, calls, err)
+    )
+    looks.that(
+        "the script: what it says",
+        f"{count} blocks joined into 1" in out and folder in out and "one.service" in out,
+        out,
+    )
     them.same("the script", folder, world).end()
     folder = them.copied(base)
     with open(f"{folder}/journal", "wb") as file:
@@ -651,16 +786,30 @@ def script(them, looks, work, path):
     looks.at("the script: a join that is refused", (1, ["stop one.service", "start one.service"], True),
              (status, calls, "refused J1: " in err))
     status, out, err, calls = told("one.service", f"{work}/none")
-    looks.that("the script: no folder", status == 3 and not calls and f"{work}/none" in err, (status, out, err, calls))
+    looks.that(
+        "the script: no folder",
+        status == 3 and not calls and f"{work}/none" in err,
+        (status, out, err, calls),
+    )
     folder = them.copied(base)
     held = tree(folder)
     status, out, err, calls = told("one.service", folder, REFUSED="stop")
-    looks.at("the script: a service that is not stopped", (True, ["stop one.service"], True), (status > 0, calls, tree(folder) == held))
+    looks.at(
+        "the script: a service that is not stopped",
+        (True, ["stop one.service"], True),
+        (status > 0, calls, tree(folder) == held),
+    )
     status, out, err, calls = told("one.service", folder, REFUSED="start")
-    looks.at("the script: a service that does not start", (True, ["stop one.service", "start one.service"]), (status > 0, calls))
+    looks.at(
+        "the script: a service that does not start",
+        (True, ["stop one.service", "start one.service"]),
+        (status > 0, calls),
+    )
     status, out, err, calls = told("one.service", folder, "more")
     looks.at("the script: a word too many", (2, []), (status, calls))
-    as_nobody = ["setpriv", f"--reuid={NOBODY}", f"--regid={NOBODY}", "--clear-groups", them.blocktool, "--version"]
+    as_nobody = [
+        "setpriv", f"--reuid={NOBODY}", f"--regid={NOBODY}", "--clear-groups", them.blocktool, "--version",
+    ]
     if os.getuid() or not shutil.which("setpriv") or run(as_nobody)[0]:
         looks.say("this is not root, or nobody cannot run the program: a folder of another user is left")
         return
@@ -675,8 +824,16 @@ def script(them, looks, work, path):
     with contextlib.suppress(OSError):
         os.symlink("private/store", f"{work}/store")
     status, out, err, calls = told("one.service", f"{work}/store")
-    looks.at("the script: a folder of another user", (0, "", ["stop one.service", "start one.service"]), (status, err, calls))
-    owners = {os.stat(os.path.join(at, name)).st_uid for at, folders, files in os.walk(folder) for name in [".", *folders, *files]}
+    looks.at(
+        "the script: a folder of another user",
+        (0, "", ["stop one.service", "start one.service"]),
+        (status, err, calls),
+    )
+    owners = {
+        os.stat(os.path.join(at, name)).st_uid
+        for at, folders, files in os.walk(folder)
+        for name in [".", *folders, *files]
+    }
     looks.at("the script: whose files there are then", {NOBODY}, owners)
     looks.at("the script: the blocks of another user's folder", 1, len(them.numbers(folder)))
 

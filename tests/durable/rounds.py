@@ -1,5 +1,6 @@
-"""Rounds of writers and crashes: four clients write numbered samples, delete and cut, the server is killed at a random
-moment, and a new one has to say exactly what was acknowledged, and of each request that was under way all or nothing."""
+"""Rounds of writers and crashes: four clients write numbered samples, delete and cut, the server is killed at
+a random moment, and a new one has to say exactly what was acknowledged, and of each request that was under
+way all or nothing."""
 import collections
 import os
 import random
@@ -9,8 +10,8 @@ import threading
 import time
 
 from house import (
-    LEAST, MOST, OK, Batch, Cut, Deletion, Head, Lost, Server, World, contents_of, differences, equals, piped, read,
-    recovered, refused, rolled, run,
+    LEAST, MOST, OK, Batch, Cut, Deletion, Head, Lost, Server, World, contents_of, differences, equals, piped,
+    read, recovered, refused, rolled, run,
 )
 
 CLIENTS = 4
@@ -81,7 +82,9 @@ class Client:
         return Batch(rows)
 
     def deletion(self):
-        low, high = sorted([self.random.randint(self.base // 2, self.clock), self.clock - self.random.randint(0, 200)])
+        low, high = sorted(
+            [self.random.randint(self.base // 2, self.clock), self.clock - self.random.randint(0, 200)]
+        )
         first, last = (LEAST, MOST) if self.random.random() < 0.02 else (low, min(high, low + 300))
         n = str(self.random.randrange(12))
         others = [
@@ -143,7 +146,11 @@ class Store:
     def start(self):
         self.starts += 1
         self.told_kept = f"{self.folder}.kept{self.starts}"
-        env = {"LD_PRELOAD": self.preload, "FOLDER": self.folder, "KEPT": self.told_kept} if self.preload else {}
+        env = (
+            {"LD_PRELOAD": self.preload, "FOLDER": self.folder, "KEPT": self.told_kept}
+            if self.preload
+            else {}
+        )
         return Server(self.querier, "--workers", "4", "--data", self.folder, env=env)
 
     def crash(self, server, power):
@@ -169,7 +176,8 @@ class Store:
         return data, *Head.read(contents), whole
 
     def restart(self):
-        """Starts it over what a crash left, sometimes with a crash while it starts; None if it does not start."""
+        """Starts it over what a crash left, sometimes with a crash while it starts; None if it does not
+        start."""
         looks = self.looks
         data, head, contents, whole = self.found()
         looks.that("the head is the one of before", self.head in (None, head), tell=False)
@@ -180,8 +188,11 @@ class Store:
             self.crash(server, self.random.random() < 0.5)
             was = head, contents
             data, head, contents, whole = self.found()
-            looks.that("a start that was killed leaves the events, or a new head", was[0] in (None, head) and contents == was[1]
-                       or head is not None and not contents, len(contents), tell=False)
+            looks.that(
+                "a start that was killed leaves the events, or a new head",
+                was[0] in (None, head) and contents == was[1] or head is not None and not contents,
+                len(contents), tell=False,
+            )
         self.contents = contents
         before = time.monotonic()
         server = self.start()
@@ -196,7 +207,10 @@ class Store:
         left, self.head, self.contents, _ = self.found()
         if any(content[0] == 3 for content in contents):
             self.rolls += 1
-            looks.at("a journal with a cut is begun anew", rolled(self.folder, self.head), "".join(server.first_lines(2)[1:]), tell=False)
+            looks.at(
+                "a journal with a cut is begun anew", rolled(self.folder, self.head),
+                "".join(server.first_lines(2)[1:]), tell=False,
+            )
             looks.at("its events", [], self.contents, tell=False)
             self.checked()
         elif data is not None:
@@ -207,18 +221,25 @@ class Store:
         """Each folder of a block is named by the head, and holds a block."""
         names = [f"{self.folder}/blocks/{number}" for number in self.head.numbers]
         there = sorted(os.listdir(f"{self.folder}/blocks"), key=int)
-        self.looks.at("the folders of blocks", [str(number) for number in sorted(self.head.numbers)], there, tell=False)
+        self.looks.at(
+            "the folders of blocks", [str(number) for number in sorted(self.head.numbers)], there, tell=False
+        )
         status, out, err = run([self.querier, "check", *names])
-        self.looks.at("what check says of them", (0, len(names), ""), (status, out.count(": ok "), err), tell=False)
+        self.looks.at(
+            "what check says of them", (0, len(names), ""), (status, out.count(": ok "), err), tell=False
+        )
         status, reply, err = run([self.querier, "select", ALL, *names])
         self.looks.at("what select says of them", (0, ""), (status, err), tell=False)
         status, out, err = piped([self.auditor, "--selector", ALL, *names], reply.encode())
         judged = [line.split(": ")[-1] for line in out.splitlines()]
-        self.looks.at("what the auditor says of it", (0, ["valid"] * len(names) + ["skipped", "valid"], ""), (status, judged, err), tell=False)
+        self.looks.at(
+            "what the auditor says of it", (0, ["valid"] * len(names) + ["skipped", "valid"], ""),
+            (status, judged, err), tell=False,
+        )
 
     def listed(self, contents):
-        """Each event that was acknowledged has one record, those of a client in their order; and of each client at most the
-        one that was under way has one beside them."""
+        """Each event that was acknowledged has one record, those of a client in their order; and of each
+        client at most the one that was under way has one beside them."""
         looks, front = self.looks, len(self.contents)
         looks.that("the records before stay", contents[:front] == self.contents, tell=False)
         writers = [*self.clients, self.main]
@@ -237,7 +258,9 @@ class Store:
                 strange += 1
         lost = sum(map(len, waiting))
         looks.that("records of what was acknowledged", not lost, f"{lost} are missing", tell=False)
-        looks.that("records of what nobody sent, or of what was refused", not strange, f"{strange}", tell=False)
+        looks.that(
+            "records of what nobody sent, or of what was refused", not strange, f"{strange}", tell=False
+        )
         self.seen = [client.flying is not None and one is None for client, one in zip(writers, flying)]
         self.events = len(contents)
 
@@ -253,9 +276,15 @@ class Store:
                 is_in = server.tell(probe) == refused("E1", 0)
                 cuts += is_in
             elif event:
-                mine = {labels: found for labels, found in rows.items() if ("client", str(client.number)) in labels}
+                mine = {
+                    labels: found
+                    for labels, found in rows.items()
+                    if ("client", str(client.number)) in labels
+                }
                 known = {
-                    labels: found for labels, found in world.rows().items() if ("client", str(client.number)) in labels
+                    labels: found
+                    for labels, found in world.rows().items()
+                    if ("client", str(client.number)) in labels
                 }
                 is_in = mine != known or recorded and isinstance(event, Deletion)
             else:
@@ -267,10 +296,17 @@ class Store:
         wanted = world.rows()
         looks.that("the samples", rows == wanted, differences(wanted, rows), tell=False)
         wanted = world.parts()
-        looks.that("the blocks and the head", parts == wanted,
-                   f"{len(wanted)} parts wanted, {len(parts)} there; "
-                   + "; ".join(f"part {n}: {differences(*two)}" for n, two in enumerate(zip(wanted, parts)) if two[0] != two[1]),
-                   tell=False)
+        looks.that(
+            "the blocks and the head",
+            parts == wanted,
+            f"{len(wanted)} parts wanted, {len(parts)} there; "
+            + "; ".join(
+                f"part {n}: {differences(*two)}"
+                for n, two in enumerate(zip(wanted, parts))
+                if two[0] != two[1]
+            ),
+            tell=False,
+        )
         return here
 
     def probe(self, server):
@@ -318,7 +354,9 @@ class Store:
 
     def write(self, server, seconds):
         lock = threading.Lock()
-        writers = [threading.Thread(target=one.write, args=(server, self.world, lock)) for one in self.clients]
+        writers = [
+            threading.Thread(target=one.write, args=(server, self.world, lock)) for one in self.clients
+        ]
         for writer in writers:
             writer.start()
         time.sleep(seconds)
@@ -362,7 +400,10 @@ def begins(looks, programs, preload, work, count, seed):
 
 
 def rounds(looks, programs, preload, work, count, seed):
-    looks.say(f"{count} of them, SEED={seed}" + ("" if preload else ", without cuts of the power, since there is no C compiler"))
+    looks.say(
+        f"{count} of them, SEED={seed}"
+        + ("" if preload else ", without cuts of the power, since there is no C compiler")
+    )
     begins(looks, programs, preload, work, max(1, count // 5), seed)
     store = server = None
     for number in range(1, count + 1):
@@ -392,9 +433,12 @@ def rounds(looks, programs, preload, work, count, seed):
             store.journal_lines([known[text] for text in store.contents if text in known])
         store.probe(server)
         looks.say(
-            f"{number}: {told} events acknowledged in {seconds:.2f} s and {flying} under way, of which {here} are there; "
-            f"{store.events} events, {len(store.world.blocks)} blocks, {store.rolls} rolls"
-            + (f"; the power cut took {lost} bytes" if lost else "") + ("" if looks.failed == failed else "; NOT AS WANTED"))
+            f"{number}: {told} events acknowledged in {seconds:.2f} s and {flying} under way, "
+            f"of which {here} are there; {store.events} events, {len(store.world.blocks)} blocks, "
+            f"{store.rolls} rolls"
+            + (f"; the power cut took {lost} bytes" if lost else "")
+            + ("" if looks.failed == failed else "; NOT AS WANTED")
+        )
         if looks.failed > failed:
             break
         if number % OF_A_STORE == 0:

@@ -1,29 +1,34 @@
 #!/usr/bin/env python3
 """run [PART]..: runs `querier serve --data` and compares what it says with what was sent.
 
-It kills the server, damages its journals, has its device fail and its folder be what it should not. The parts, which
-are all run if none is named:
-  folders  two servers over one folder, other versions, what is left over; and that no file is written without --data
-  events   events of each kind at their bounds, 63 blocks, and patterns: the bytes of the journal, and a start over
-           them
+It kills the server, damages its journals, has its device fail and its folder be what it should not. The
+parts, which are all run if none is named:
+  folders  two servers over one folder, other versions, what is left over; and that no file is written without
+           --data
+  events   events of each kind at their bounds, 63 blocks, and patterns: the bytes of the journal, and a start
+           over them
   cuts     a server that cuts by itself: when, what it refuses then, and what it tells if it may not cut
-  blocks   the blocks of cuts in the folder, and the journal that is begun anew: a start that does this is killed at
-           each of its calls; blocks that are missing or changed are refused, and what is not the store's stays
+  blocks   the blocks of cuts in the folder, and the journal that is begun anew: a start that does this is
+           killed at each of its calls; blocks that are missing or changed are refused, and what is not the
+           store's stays
   running  a journal that is begun anew while the server runs, which is killed at each of its calls meanwhile
-  damage   journals that are cut short at each of their last 4,096 bytes, or have each of their bytes changed, or hold
-           contents that are no events: each is refused, and left as it is, or read as a front of what was sent
+  damage   journals that are cut short at each of their last 4,096 bytes, or have each of their bytes changed,
+           or hold contents that are no events: each is refused, and left as it is, or read as a front of what
+           was sent
   faults   each write and each sync that fails in turn, a full disk, folders that are read-only
-  joining  `blocktool join`: a store says the same as before in fewer blocks; the join is killed at each of its calls,
-           and each of them fails; what is not joined stays as it is; packaging/join-store
-  adding   `blocktool add`: a store has the samples of blocks beneath its own; killed and failing calls as above; what
-           is refused
-  rounds   ROUNDS (100) crashes beside four clients: what was acknowledged is there, what was under way is there whole
-           or not at all, and nothing else. In some rounds the power is cut too: what was not synced is lost.
+  joining  `blocktool join`: a store says the same as before in fewer blocks; the join is killed at each of
+           its calls, and each of them fails; what is not joined stays as it is; packaging/join-store
+  adding   `blocktool add`: a store has the samples of blocks beneath its own; killed and failing calls as
+           above; what is refused
+  rounds   ROUNDS (100) crashes beside four clients: what was acknowledged is there, what was under way is
+           there whole or not at all, and nothing else. In some rounds the power is cut too: what was not
+           synced is lost.
 
-SEED is the number from which all is drawn; it is told, and drawn anew if there is none. QUERIER, and BLOCKTOOL and
-AUDITOR for the parts joining, adding and rounds, name programs that are built already (or PREFIX, where make install
-put them); else they are built where they stand. It needs a C compiler (CC) for failing_files.c; root for a disk that
-is full and for some folders, else these are told and left. Exit status 0 if all is as wanted.
+SEED is the number from which all is drawn; it is told, and drawn anew if there is none. QUERIER, and
+BLOCKTOOL and AUDITOR for the parts joining, adding and rounds, name programs that are built already (or
+PREFIX, where make install put them); else they are built where they stand. It needs a C compiler (CC) for
+failing_files.c; root for a disk that is full and for some folders, else these are told and left. Exit status
+0 if all is as wanted.
 """
 import os
 import pathlib

@@ -1,5 +1,6 @@
-"""A journal that is begun anew while the server runs: by its length, and after cuts; the server is killed at each of its calls
-meanwhile, and a new one says what was acknowledged, and what was under way whole or not at all."""
+"""A journal that is begun anew while the server runs: by its length, and after cuts; the server is killed at
+each of its calls meanwhile, and a new one says what was acknowledged, and what was under way whole or not at
+all."""
 import os
 import random
 import shutil
@@ -23,14 +24,18 @@ def large(clock, n=4000):
 def told(server, what, count, seconds=20):
     """Waits until it has said so often that a journal was begun anew."""
     for _ in range(int(seconds * 100)):
-        if sum(line.startswith(what) for line in server.told_err) >= count or server.process.poll() is not None:
+        if (
+            sum(line.startswith(what) for line in server.told_err) >= count
+            or server.process.poll() is not None
+        ):
             break
         time.sleep(0.01)
     return [line for line in server.told_err if line.startswith(what)]
 
 
 def session():
-    """A journal grows by more than one MB; a cut, and an eighth of that; a deletion of what the block has, and once more."""
+    """A journal grows by more than one MB; a cut, and an eighth of that; a deletion of what the block has,
+    and once more."""
     clock = 0
     for _ in range(24):
         yield large(clock)
@@ -70,7 +75,9 @@ def grows(them, looks):
         head, behind = Head.read(contents_of(read(f"{folder}/journal"))[0])
         looks.at("the blocks that the head names", numbers, head.numbers)
         texts = [one.text() for one in since]
-        looks.that("the events behind it are the last ones", behind == texts[len(texts) - len(behind) :], len(behind))
+        looks.that(
+            "the events behind it are the last ones", behind == texts[len(texts) - len(behind) :], len(behind)
+        )
         looks.that("and few", len(behind) < len(since), (len(behind), len(since)))
         since = since[len(since) - len(behind) :]
         if numbers:
@@ -134,12 +141,15 @@ def killed(them, looks):
             looks.at(f"killed at call {n}: a batch after it", OK, server.tell(large(10**6, 1)), tell=False)
         server.end()
         shutil.rmtree(folder)
-    looks.that("it was killed in rolls and out of them", rolling > 20 and ended - rolling > 20, (ended, rolling))
+    looks.that(
+        "it was killed in rolls and out of them", rolling > 20 and ended - rolling > 20, (ended, rolling)
+    )
     looks.say(f"{ended} servers were killed, {rolling} of them while they began the journal anew")
 
 
 def failing(them, looks):
-    """A write fails when the journal is to be begun anew: it goes on, and tries it again when it has grown."""
+    """A write fails when the journal is to be begun anew: it goes on, and tries it again when it has
+    grown."""
     ended = 0
     for n in range(1, 400, 7):
         folder, world = them.folder(), World()
