@@ -1,7 +1,7 @@
 //! make_block SERIES SAMPLES DIR [SHARE SHARES]: writes a block directory of so many series of so many
 //! samples, 15 s apart; with SHARE and SHARES, of those series whose `job` leaves SHARE if divided by SHARES
-//! (a divisor of 100). It shares no code with the crates, so what it writes comes from outside. std only:
-//! rustc -O make_block.rs
+//! (a divisor of 100). It shares no code with the crates, so what it writes comes from outside.
+//! std only: rustc -O make_block.rs
 use std::collections::{BTreeMap, BTreeSet};
 use std::path::Path;
 use std::{env, fs, io};

@@ -101,8 +101,8 @@ static int is_below(const char *whole, char *path, size_t size)
     return 1;
 }
 
-/* Whether a file is the folder or below it; then its path from there. A socket and the folder above are told in
-   a trace. */
+/* Whether a file is the folder or below it; then its path from there. A socket and the folder above are told
+   in a trace. */
 static int is_inside(int fd, const char *what, char *path, size_t size)
 {
     char name[64], whole[4096];
