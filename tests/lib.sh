@@ -41,6 +41,7 @@ find_programs() {
     [ "$name" != auditor ] || crate=auditor_program
     (cd "$top/crates/$crate" && "${RT:-rt}" run -- --version </dev/null >"$work/built" 2>&1) || {
       tail -n 20 "$work/built" >&2
+      echo "$0: $name is not built" >&2
       exit 1
     }
     printf -v "${name^^}" %s "$top/crates/$crate/out/$crate"
