@@ -449,7 +449,11 @@ def subjects_of_codes(texts):
     }
     yield "lines about faults", {
         "man": set(re.findall(r"^\.It (.*)", section(querier, "DIAGNOSTICS"), re.M)),
-        "OPERATING": {line for row in rows(operating, "Lines on standard error") for line in re.findall("`([a-z][^`]+)`", row[0])},
+        "OPERATING": {
+            line
+            for row in rows(operating, "Lines on standard error")
+            for line in re.findall("`([a-z][^`]+)`", row[0])
+        },
     }
 
 

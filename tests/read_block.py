@@ -219,35 +219,15 @@ def texts(folder, large):
         ],
     )
     odd = [
-        "1.5",
-        "NaN",
-        "+Inf",
-        "-Inf",
-        "-0",
-        "5e-324",
-        "9223372036854775808",
-        "0.1",
-        "123456789.123456789",
-        "1e15",
-        "-7",
-        "0.000000001",
-        "3",
-        "4611686018427387904",
-        "-0.3",
+        "1.5", "NaN", "+Inf", "-Inf", "-0", "5e-324", "9223372036854775808", "0.1", "123456789.123456789",
+        "1e15", "-7", "0.000000001", "3", "4611686018427387904", "-0.3",
     ]
-    write(
-        "odd",
-        [
-            (
-                "odd",
-                [
-                    ('{k="%02d",v="x\\"y\\\\z \u00e9"}' % k, v, "%d.%03d" % (start + i * 13, i * 8))
-                    for k, v in enumerate(odd)
-                    for i in range(3)
-                ],
-            )
-        ],
-    )
+    rows = [
+        ('{k="%02d",v="x\\"y\\\\z \u00e9"}' % k, v, "%d.%03d" % (start + i * 13, i * 8))
+        for k, v in enumerate(odd)
+        for i in range(3)
+    ]
+    write("odd", [("odd", rows)])
     write(
         "gaps",
         [
@@ -276,55 +256,19 @@ def texts(folder, large):
     )
     # numbers that no double is, around what is kept and what is rounded
     far = [
-        "0.5",
-        "1.5",
-        "2.5",
-        "-0.5",
-        "-2.5",
-        "0." + "4" + "9" * 40,
-        "0.5" + "0" * 40 + "1",
-        "1e-400",
-        "1e400",
-        "-1e300",
-        "7e-999",
-        "123456789012345678901234567890e-25",
-        "10000000000000000000e-19",
-        "1" * 900 + "e-899",
-        "0." + "0" * 500 + "25e501",
-        "9223372036854775807",
-        "9223372036854775807.4999",
-        "9223372036854775807.5",
-        "-9223372036854775807.5",
-        "-9223372036854775808",
-        "92233720368547758.075e2",
-        "922337203685477580.755",
-        "5e-1",
-        ".5e0",
-        "25E-1",
-        "+35.e-1",
-        "0e999",
-        "0" * 40 + ".5",
-        "0.0000000005",
-        "0.0000000015",
-        "-0.00000000050000001",
-        "NaN",
-        "-Inf",
-        "-0",
-        "-0.2",
+        "0.5", "1.5", "2.5", "-0.5", "-2.5", "0." + "4" + "9" * 40, "0.5" + "0" * 40 + "1", "1e-400", "1e400",
+        "-1e300", "7e-999", "123456789012345678901234567890e-25", "10000000000000000000e-19",
+        "1" * 900 + "e-899", "0." + "0" * 500 + "25e501", "9223372036854775807", "9223372036854775807.4999",
+        "9223372036854775807.5", "-9223372036854775807.5", "-9223372036854775808", "92233720368547758.075e2",
+        "922337203685477580.755", "5e-1", ".5e0", "25E-1", "+35.e-1", "0e999", "0" * 40 + ".5",
+        "0.0000000005", "0.0000000015", "-0.00000000050000001", "NaN", "-Inf", "-0", "-0.2",
     ]
-    write(
-        "far",
-        [
-            (
-                "far",
-                [
-                    ('{k="%02d"}' % k, v, "%d.%03d" % (start + i * 13, i * 8))
-                    for k, v in enumerate(far)
-                    for i in range(2)
-                ],
-            )
-        ],
-    )
+    rows = [
+        ('{k="%02d"}' % k, v, "%d.%03d" % (start + i * 13, i * 8))
+        for k, v in enumerate(far)
+        for i in range(2)
+    ]
+    write("far", [("far", rows)])
     many("thousand", 1000, 120)
     if large:
         many("many", 10000, 120)
@@ -400,15 +344,8 @@ def compare_text(digits, rest, told, text, folders):
     assert (counts["hidden"], counts["of other"]) == (hidden, left), (counts, hidden, left)
     assert rounded_in(told) == rounded, (rounded_in(told), rounded)
     print(
-        "the same:",
-        counts["kept"],
-        "samples of",
-        len(got),
-        "series as the text writes;",
-        left,
-        "left out,",
-        rounded,
-        "rounded",
+        "the same:", counts["kept"], "samples of", len(got), "series as the text writes;", left, "left out,",
+        rounded, "rounded",
     )
 
 
@@ -462,17 +399,8 @@ def compare(digits, rest, told, tsdbs, folders):
     assert counts["stale"] + counts["of other"] == left, (counts, left)
     assert rounded_in(told) == rounded, rounded
     print(
-        "the same:",
-        count,
-        "samples of",
-        len(got),
-        "series in",
-        len(folders),
-        "blocks;",
-        left,
-        "left out,",
-        rounded,
-        "rounded",
+        "the same:", count, "samples of", len(got), "series in", len(folders), "blocks;", left, "left out,",
+        rounded, "rounded",
     )
 
 

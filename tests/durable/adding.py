@@ -12,7 +12,7 @@ from house import (
     OK, Batch, Cut, Deletion, Head, World, contents_of, equals, journal, lines_of, read, recovered, refused,
     run, set_of, tree,
 )
-from joining import CALLS, ERRORS, Joins, hinders, refusals_in
+from joining import CALLS, ERRORS, Joins, hinders, places_of, refusals_in
 
 
 def part_of(rows):
@@ -43,15 +43,9 @@ LATE = [row(1, (-50, 4), (30, 997), (155, 996)), row(9, (90, -(2**63)))]
 
 
 class Adds(Joins):
-    def add(self, folder, *blocks, **env):
+    def add(self, folder, *blocks, **how):
         """An addition, to its end."""
-        if env:
-            env = {
-                "LD_PRELOAD": self.preload,
-                "FOLDER": folder,
-                **{name: str(value) for name, value in env.items()},
-            }
-        return run([self.blocktool, "add", folder, *blocks], env)
+        return run([self.blocktool, "add", folder, *blocks], self.failing(folder, how))
 
     def block(self, rows, *words):
         """The directory of a block of rows, which `blocktool from-rows` makes of the body of a write; and its
@@ -312,7 +306,7 @@ def failing(them, looks):
     early, part = them.block(EARLY)
     for what, base, world in bases(them):
         worlds = (world, added(world, part))
-        for kind, begins in CALLS.items():
+        for kind in CALLS:
             count = 0
             for n in range(1, 300):
                 name, number = list(ERRORS.items())[n % 2]
@@ -326,23 +320,11 @@ def failing(them, looks):
                 if not int.from_bytes(read(kept)[32:40], "little"):
                     break
                 lines = lines_of(trace)
-                places = [
-                    at
-                    for at, line in enumerate(lines)
-                    if line.startswith(begins)
-                    and line != "sync .."
-                    and (kind != "MAKE" or line.startswith("make ") or " create" in line or " empty" in line)
-                ]
+                places = places_of(kind, lines)
                 it = f"{what}: {lines[places[n - 1]]} ({kind.lower()} {n}) fails with {name}"
                 late = is_late(folder, len(worlds[1].blocks))
                 if hinders(lines, places[n - 1]):
-                    looks.at(f"{it}: the status", (3, ""), got[:2], tell=False)
-                    looks.that(
-                        f"{it}: what it says",
-                        got[2].startswith("cannot ") and got[2].count("\n") == 1,
-                        got[2],
-                        tell=False,
-                    )
+                    them.cannot(it, got)
                 else:
                     looks.at(f"{it}: what it says", done(folder, 1, len(worlds[1].blocks)), got, tell=False)
                     looks.that(f"{it}: they are added", late, tell=False)

@@ -30,14 +30,8 @@ def session():
 
 
 class Blocks(Folders):
-    def start(self, folder, *words, **env):
-        if env:
-            env = {
-                "LD_PRELOAD": self.preload,
-                "FOLDER": folder,
-                **{name: str(value) for name, value in env.items()},
-            }
-        return Server(self.querier, "--data", folder, *words, env=env)
+    def start(self, folder, *words, **how):
+        return Server(self.querier, "--data", folder, *words, env=self.failing(folder, how))
 
     def says(self, what, server, world):
         parts, rows = server.select()

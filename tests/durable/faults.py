@@ -41,9 +41,8 @@ def is_cannot(server):
 
 
 class Faults(Folders):
-    def start(self, folder, *words, **fails):
-        env = {"LD_PRELOAD": self.preload, "FOLDER": folder, "KEPT": f"{folder}.kept"}
-        env |= {name: str(value) for name, value in fails.items()}
+    def start(self, folder, *words, **how):
+        env = self.failing(folder, {"KEPT": f"{folder}.kept", **how})
         return Server(self.querier, "--data", folder, *words, env=env)
 
     def counts(self, folder):

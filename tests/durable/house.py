@@ -404,6 +404,12 @@ class Folders:
         self.count += 1
         return f"{self.work}/{self.looks.name}{self.count}"
 
+    def failing(self, folder, how):
+        """The environment of a program whose calls on a folder fail or are told, as failing_files.c says."""
+        if not how:
+            return {}
+        return {"LD_PRELOAD": self.preload, "FOLDER": folder, **{name: str(how[name]) for name in how}}
+
 
 def recovered(count, torn=0, blocks=0):
     """What a start says first."""

@@ -88,15 +88,16 @@ class Joins(Blocks):
         super().__init__(looks, querier, preload, work)
         self.blocktool, self.auditor = others
 
-    def join(self, folder, **env):
+    def join(self, folder, **how):
         """A join, to its end."""
-        if env:
-            env = {
-                "LD_PRELOAD": self.preload,
-                "FOLDER": folder,
-                **{name: str(value) for name, value in env.items()},
-            }
-        return run([self.blocktool, "join", folder], env)
+        return run([self.blocktool, "join", folder], self.failing(folder, how))
+
+    def cannot(self, what, ended):
+        """A program that ended since a call failed says what it could not do."""
+        status, out, err = ended
+        self.looks.at(f"{what}: the status", (3, ""), (status, out), tell=False)
+        says = err.startswith("cannot ") and err.count("\n") == 1
+        self.looks.that(f"{what}: what it says", says, err, tell=False)
 
     def lived(self, *phases):
         """A folder of a store that was told of these events, with a start before each list of them; and its
@@ -459,7 +460,7 @@ def failing(them, looks):
     """Each call of a join fails once: it says so with status 3 and the store is as it was, or joined; a lock
     that names nobody and a block that is not removed hinder nothing."""
     for what, base, world in bases(them):
-        for kind, begins in CALLS.items():
+        for kind in CALLS:
             ended, went_on = 0, 0
             for n in range(1, 300):
                 name, number = list(ERRORS.items())[n % 2]
@@ -471,23 +472,11 @@ def failing(them, looks):
                 if not failed:
                     break
                 lines = lines_of(trace)
-                places = [
-                    at
-                    for at, line in enumerate(lines)
-                    if line.startswith(begins)
-                    and line != "sync .."
-                    and (kind != "MAKE" or line.startswith("make ") or " create" in line or " empty" in line)
-                ]
+                places = places_of(kind, lines)
                 it = f"{what}: {lines[places[n - 1]]} ({kind.lower()} {n}) fails with {name}"
                 after = is_late(them, folder)
                 if hinders(lines, places[n - 1]):
-                    looks.at(f"{it}: the status", (3, ""), (status, out), tell=False)
-                    looks.that(
-                        f"{it}: what it says",
-                        err.startswith("cannot ") and err.count("\n") == 1,
-                        err,
-                        tell=False,
-                    )
+                    them.cannot(it, (status, out, err))
                     ended += 1
                 else:
                     looks.at(
@@ -514,6 +503,15 @@ def failing(them, looks):
 def is_of_folder(line):
     """Whether a folder is opened or synced."""
     return re.fullmatch(r"(open|sync) (\.\.?|blocks(/\d+(/chunks)?)?)( r)?", line)
+
+
+def places_of(kind, lines):
+    """Where the calls of a kind that may fail are in a trace."""
+    return [
+        at for at, line in enumerate(lines)
+        if line.startswith(CALLS[kind]) and line != "sync .."
+        and (kind != "MAKE" or line.startswith("make ") or " create" in line or " empty" in line)
+    ]
 
 
 def hinders(lines, at):
