@@ -24,7 +24,10 @@ refuse_in() {
     exit 1
   }
   for name in "$@"; do
-    passes "$crate" "$name" ALLOCATIONS
+    passes "$crate" "$name" ALLOCATIONS || {
+      tail -n 20 "$work/told" >&2
+      exit 1
+    }
     asked=$(cat "$work/asked")
     [ "${asked:-0}" -gt 0 ] || {
       fails "$name: no allocation was counted"
