@@ -80,6 +80,7 @@ stop() {
 # $work/NAME.faults; and waits until it listens. `server` is the process, `port` its port, and `at` its
 # address.
 serve() {
+  : >"$work/$1" # no line of an earlier one
   "$QUERIER" serve --port 0 "${@:2}" >"$work/$1" 2>"$work/$1.faults" &
   listens "$1"
 }
