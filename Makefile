@@ -9,11 +9,11 @@ TESTS_OF := file_tests:wire,index_reader,chunk_reader,tombstones,block,block_wri
 	store_tests:labels,pages,matchers,postings,head,snapshots,cover,block_search,series_merge,answers,selector_cache,requests,query_http,server,commands,querier,journal,event_text \
 	world_tests:history,block_walk,reply_reader,auditor,audit_command,audit_laws,auditor_program,block_rewriter,head_record,store_folder,logged_folder \
 	remote_tests:stored_doubles,varints,snappy,protobuf_fields,remote_write,remote_read \
-	tests/serving:guard \
-	tests/durable:keeper,event_journal,cut_schedule,folder_lock,data_folder,store_joiner \
-	tests/scraping:server_metrics \
-	tests/importing:imported_values,kept_samples,time_cuts,block_folder,block_outputs,open_metrics,metrics_writer,exposition,blocktool \
-	tests/pages-html:page_layout,page_style,page_escape,page_text,page_claims,page_marks,page,explain
+	tests/serving.sh:guard \
+	tests/durable/run.py:keeper,event_journal,cut_schedule,folder_lock,data_folder,store_joiner \
+	tests/scraping.sh:server_metrics \
+	tests/importing.sh:imported_values,kept_samples,time_cuts,block_folder,block_outputs,open_metrics,metrics_writer,exposition,blocktool \
+	tests/pages-html.py:page_layout,page_style,page_escape,page_text,page_claims,page_marks,page,explain
 # The crate or the script with the tests of a crate, or nothing.
 tests_of = $(if $(filter %_tests,$(1)),$(1),$(word 1,$(subst :, ,$(foreach it,$(TESTS_OF),$(if \
 	$(filter $(1),$(subst $(comma), ,$(word 2,$(subst :, ,$(it))))),$(it))))))
@@ -48,49 +48,49 @@ cases: ## runs the cases of crates/case_files/data with no proof: two minutes, m
 	@cd crates/case_files && $(RT) try $$(ls data | sed 's,.*,--data &=data/&,') -- $$(cat args)
 
 gate-times: ## runs the gate and tells its minutes by crate, for proofs, proofs of tests and edits
-	@RT_JOBS=$(GATE_JOBS) tests/gate-times $(RT) ci
+	@RT_JOBS=$(GATE_JOBS) tests/gate-times.py $(RT) ci
 
 readme: ## types each command of the README and compares what it prints; with PREFIX=.. it takes the programs in PREFIX/bin
-	@RT="$(RT)" tests/readme
+	@RT="$(RT)" tests/readme.sh
 
 allocations: ## refuses each allocation in turn: of an opening, changes of a store, the demo, a selection, a search, connections and audits (needs a C compiler)
-	@RT="$(RT)" tests/allocations
+	@RT="$(RT)" tests/allocations.sh
 
 audits: ## pipes querier's replies, as they are and changed, through auditor (needs rustc)
-	@RT="$(RT)" tests/audits
+	@RT="$(RT)" tests/audits.sh
 
 serving: ## runs the server and asks it with curl: the session of the README, slow and silent clients
-	@RT="$(RT)" tests/serving
+	@RT="$(RT)" tests/serving.sh
 
 .PHONY: scripts
 scripts: ## runs every script of tests/ that this machine has the programs for, and tells which ran, failed or were left out
-	@RT="$(RT)" tests/scripts
+	@RT="$(RT)" tests/scripts.py
 
 .PHONY: package pages
 package: ## builds a Debian package of the programs, man pages, completions, documents and the example (needs dpkg-deb, binutils and python3)
 	@RT="$(RT)" packaging/make
 
 pages: ## compares the help texts, the man pages, the documents and the completions, and runs the examples of the man pages
-	@RT="$(RT)" tests/pages
+	@RT="$(RT)" tests/pages.py
 
 .PHONY: progress
 progress: ## looks at what querier tells a terminal of the directories that it reads (needs python3)
-	@RT="$(RT)" tests/progress
+	@RT="$(RT)" tests/progress.py
 
 .PHONY: pages-html
 pages-html: ## has the program `explain` show replies of any kind, and checks the pages (needs python3)
-	@RT="$(RT)" tests/pages-html
+	@RT="$(RT)" tests/pages-html.py
 
 .PHONY: scaling
 scaling: ## asks four queriers over the quarters of a block, and compares their rows with those of one (needs rustc and python3)
-	@RT="$(RT)" tests/scaling
+	@RT="$(RT)" tests/scaling.py
 
 .PHONY: durable
 durable: ## kills a server that keeps its store a hundred times, damages its journals, and has its disk fail (needs python3 and a C compiler)
-	@RT="$(RT)" tests/durable
+	@RT="$(RT)" tests/durable/run.py
 
 bench: ## measures speed, first beside Prometheus and VictoriaMetrics (never part of the gate)
-	@RT="$(RT)" bench/peers && RT="$(RT)" bench/run && RT="$(RT)" bench/check && RT="$(RT)" bench/select && RT="$(RT)" bench/audit && RT="$(RT)" bench/serve && RT="$(RT)" bench/durable
+	@RT="$(RT)" bench/peers.py && RT="$(RT)" bench/run.sh && RT="$(RT)" bench/check.sh && RT="$(RT)" bench/select.sh && RT="$(RT)" bench/audit.sh && RT="$(RT)" bench/serve.sh && RT="$(RT)" bench/durable.py
 
 install: ## proves what querier, auditor, explain and blocktool stand on, with a line for each crate, builds them, and copies them to PREFIX/bin
 	@$(MAKE) --no-print-directory -j $(GATE_JOBS) proved-querier proved-auditor_program proved-explain proved-blocktool

@@ -1,11 +1,11 @@
 //! load PORT CLIENTS SECONDS get TARGET: so many clients ask for a target again and again.
-//! load PORT CLIENTS SECONDS write [SERIES SAMPLES]: so many clients write batches, each to 256 series of its own, of 16
-//! samples a request, or to as many and of as many as the numbers say.
-//! load PORT fill SERIES SAMPLES: one client writes the series of make_block.rs, 4,096 samples a request at most.
-//! `import` in place of `write`, and `fill SERIES SAMPLES import`, are for VictoriaMetrics; `import-kept` keeps each
-//! client's connection. Else there is one connection a request. A request is made before its time begins. It prints
-//! replies, replies that are no success, replies a second, and the median, the 99th percentile and the greatest time of a
-//! reply in milliseconds.
+//! load PORT CLIENTS SECONDS write [SERIES SAMPLES]: so many clients write batches, each to 256 series of its
+//! own, of 16 samples a request, or to as many and of as many as the numbers say.
+//! load PORT fill SERIES SAMPLES: one client writes the series of make_block.rs, 4,096 samples a request at
+//! most. `import` in place of `write`, and `fill SERIES SAMPLES import`, are for VictoriaMetrics;
+//! `import-kept` keeps each client's connection. Else there is one connection a request. A request is made
+//! before its time begins. It prints replies, replies that are no success, replies a second, and the median,
+//! the 99th percentile and the greatest time of a reply in milliseconds.
 //! std only: rustc -O load.rs
 use std::io::{self, Read, Write};
 use std::net::TcpStream;
@@ -52,7 +52,11 @@ impl Replies {
         let at = |part: f64| self.times[((count - 1) as f64 * part) as usize].as_secs_f64() * 1e3;
         print!(
             "{count:7} replies {:4} bad {:9.0} a second {:8.3} median {:8.3} 99th {:8.3} most ms",
-            self.bad, count as f64 / took, at(0.5), at(0.99), at(1.0)
+            self.bad,
+            count as f64 / took,
+            at(0.5),
+            at(0.99),
+            at(1.0)
         );
         match samples {
             0 => println!(" {:8.1} MB/s", self.bytes as f64 / took / 1e6),
@@ -115,21 +119,28 @@ impl Form {
         };
         let after = if kept { "keep-alive" } else { "close" };
         format!(
-            "POST {path} HTTP/1.1\r\nHost: 127.0.0.1\r\nConnection: {after}\r\nContent-Length: {}\r\n\r\n{body}",
+            "POST {path} HTTP/1.1\r\nHost: 127.0.0.1\r\nConnection: {after}\r\n\
+             Content-Length: {}\r\n\r\n{body}",
             body.len()
         )
     }
 
     fn row(self, labels: &[(String, String)], samples: &[(String, i64)]) -> String {
-        let pairs: Vec<String> = labels.iter().map(|(name, value)| format!("\"{name}\":\"{value}\"")).collect();
+        let pairs: Vec<String> =
+            labels.iter().map(|(name, value)| format!("\"{name}\":\"{value}\"")).collect();
         let labels = pairs.join(",");
         if self == Form::Querier {
-            let points: Vec<String> = samples.iter().map(|(time, value)| format!("[{time},{value}]")).collect();
+            let points: Vec<String> =
+                samples.iter().map(|(time, value)| format!("[{time},{value}]")).collect();
             return format!("{{\"labels\":{{{labels}}},\"samples\":[{}]}}", points.join(","));
         }
         let times: Vec<&str> = samples.iter().map(|(time, _)| time.as_str()).collect();
         let values: Vec<String> = samples.iter().map(|(_, value)| value.to_string()).collect();
-        format!("{{\"metric\":{{{labels}}},\"values\":[{}],\"timestamps\":[{}]}}", values.join(","), times.join(","))
+        format!(
+            "{{\"metric\":{{{labels}}},\"values\":[{}],\"timestamps\":[{}]}}",
+            values.join(","),
+            times.join(",")
+        )
     }
 }
 
@@ -156,7 +167,8 @@ impl Batch {
                 ("n".to_string(), series.to_string()),
                 ("run".to_string(), process::id().to_string()),
             ];
-            let samples: Vec<_> = (0..shape.samples).map(|k| (TIME.to_string(), (series * 7 + k) as i64)).collect();
+            let samples: Vec<_> =
+                (0..shape.samples).map(|k| (TIME.to_string(), (series * 7 + k) as i64)).collect();
             form.row(&labels, &samples)
         };
         let request = form.posted(&(0..shape.series).map(row).collect::<Vec<_>>(), kept);
@@ -176,7 +188,8 @@ impl Batch {
 }
 
 fn ask_for(port: u16, target: &str, end: Instant) -> Replies {
-    let request = format!("GET {target} HTTP/1.1\r\nHost: 127.0.0.1\r\nConnection: close\r\n\r\n").into_bytes();
+    let request =
+        format!("GET {target} HTTP/1.1\r\nHost: 127.0.0.1\r\nConnection: close\r\n\r\n").into_bytes();
     let (mut link, mut replies, mut reply) = (Link::new(port, false), Replies::default(), Vec::new());
     while Instant::now() < end {
         replies.ask(&mut link, &request, &mut reply);
@@ -200,7 +213,8 @@ fn fill(port: u16, series: u64, samples: i64, form: Form) {
     let (mut link, mut replies, mut reply) = (Link::new(port, false), Replies::default(), Vec::new());
     let each = (MOST / samples) as usize;
     let row = |n: u64| {
-        let points: Vec<_> = (0..samples).map(|k| (make_block::time(k).to_string(), make_block::value(n, k))).collect();
+        let points: Vec<_> =
+            (0..samples).map(|k| (make_block::time(k).to_string(), make_block::value(n, k))).collect();
         form.row(&make_block::labels(n), &points)
     };
     for from in (0..series).step_by(each) {
@@ -219,10 +233,14 @@ fn main() {
         let form = if words.len() > 4 { Form::Victoria } else { Form::Querier };
         return fill(port, number(2), number(3) as i64, form);
     }
-    let (form, kept) = (if words[3] == "write" { Form::Querier } else { Form::Victoria }, words[3] == "import-kept");
+    let (form, kept) =
+        (if words[3] == "write" { Form::Querier } else { Form::Victoria }, words[3] == "import-kept");
     let gets = words[3] == "get";
-    let shape =
-        if words.len() > 5 { Shape { series: number(4), samples: number(5) } } else { Shape { series: 256, samples: 16 } };
+    let shape = if words.len() > 5 {
+        Shape { series: number(4), samples: number(5) }
+    } else {
+        Shape { series: 256, samples: 16 }
+    };
     let start = Instant::now();
     let end = start + Duration::from_secs(number(2));
     let mut replies = Replies::default();

@@ -1,6 +1,7 @@
-//! make_block SERIES SAMPLES DIR [SHARE SHARES]: writes a block directory of so many series of so many samples,
-//! 15 s apart; with SHARE and SHARES, of those series whose `job` leaves SHARE if divided by SHARES (a divisor of 100).
-//! It shares no code with the crates, so what it writes comes from outside. std only: rustc -O make_block.rs
+//! make_block SERIES SAMPLES DIR [SHARE SHARES]: writes a block directory of so many series of so many
+//! samples, 15 s apart; with SHARE and SHARES, of those series whose `job` leaves SHARE if divided by SHARES
+//! (a divisor of 100). It shares no code with the crates, so what it writes comes from outside.
+//! std only: rustc -O make_block.rs
 use std::collections::{BTreeMap, BTreeSet};
 use std::path::Path;
 use std::{env, fs, io};
@@ -46,7 +47,8 @@ impl Checksum {
     fn new() -> Checksum {
         let mut table = [0u32; 256];
         for (byte, entry) in table.iter_mut().enumerate() {
-            *entry = (0..8).fold(byte as u32, |c, _| if c & 1 == 1 { (c >> 1) ^ 0x82F6_3B78 } else { c >> 1 });
+            *entry =
+                (0..8).fold(byte as u32, |c, _| if c & 1 == 1 { (c >> 1) ^ 0x82F6_3B78 } else { c >> 1 });
         }
         Checksum(table)
     }
@@ -122,8 +124,11 @@ fn put_chunks(sum: &Checksum, file: &mut Vec<u8>, n: u64, samples: i64) -> Vec<u
 /// The index and the chunks of these series, which ascend by their labels.
 fn files(series: &[(Labels, u64)], samples: i64) -> (Vec<u8>, Vec<u8>) {
     let sum = Checksum::new();
-    let symbols: BTreeSet<&str> =
-        series.iter().flat_map(|(l, _)| l).flat_map(|(name, value)| [name.as_str(), value.as_str()]).collect();
+    let symbols: BTreeSet<&str> = series
+        .iter()
+        .flat_map(|(l, _)| l)
+        .flat_map(|(name, value)| [name.as_str(), value.as_str()])
+        .collect();
     let numbers: BTreeMap<&str, u64> = symbols.iter().copied().zip(0..).collect();
     let mut content = (symbols.len() as u32).to_be_bytes().to_vec();
     symbols.iter().for_each(|symbol| put_text(&mut content, symbol));
@@ -161,7 +166,8 @@ fn files(series: &[(Labels, u64)], samples: i64) -> (Vec<u8>, Vec<u8>) {
     }
     let offsets = index.len() as u64;
     sum.put_frame(&mut index, &table);
-    let contents: Vec<u8> = [5, begin, 0, 0, postings, offsets].iter().flat_map(|offset: &u64| offset.to_be_bytes()).collect();
+    let contents: Vec<u8> =
+        [5, begin, 0, 0, postings, offsets].iter().flat_map(|offset: &u64| offset.to_be_bytes()).collect();
     sum.put(&mut index, &contents);
     (index, chunks)
 }

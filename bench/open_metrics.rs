@@ -1,4 +1,5 @@
-//! open_metrics SERIES SAMPLES: prints the samples of make_block.rs as a text that `promtool` makes a block of.
+//! open_metrics SERIES SAMPLES: prints the samples of make_block.rs as a text that `promtool` makes a block
+//! of.
 //! std only: rustc -O open_metrics.rs
 use std::env;
 use std::io::{self, BufWriter, Write};

@@ -1,4 +1,4 @@
-"""The classes of bench/peers that run programs over files: command and audits."""
+"""The classes of bench/peers.py that run programs over files: command and audits."""
 import os
 
 from peers_house import MB, Cost, tell

@@ -1,4 +1,6 @@
-"""What bench/peers starts and measures: programs, and servers on 127.0.0.1 over the same samples."""
+"""What bench/peers.py and bench/durable.py start and measure: programs, and servers on 127.0.0.1 over the
+same samples."""
+import argparse
 import contextlib
 import os
 import shutil
@@ -13,6 +15,9 @@ import urllib.parse
 import urllib.request
 
 BENCH = os.path.dirname(os.path.abspath(__file__))
+sys.path.insert(0, f"{os.path.dirname(BENCH)}/tests")
+from lib import Running, find_program, free_port  # noqa: E402, F401
+
 AFTER = 1_700_010_000  # seconds: after the last sample of make_block.rs, less than two hours after the first
 MB = 1e6
 PEERS = {"Prometheus": ("prometheus", "promtool"), "VictoriaMetrics": ("victoria-metrics",)}
@@ -21,6 +26,33 @@ TOOLS = ("make_block", "open_metrics", "load", "turns")
 
 class Failed(Exception):
     """Something did not run as it should."""
+
+
+def parser_of(doc, rounds):
+    """The words that both scripts read; the first sentence of their text says which."""
+    parser = argparse.ArgumentParser(
+        prog=sys.argv[0], description=doc, formatter_class=argparse.RawDescriptionHelpFormatter)
+    parser.add_argument("--rounds", type=int, default=rounds, metavar="N")
+    parser.add_argument("--quick", action="store_true")
+    return parser
+
+
+def words_of(parser):
+    words = parser.parse_args()
+    if words.rounds < 1:
+        parser.error("--rounds takes a number from 1")
+    return words
+
+
+def run_to_end(main):
+    """Runs a script: status 1 if something did not run as it should, 130 or 143 if it was interrupted."""
+    signal.signal(signal.SIGTERM, lambda *_: sys.exit(143))
+    try:
+        main()
+    except Failed as fault:
+        sys.exit(f"{sys.argv[0]}: {fault}")
+    except KeyboardInterrupt:
+        sys.exit(130)
 
 
 def tell(line):
@@ -47,8 +79,8 @@ class Cost:
         self.times, self.peak = [], 0.0
 
     def add(self, words, out="/dev/null", given="/dev/null", processors=None):
-        """One run more, on so many processors. Bench/peers stays small, since the peak that the
-        system tells of a child is never below its parent's."""
+        """One run more, on so many processors. The script stays small, since the peak that the system tells
+        of a child is never below its parent's."""
         everywhere = os.sched_getaffinity(0)
         files = [(os.POSIX_SPAWN_OPEN, 0, given, os.O_RDONLY, 0),
                  (os.POSIX_SPAWN_OPEN, 1, out, os.O_WRONLY | os.O_CREAT | os.O_TRUNC, 0o600)]
@@ -118,12 +150,6 @@ def peer_target(selector):
     return f"/api/v1/query?{urllib.parse.urlencode(words)}"
 
 
-def free_port():
-    with socket.socket() as one:
-        one.bind(("127.0.0.1", 0))
-        return one.getsockname()[1]
-
-
 class House:
     """A folder for all, the programs, and the tools of this folder; it goes when the `with` ends."""
 
@@ -164,24 +190,13 @@ class House:
     @contextlib.contextmanager
     def running(self, name, words, target, port=None):
         """A server; without a port, it tells in its first line which one it took."""
-        with open(f"{self.work}/faults", "ab") as faults:
-            process = subprocess.Popen(
-                words, stdin=subprocess.DEVNULL, stdout=subprocess.PIPE, stderr=faults)
+        running = Running(words)
         try:
-            if port is None:
-                told = process.stdout.readline().split()
-                if told[:1] != [b"listening"]:
-                    raise Failed(f"{name} does not listen: {' '.join(words)[:200]}")
-                port = int(told[1])
-            yield Server(name, process, port, target)
+            if port is None and not running.wait():
+                raise Failed(f"{name} does not listen: {' '.join(words)[:200]}: {running.told[-400:]}")
+            yield Server(name, running.process, port or running.port, target)
         finally:
-            process.terminate()
-            try:
-                process.wait(20)
-            except subprocess.TimeoutExpired:
-                process.kill()
-                process.wait()
-            process.stdout.close()
+            running.end(signal.SIGTERM, 20)
 
     def serving(self, *folders, workers=16):
         words = [self.querier, "serve", "--port", "0", "--workers", str(workers), *folders]

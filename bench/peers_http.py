@@ -1,4 +1,4 @@
-"""The classes of bench/peers that ask servers: http, writes, memory and patterns."""
+"""The classes of bench/peers.py that ask servers: http, writes, memory and patterns."""
 import statistics
 import subprocess
 import time

@@ -1,4 +1,5 @@
-"""The table of bench/peers: a row for each work, as Markdown, printed as it comes."""
+"""The table of a script: a row for each work, as Markdown, printed as it comes."""
+import os
 
 
 def milli(value):
@@ -21,3 +22,7 @@ class Table:
             self.missed += 1
             target = f"{target}, missed"
         print(f"| {work} | {here} | {beside} | {ratio} | {target} |", flush=True)
+
+    def done(self):
+        processors, load = os.cpu_count(), os.getloadavg()[0]
+        print(f"\nTargets missed: {self.missed}. {processors} processors, load {load:.1f} at the end.")

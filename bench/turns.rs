@@ -1,8 +1,9 @@
 //! turns ROUNDS: asks servers of this machine in turn, one request at a time, and tells how long each took.
-//! Standard input has a line for each that is asked, `new PORT TARGET` (a connection a request) or `kept PORT TARGET`.
-//! Each is asked once before the rounds, and what it replied then is counted. It prints a line for each: the median and
-//! the greatest time in milliseconds, the bytes of the reply's body, its series and its samples (those whose time begins
-//! with 17, as those of make_block.rs do). A reply that is not `200` is told, and the status is 1.
+//! Standard input has a line for each that is asked, `new PORT TARGET` (a connection a request) or `kept PORT
+//! TARGET`. Each is asked once before the rounds, and what it replied then is counted. It prints a line for
+//! each: the median and the greatest time in milliseconds, the bytes of the reply's body, its series and its
+//! samples (those whose time begins with 17, as those of make_block.rs do). A reply that is not `200` is
+//! told, and the status is 1.
 //! std only: rustc -O turns.rs
 use std::io::{self, Read, Write};
 use std::net::TcpStream;
@@ -25,7 +26,8 @@ impl Asked {
         let port = words.next()?.parse().ok()?;
         let after = if kept { "keep-alive" } else { "close" };
         let request =
-            format!("GET {} HTTP/1.1\r\nHost: 127.0.0.1\r\nConnection: {after}\r\n\r\n", words.next()?).into_bytes();
+            format!("GET {} HTTP/1.1\r\nHost: 127.0.0.1\r\nConnection: {after}\r\n\r\n", words.next()?)
+                .into_bytes();
         Some(Asked { port, kept, request, stream: None, times: Vec::new() })
     }
 
@@ -70,7 +72,10 @@ fn head_of(reply: &[u8]) -> Option<usize> {
 
 /// The value of a field of the head.
 fn field<'r>(head: &'r str, name: &str) -> Option<&'r str> {
-    head.lines().filter_map(|line| line.split_once(':')).find(|(one, _)| one.eq_ignore_ascii_case(name)).map(|(_, value)| value.trim())
+    head.lines()
+        .filter_map(|line| line.split_once(':'))
+        .find(|(one, _)| one.eq_ignore_ascii_case(name))
+        .map(|(_, value)| value.trim())
 }
 
 fn is_whole(reply: &[u8]) -> bool {
@@ -114,7 +119,8 @@ fn counted(body: &[u8]) -> (usize, usize) {
 fn main() {
     let rounds: usize = env::args().nth(1).and_then(|word| word.parse().ok()).expect("ROUNDS is a number");
     let lines: Vec<String> = io::stdin().lines().map(|line| line.expect("a line")).collect();
-    let mut asked: Vec<Asked> = lines.iter().map(|line| Asked::new(line).expect("new|kept PORT TARGET")).collect();
+    let mut asked: Vec<Asked> =
+        lines.iter().map(|line| Asked::new(line).expect("new|kept PORT TARGET")).collect();
     let (mut reply, mut found) = (Vec::new(), Vec::new());
     for (one, line) in asked.iter_mut().zip(&lines) {
         let told = one.ask(&mut reply);

@@ -1,18 +1,34 @@
-"""Reads blocks with uncompressed chunks straight from their bytes, and compares them with `promtool tsdb dump`.
+"""Reads blocks with uncompressed chunks straight from their bytes, and compares them with `promtool tsdb
+dump`.
 
-    read_block.py texts DIR [large]                           writes texts of OpenMetrics into DIR
-    read_block.py compare DIGITS REST TOLD TSDB.. -- BLOCK..  the blocks hold what `promtool tsdb dump` prints of each TSDB,
-                                                              the later wins, times 10^DIGITS, other values dropped or
-                                                              rounded; the counts in TOLD are right
-    read_block.py text DIGITS REST TOLD TEXT -- BLOCK..       the blocks hold the samples that a text writes, read as decimals,
-                                                              other values dropped or rounded; of two at one time that of the
-                                                              later line; the counts are right
-    read_block.py reply BLOCK..                               prints the rows of the blocks as a reply
-    read_block.py same DIGITS TSDB -- BLOCK..                 `promtool tsdb dump` of the TSDB prints the blocks' samples
-    read_block.py delete BLOCK                                deletes of each third series the times of its second quarter
-    read_block.py change BLOCKTOOL TSDB DIR                   flips each bit of the block in TSDB: refused, or the same
+    read_block.py texts DIR [large]
+        writes texts of OpenMetrics into DIR
+    read_block.py compare DIGITS REST TOLD TSDB.. -- BLOCK..
+        the blocks hold what `promtool tsdb dump` prints of each TSDB, the later wins, times 10^DIGITS, other
+        values dropped or rounded; the counts in TOLD are right
+    read_block.py text DIGITS REST TOLD TEXT -- BLOCK..
+        the blocks hold the samples that a text writes, read as decimals, other values dropped or rounded; of
+        two at one time that of the later line; the counts are right
+    read_block.py reply BLOCK..
+        prints the rows of the blocks as a reply
+    read_block.py same DIGITS TSDB -- BLOCK..
+        `promtool tsdb dump` of the TSDB prints the blocks' samples
+    read_block.py delete BLOCK
+        deletes of each third series the times of its second quarter
+    read_block.py change BLOCKTOOL TSDB DIR
+        flips each bit of the block in TSDB: refused, or the same
 """
-import ast, glob, json, multiprocessing, os, random, re, shutil, struct, subprocess, sys
+import ast
+import glob
+import json
+import multiprocessing
+import os
+import random
+import re
+import shutil
+import struct
+import subprocess
+import sys
 from collections import Counter
 from decimal import Decimal
 from fractions import Fraction
@@ -21,12 +37,19 @@ from fractions import Fraction
 def uvar(b, p):
     n = s = 0
     while True:
-        c = b[p]; p += 1
-        n |= (c & 127) << s; s += 7
-        if c < 128: return n, p
+        c = b[p]
+        p += 1
+        n |= (c & 127) << s
+        s += 7
+        if c < 128:
+            return n, p
+
+
 def var(b, p):
     n, p = uvar(b, p)
     return (n >> 1) ^ -(n & 1), p
+
+
 def references(d):
     """The reference of each series of an index, and its labels."""
     ix = open(d + "/index", "rb").read()
@@ -34,61 +57,107 @@ def references(d):
     p, end = toc[1], toc[2] or toc[4]
     while p < end:
         p += -p % 16
-        if p >= end: break
+        if p >= end:
+            break
         l, q = uvar(ix, p)
-        if l == 0: break
-        yield p // 16, ix[q:q+l]
+        if l == 0:
+            break
+        yield p // 16, ix[q : q + l]
         p = q + l + 4
+
+
 def block(d):
-    ix = open(d + "/index", "rb").read(); ch = open(d + "/chunks/000001", "rb").read()
+    ix = open(d + "/index", "rb").read()
+    ch = open(d + "/chunks/000001", "rb").read()
     toc = struct.unpack(">6Q", ix[-52:-4])
     sym, ser, labi = toc[0], toc[1], toc[2]
-    n = struct.unpack(">I", ix[sym+4:sym+8])[0]; p = sym + 8; syms = []
+    n = struct.unpack(">I", ix[sym + 4 : sym + 8])[0]
+    p = sym + 8
+    syms = []
     for _ in range(n):
-        l, p = uvar(ix, p); syms.append(ix[p:p+l].decode()); p += l
+        l, p = uvar(ix, p)
+        syms.append(ix[p : p + l].decode())
+        p += l
     out = {}
-    p = ser; end = labi or toc[4]
+    p = ser
+    end = labi or toc[4]
     while p < end:
-        if p % 16: p += 16 - p % 16
-        if p >= end: break
+        if p % 16:
+            p += 16 - p % 16
+        if p >= end:
+            break
         l, q = uvar(ix, p)
-        if l == 0: break
-        e = q + l; k, q = uvar(ix, q); labels = []
+        if l == 0:
+            break
+        e = q + l
+        k, q = uvar(ix, q)
+        labels = []
         for _ in range(k):
-            a, q = uvar(ix, q); v, q = uvar(ix, q); labels.append((syms[a], syms[v]))
-        c, q = uvar(ix, q); refs = []
-        mint, q = var(ix, q); w, q = uvar(ix, q); ref, q = uvar(ix, q); maxt = mint + w; refs.append((ref, mint, maxt))
+            a, q = uvar(ix, q)
+            v, q = uvar(ix, q)
+            labels.append((syms[a], syms[v]))
+        c, q = uvar(ix, q)
+        refs = []
+        mint, q = var(ix, q)
+        w, q = uvar(ix, q)
+        ref, q = uvar(ix, q)
+        maxt = mint + w
+        refs.append((ref, mint, maxt))
         for _ in range(c - 1):
-            g, q = uvar(ix, q); w, q = uvar(ix, q); dr, q = var(ix, q); mint = maxt + g; maxt = mint + w; ref += dr; refs.append((ref, mint, maxt))
+            g, q = uvar(ix, q)
+            w, q = uvar(ix, q)
+            dr, q = var(ix, q)
+            mint = maxt + g
+            maxt = mint + w
+            ref += dr
+            refs.append((ref, mint, maxt))
         assert q == e
         s = []
         for ref, mint, maxt in refs:
-            l, q = uvar(ch, ref); assert ch[q] == 0xE0; q += 1; cnt = struct.unpack(">H", ch[q:q+2])[0]; q += 2
-            for i in range(cnt): s.append(struct.unpack(">qq", ch[q+16*i:q+16*i+16]))
+            l, q = uvar(ch, ref)
+            assert ch[q] == 0xE0
+            q += 1
+            cnt = struct.unpack(">H", ch[q : q + 2])[0]
+            q += 2
+            for i in range(cnt):
+                s.append(struct.unpack(">qq", ch[q + 16 * i : q + 16 * i + 16]))
         out[tuple(labels)] = s
         p = e + 4
     return out
+
+
 def blocks(ds):
     out = {}
     for d in ds:
-        for k, s in block(d).items(): out.setdefault(k, []).extend(s)
+        for k, s in block(d).items():
+            out.setdefault(k, []).extend(s)
     return out
 
 
 LAB = re.compile(r'([a-zA-Z_][a-zA-Z0-9_]*)=("(?:[^"\\]|\\.)*")')
+
+
 def dump(lines, digits, rest):
-    out = {}; left = 0; rounded = 0
+    out = {}
+    left = 0
+    rounded = 0
     for line in lines:
-        i = line.rindex("} "); lab = line[1:i]; v, t = line[i+2:].split()
+        i = line.rindex("} ")
+        lab = line[1:i]
+        v, t = line[i + 2 :].split()
         key = tuple(sorted((a, ast.literal_eval(b)) for a, b in LAB.findall(lab)))
-        if v in ("NaN", "+Inf", "-Inf"): left += 1; continue
+        if v in ("NaN", "+Inf", "-Inf"):
+            left += 1
+            continue
         f = float(v)
         whole = f == int(f)
         x = (Decimal(int(f)) if whole else Decimal(repr(f))).scaleb(digits)
         if x != x.to_integral_value() or abs(x) >= (2**63 if whole else 10**15):
             # Python rounds a fraction to the nearest whole number, and a half to the even one
             x = round(Fraction(f) * 10**digits)
-            if rest != "round" or abs(x) >= 2**63: left += 1; continue
+            if rest != "round" or abs(x) >= 2**63:
+                left += 1
+                continue
             rounded += 1
         out.setdefault(key, []).append((int(t), int(x)))
     return out, left, rounded
@@ -106,31 +175,100 @@ def texts(folder, large):
             f.write("# EOF\n")
 
     def many(name, series, samples):
-        write(name, [("m", [('{i="%d"}' % s, (s * 31 + i * i) % 1000 - 300, start + i * 15)
-                            for s in range(series) for i in range(samples)])])
+        write(
+            name,
+            [
+                (
+                    "m",
+                    [
+                        ('{i="%d"}' % s, (s * 31 + i * i) % 1000 - 300, start + i * 15)
+                        for s in range(series)
+                        for i in range(samples)
+                    ],
+                )
+            ],
+        )
 
     start = 1700006400
     values = ["1", "7", "0", "-3", "123456789", "9007199254740993", "-4611686018427387904"]
-    write("whole", [(f"m{s}", [('{job="a",i="%d"}' % s, values[(i * i + s) % 7] if i % 5 else i, start + i * 15)
-                               for i in range(300)]) for s in range(20)])
+    write(
+        "whole",
+        [
+            (
+                f"m{s}",
+                [
+                    ('{job="a",i="%d"}' % s, values[(i * i + s) % 7] if i % 5 else i, start + i * 15)
+                    for i in range(300)
+                ],
+            )
+            for s in range(20)
+        ],
+    )
     # times that the one before has too, others between them, and a series more
-    write("over", [(f"m{s}", [('{job="a",i="%d"}' % s, -1 - i, "%d.%03d" % (start + 1500 + i * 10, s % 2))
-                              for i in range(150)]) for s in range(5, 22)])
-    odd = ["1.5", "NaN", "+Inf", "-Inf", "-0", "5e-324", "9223372036854775808", "0.1", "123456789.123456789", "1e15", "-7",
-           "0.000000001", "3", "4611686018427387904", "-0.3"]
-    write("odd", [("odd", [('{k="%02d",v="x\\"y\\\\z \u00e9"}' % k, v, "%d.%03d" % (start + i * 13, i * 8))
-                           for k, v in enumerate(odd) for i in range(3)])])
-    write("gaps", [(f"g{s}", [("", i % 11 - 5, "%d.%03d" % (start + i * 9 + (i // 50) * 3000, (i * 37) % 1000))
-                              for i in range(400)]) for s in range(3)])
-    write("fractions", [("f", [('{i="%d"}' % s, "%.*f" % (s, random.uniform(-1000, 1000)), start + i * 15)
-                               for s in range(11) for i in range(200)])])
+    write(
+        "over",
+        [
+            (
+                f"m{s}",
+                [
+                    ('{job="a",i="%d"}' % s, -1 - i, "%d.%03d" % (start + 1500 + i * 10, s % 2))
+                    for i in range(150)
+                ],
+            )
+            for s in range(5, 22)
+        ],
+    )
+    odd = [
+        "1.5", "NaN", "+Inf", "-Inf", "-0", "5e-324", "9223372036854775808", "0.1", "123456789.123456789",
+        "1e15", "-7", "0.000000001", "3", "4611686018427387904", "-0.3",
+    ]
+    rows = [
+        ('{k="%02d",v="x\\"y\\\\z \u00e9"}' % k, v, "%d.%03d" % (start + i * 13, i * 8))
+        for k, v in enumerate(odd)
+        for i in range(3)
+    ]
+    write("odd", [("odd", rows)])
+    write(
+        "gaps",
+        [
+            (
+                f"g{s}",
+                [
+                    ("", i % 11 - 5, "%d.%03d" % (start + i * 9 + (i // 50) * 3000, (i * 37) % 1000))
+                    for i in range(400)
+                ],
+            )
+            for s in range(3)
+        ],
+    )
+    write(
+        "fractions",
+        [
+            (
+                "f",
+                [
+                    ('{i="%d"}' % s, "%.*f" % (s, random.uniform(-1000, 1000)), start + i * 15)
+                    for s in range(11)
+                    for i in range(200)
+                ],
+            )
+        ],
+    )
     # numbers that no double is, around what is kept and what is rounded
-    far = ["0.5", "1.5", "2.5", "-0.5", "-2.5", "0." + "4" + "9" * 40, "0.5" + "0" * 40 + "1", "1e-400", "1e400", "-1e300", "7e-999",
-           "123456789012345678901234567890e-25", "10000000000000000000e-19", "1" * 900 + "e-899", "0." + "0" * 500 + "25e501",
-           "9223372036854775807", "9223372036854775807.4999", "9223372036854775807.5", "-9223372036854775807.5",
-           "-9223372036854775808", "92233720368547758.075e2", "922337203685477580.755", "5e-1", ".5e0", "25E-1", "+35.e-1", "0e999",
-           "0" * 40 + ".5", "0.0000000005", "0.0000000015", "-0.00000000050000001", "NaN", "-Inf", "-0", "-0.2"]
-    write("far", [("far", [('{k="%02d"}' % k, v, "%d.%03d" % (start + i * 13, i * 8)) for k, v in enumerate(far) for i in range(2)])])
+    far = [
+        "0.5", "1.5", "2.5", "-0.5", "-2.5", "0." + "4" + "9" * 40, "0.5" + "0" * 40 + "1", "1e-400", "1e400",
+        "-1e300", "7e-999", "123456789012345678901234567890e-25", "10000000000000000000e-19",
+        "1" * 900 + "e-899", "0." + "0" * 500 + "25e501", "9223372036854775807", "9223372036854775807.4999",
+        "9223372036854775807.5", "-9223372036854775807.5", "-9223372036854775808", "92233720368547758.075e2",
+        "922337203685477580.755", "5e-1", ".5e0", "25E-1", "+35.e-1", "0e999", "0" * 40 + ".5",
+        "0.0000000005", "0.0000000015", "-0.00000000050000001", "NaN", "-Inf", "-0", "-0.2",
+    ]
+    rows = [
+        ('{k="%02d"}' % k, v, "%d.%03d" % (start + i * 13, i * 8))
+        for k, v in enumerate(far)
+        for i in range(2)
+    ]
+    write("far", [("far", rows)])
     many("thousand", 1000, 120)
     if large:
         many("many", 10000, 120)
@@ -139,7 +277,9 @@ def texts(folder, large):
 
 def dump_of(tsdb):
     os.makedirs(tsdb + "/wal", exist_ok=True)
-    return subprocess.run(["promtool", "tsdb", "dump", tsdb], capture_output=True, text=True, check=True).stdout
+    return subprocess.run(
+        ["promtool", "tsdb", "dump", tsdb], capture_output=True, text=True, check=True
+    ).stdout
 
 
 def rows_of(folders):
@@ -151,7 +291,9 @@ def rows_of(folders):
 
 def counts_in(told):
     text = open(told).read()
-    counts = {word: int(n) for n, word in re.findall(r"(\d+) (kept|stale|of other|deleted|hidden|outside)", text)}
+    counts = {
+        word: int(n) for n, word in re.findall(r"(\d+) (kept|stale|of other|deleted|hidden|outside)", text)
+    }
     read = int(re.search(r"read (\d+) samples", text).group(1))
     assert sum(counts.values()) == read, (read, counts)
     return counts
@@ -165,21 +307,26 @@ ESCAPES = {"\\\\": "\\", '\\"': '"', "\\n": "\n"}
 
 
 def written(path, digits, rest):
-    """The samples that a text writes in its lines, how many are at a time that a later line has too, how many are left, and
-    how many are rounded."""
+    """The samples that a text writes in its lines, how many are at a time that a later line has too, how many
+    are left, and how many are rounded."""
     out, hidden, left, rounded = {}, 0, 0, 0
     for line in open(path, encoding="utf-8").read().split("\n"):
-        if line.startswith("#") or not line: continue
+        if line.startswith("#") or not line:
+            continue
         name = re.match("[a-zA-Z_:][a-zA-Z0-9_:]*", line)[0]
         v, t = line.split(" ")[-2:]
         labels = [(a, re.sub(r"\\.", lambda m: ESCAPES[m[0]], b[1:-1])) for a, b in LAB.findall(line)]
         key = tuple(sorted([("__name__", name)] + [pair for pair in labels if pair[1]]))
         x = Decimal(v)
-        if not x.is_finite(): left += 1; continue
+        if not x.is_finite():
+            left += 1
+            continue
         x = Fraction(x) * 10**digits
         # the nearest whole number, of two the even one
         n = round(x)
-        if (n != x and rest != "round") or abs(n) >= 2**63: left += 1; continue
+        if (n != x and rest != "round") or abs(n) >= 2**63:
+            left += 1
+            continue
         rounded += n != x
         at = int(Decimal(t).scaleb(3))
         hidden += at in out.setdefault(key, {})
@@ -190,15 +337,22 @@ def written(path, digits, rest):
 def compare_text(digits, rest, told, text, folders):
     want, hidden, left, rounded = written(text, digits, rest)
     got = rows_of(folders)
-    assert want == got, [(k, want.get(k), got.get(k)) for k in set(want) | set(got) if want.get(k) != got.get(k)][:2]
+    assert want == got, [
+        (k, want.get(k), got.get(k)) for k in set(want) | set(got) if want.get(k) != got.get(k)
+    ][:2]
     counts = counts_in(told)
     assert (counts["hidden"], counts["of other"]) == (hidden, left), (counts, hidden, left)
     assert rounded_in(told) == rounded, (rounded_in(told), rounded)
-    print("the same:", counts["kept"], "samples of", len(got), "series as the text writes;", left, "left out,", rounded, "rounded")
+    print(
+        "the same:", counts["kept"], "samples of", len(got), "series as the text writes;", left, "left out,",
+        rounded, "rounded",
+    )
 
 
 def reply(folders):
-    rows = [{"labels": dict(labels), "samples": samples} for labels, samples in sorted(rows_of(folders).items())]
+    rows = [
+        {"labels": dict(labels), "samples": samples} for labels, samples in sorted(rows_of(folders).items())
+    ]
     print(json.dumps({"parts": [], "rows": rows}, ensure_ascii=False, separators=(",", ":")))
 
 
@@ -206,7 +360,10 @@ def same(digits, tsdb, folders):
     want, left, _ = dump(dump_of(tsdb).splitlines(), digits, "drop")
     got = rows_of(folders)
     want = {key: sorted(samples) for key, samples in want.items()}
-    assert not left and want == got, (left, [(k, want.get(k), got.get(k)) for k in set(want) | set(got) if want.get(k) != got.get(k)][:2])
+    assert not left and want == got, (
+        left,
+        [(k, want.get(k), got.get(k)) for k in set(want) | set(got) if want.get(k) != got.get(k)][:2],
+    )
     print("the same:", sum(map(len, got.values())), "samples of", len(got), "series back in promtool")
 
 
@@ -241,28 +398,43 @@ def compare(digits, rest, told, tsdbs, folders):
     assert counts["kept"] == count and counts["hidden"] == given - count, (counts, count, given)
     assert counts["stale"] + counts["of other"] == left, (counts, left)
     assert rounded_in(told) == rounded, rounded
-    print("the same:", count, "samples of", len(got), "series in", len(folders), "blocks;", left, "left out,", rounded, "rounded")
+    print(
+        "the same:", count, "samples of", len(got), "series in", len(folders), "blocks;", left, "left out,",
+        rounded, "rounded",
+    )
 
 
-def crc32c(data):
-    crc = 0xFFFFFFFF
-    for byte in data:
-        crc ^= byte
+def sums():
+    """The checksum of each byte."""
+    table = []
+    for byte in range(256):
         for _ in range(8):
-            crc = crc >> 1 ^ (0x82F63B78 if crc & 1 else 0)
-    return crc ^ 0xFFFFFFFF
+            byte = byte >> 1 ^ (0x82F63B78 if byte & 1 else 0)
+        table.append(byte)
+    return table
 
 
-def uvarint(n):
-    out = b""
-    while n > 127:
-        out += bytes([n & 127 | 128])
-        n >>= 7
-    return out + bytes([n])
+TABLE = sums()
 
 
-def varint(n):
-    return uvarint(n << 1 if n >= 0 else (-n << 1) - 1)
+def checksum(data):
+    """CRC-32C, the most significant byte first."""
+    state = 0xFFFFFFFF
+    for byte in data:
+        state = state >> 8 ^ TABLE[(state ^ byte) & 255]
+    return (state ^ 0xFFFFFFFF).to_bytes(4, "big")
+
+
+def uvarint(number):
+    text = bytearray()
+    while number > 127:
+        text.append(number & 127 | 128)
+        number >>= 7
+    return bytes(text) + bytes([number])
+
+
+def varint(number):
+    return uvarint(2 * number if number >= 0 else -2 * number - 1)
 
 
 def delete(folder):
@@ -271,20 +443,28 @@ def delete(folder):
     entries = b""
     for at, (reference, _) in enumerate(references(folder)):
         if at % 3 == 0:
-            entries += uvarint(reference) + varint(meta["minTime"] + width // 4) + varint(meta["minTime"] + width // 2)
+            entries += (
+                uvarint(reference)
+                + varint(meta["minTime"] + width // 4)
+                + varint(meta["minTime"] + width // 2)
+            )
     body = b"\x01" + entries
-    open(folder + "/tombstones", "wb").write(struct.pack(">I", 0x0130BA30) + body + struct.pack(">I", crc32c(entries)))
+    open(folder + "/tombstones", "wb").write(struct.pack(">I", 0x0130BA30) + body + checksum(entries))
 
 
 def run(tool, source, out):
     shutil.rmtree(out, ignore_errors=True)
-    end = subprocess.run([tool, "from-prometheus", "--decimals", "9", "--rest", "drop", "--into", out, source],
-                         capture_output=True, timeout=60)
+    end = subprocess.run(
+        [tool, "from-prometheus", "--decimals", "9", "--rest", "drop", "--into", out, source],
+        capture_output=True,
+        timeout=60,
+    )
     return end.returncode
 
 
 def change_part(part):
-    """Flips the bits of every so many bytes of each file in a copy of its own, and counts the exit statuses."""
+    """Flips the bits of every so many bytes of each file in a copy of its own, and counts the exit
+    statuses."""
     tool, source, work, wanted, first, step = part
     out, copy = f"{work}/changed-out-{first}", f"{work}/changed-{first}"
     shutil.copytree(source, copy)
@@ -313,7 +493,10 @@ def change(tool, tsdb, work):
     wanted = blocks(glob.glob(out + "/0*"))
     step = os.cpu_count()
     with multiprocessing.Pool(step) as pool:
-        ends = sum(pool.map(change_part, [(tool, source, work, wanted, first, step) for first in range(step)]), Counter())
+        ends = sum(
+            pool.map(change_part, [(tool, source, work, wanted, first, step) for first in range(step)]),
+            Counter(),
+        )
     print(ends.total(), "flipped bits by exit status:", dict(ends))
 
 
@@ -322,7 +505,7 @@ if __name__ == "__main__":
         texts(sys.argv[2], len(sys.argv) > 3)
     elif sys.argv[1] == "compare":
         cut = sys.argv.index("--")
-        compare(int(sys.argv[2]), sys.argv[3], sys.argv[4], sys.argv[5:cut], sys.argv[cut + 1:])
+        compare(int(sys.argv[2]), sys.argv[3], sys.argv[4], sys.argv[5:cut], sys.argv[cut + 1 :])
     elif sys.argv[1] == "text":
         compare_text(int(sys.argv[2]), sys.argv[3], sys.argv[4], sys.argv[5], sys.argv[7:])
     elif sys.argv[1] == "reply":
