@@ -1,6 +1,6 @@
 -- Events are kept, and then published.
-use Rattle.std.proofs.Common.{◌≡◌, ◌⊎◌, ℕ, zero, suc, Result, Ok, Err, OnOk, is_ok, if◌then◌else◌, Bool, true, false, List, [], ◌∷◌, ◌++◌, take, inl, inr, ⊎_elim, refl, sym, ap, subst, ◌∙◌, arith, append_assoc}
-use Rattle.std.proofs.lemmas.List.{map-append, map_push}
+use Rattle.std.proofs.Common.{◌≡◌, ◌⊎◌, ℕ, zero, suc, Result, Ok, Err, OnOk, is_ok, if◌then◌else◌, Bool, true, false, List, [], ◌∷◌, ◌++◌, take, drop, inl, inr, refl, sym, ap, subst, ◌∙◌, append_assoc}
+use Rattle.std.proofs.lemmas.List.{map-append, map_push, take-append-drop}
 use Rattle.std.specs.List.{AllByRecursion}
 use Rattle.head.specs.Heads.{SnapshotParts, world_of}
 use Rattle.head.specs.Refusals.{Refusal}
@@ -12,13 +12,13 @@ use Rattle.journal.proofs.Keeping.{record_more}
 use Rattle.journal.proofs.Loops.{records_one}
 use Rattle.journal.specs.Group.{AreRecords}
 use Rattle.journal.specs.Records.{records_of}
-use Rattle.keeper.specs.Finding.{FindsOnly, IsOfAllAndSome}
+use Rattle.keeper.specs.Finding.{AreAllAndSome, FindsWorld, IsOfAll, LeavesEvents, StandsForSome}
 use Rattle.keeper.specs.Together.{IsKept, SpellTogether, texts_of}
 use Rattle.keeper.specs.declared.error.KeepError.{KeepError}
 use Rattle.keeper.specs.declared.error.KeepError.TheVariants as keep
 use Rattle.keeper.proofs.Finds.{wider}
 use Rattle.snapshots.specs.declared.entry.Entry.{Entry}
-use Rattle.snapshots.specs.Keeping.{keep_refusal, kept_of, AreAllOrNone, IsOfAllKept, IsOfKeeping, IsRecordFor, OpensAsKept, SpellAll}
+use Rattle.snapshots.specs.Keeping.{keep_refusal, kept_of, AreAllOrNone, IsOfAllKept, IsOfKeeping, IsOfKeptAndSome, IsRecordFor, OpensAsKept, SpellAll}
 use Rattle.snapshots.specs.Replays.{events_in, IsAfter, IsOfStore}
 
 -- events more are to be kept
@@ -130,39 +130,48 @@ none_taken : (few : ℕ) → take {A = Event} few [] ≡ []
 none_taken zero = refl
 none_taken (suc few) = refl
 
-some_or_none : (first : World) (events more : List Event) (w : World) → IsOfAllAndSome first events [] w → IsOfAllAndSome first events more w
-some_or_none first events more w some =
-    (0, subst (λ (xs : List Event). replayed first (events ++ xs) ≡ Ok w) (none_taken some.0) some.1)
+some_or_none : (events more found : List Event) → AreAllAndSome events [] found → AreAllAndSome events more found
+some_or_none events more found some = (0, some.1 ∙ ap (λ (xs : List Event). events ++ xs) (none_taken some.0))
 
 -- these, or none
-pub at_most : (first : World) (events more few : List Event) (w : World) → AreAllOrNone more few → IsOfAllAndSome first events few w → IsOfAllAndSome first events more w
-at_most first events more few w (inl is) some = subst (λ (xs : List Event). IsOfAllAndSome first events xs w) is some
-at_most first events more few w (inr none) some =
-    some_or_none first events more w (subst (λ (xs : List Event). IsOfAllAndSome first events xs w) none some)
+pub at_most : (events more few found : List Event) → AreAllOrNone more few → AreAllAndSome events few found → AreAllAndSome events more found
+at_most events more few found (inl is) some = subst (λ (xs : List Event). AreAllAndSome events xs found) is some
+at_most events more few found (inr none) some =
+    some_or_none events more found (subst (λ (xs : List Event). AreAllAndSome events xs found) none some)
 
 pub last_more : {K : Type 0} (idle : Bool) (kept_last : K → List Event → List Event → Type 0) (new : K) (bytes : List ℕ) (events more : List Event)
     → ((few : List Event) → SpellTogether bytes few → kept_last new events few)
     → SpellAll idle more bytes → (few : List Event) × AreAllOrNone more few × kept_last new events few
 last_more idle kept_last new bytes events more f all = let s = spelled_by idle more bytes all in (s.0, s.1, f s.0 s.2)
 
-module _ {K : Type 0} (moment : K → ℕ) (first : World) (found_since : K → ℕ → World → Type 0) where
-  -- two calls, one after the other
-  pub joined : (old mid new : K) (P : World → Type 0) → FindsOnly moment found_since old mid P → FindsOnly moment found_since mid new P → FindsOnly moment found_since old new P
-  joined old mid new P first second = record {
-    later = let a = first.later in let b = second.later in omega arith;
-    each = λ found had.
-        ⊎_elim (λ (past : found_since mid (moment old) found). first.each found past) (λ (p : P found). p)
-        (second.before (moment old) found first.later had);
-    before = λ t found le had.
-        ⊎_elim (λ (past : found_since mid t found). first.before t found le past) (λ (p : P found). inr p)
-        (second.before t found (let a = first.later in omega arith) had);
-  }
-
+module _ {K L : Type 0} (moment : K → ℕ) (left_since : K → ℕ → L → Type 0) (stands : L → List Event → Type 0) where
   -- what is in flight are these events, or none
   pub in_flight : (old new : K) (idle : Bool) (bytes : List ℕ) (events more : List Event)
-      → ((few : List Event) → SpellTogether bytes few → FindsOnly moment found_since old new (IsOfAllAndSome first events few))
-      → SpellAll idle more bytes → FindsOnly moment found_since old new (IsOfAllAndSome first events more)
-  in_flight old new idle bytes events more finds all =
+      → ((few : List Event) → SpellTogether bytes few → LeavesEvents moment left_since stands old new (AreAllAndSome events few))
+      → SpellAll idle more bytes → LeavesEvents moment left_since stands old new (AreAllAndSome events more)
+  in_flight old new idle bytes events more leaves all =
       let s = spelled_by idle more bytes all in
-      wider moment found_since old new (IsOfAllAndSome first events s.0) (IsOfAllAndSome first events more) (λ w some. at_most first events more s.0 w s.1 some)
-      (finds s.0 s.2)
+      wider moment left_since stands old new (AreAllAndSome events s.0) (AreAllAndSome events more) (λ found some. at_most events more s.0 found s.1 some)
+      (leaves s.0 s.2)
+
+-- what begins events that are accepted is accepted
+front_accepted : (r : Result World Refusal) (xs ys : List Event) (w : World) → replayed_from r (xs ++ ys) ≡ Ok w
+    → (u : World) × (replayed_from r xs ≡ Ok u)
+front_accepted (Ok v) [] ys w is = (v, refl)
+front_accepted (Err x) [] [] w is = absurd (cc is)
+front_accepted (Err x) [] (e ∷ es) w is = absurd (cc is)
+front_accepted (Err x) (e ∷ es) ys w is = absurd (cc is)
+front_accepted (Ok v) (e ∷ es) ys w is = front_accepted (stepped v e) es ys w is
+
+-- a start that finds what is left finds a world, if the events that it stands for are accepted
+module _ {L : Type 0} (stands : L → List Event → Type 0) (makes : L → World → Type 0) (first : World)
+    (finds : (left : L) (events : List Event) (w : World) → stands left events → IsOfAll first events w → makes left w) where
+  pub finds_some : (events more : List Event) (w : World) → replayed first (events ++ more) ≡ Ok w
+      → (left : L) → StandsForSome stands (AreAllAndSome events more) left
+      → FindsWorld makes (IsOfKeptAndSome first events more) left
+  finds_some events more w is left s =
+      let few = s.2.0 in
+      let parts : (events ++ take few more) ++ drop few more ≡ events ++ more =
+      append_assoc events (take few more) (drop few more) ∙ ap (λ (z : List Event). events ++ z) (take-append-drop few more) in
+      let front = front_accepted (Ok first) (events ++ take few more) (drop few more) w (ap (replayed first) parts ∙ is) in
+      (front.0, finds left s.0 front.0 s.1 (ap (replayed first) s.2.1 ∙ front.1), (few, front.1))

@@ -6,3 +6,4 @@ pub mod Counting
 pub mod Replaying
 pub mod Keeps
 pub mod Tips
+pub mod Held

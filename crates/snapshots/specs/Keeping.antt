@@ -1,5 +1,7 @@
 -- How the events of a store are kept.
-use Rattle.std.specs.Prelude.{◌≡◌, ◌⊎◌, ℕ, Bool, true, false, List, [], ◌∷◌, ◌++◌, Ok, MatchBool}
+use Rattle.std.specs.Prelude.{◌≡◌, ◌⊎◌, ℕ, Bool, true, false, List, [], ◌∷◌, ◌++◌, take, Ok}
+use Rattle.std.specs.Prelude.{MatchBool}
+use mathlib.Core.List.{IsPrefix}
 use Rattle.head.specs.Heads.{SnapshotParts, world_of}
 use Rattle.head.specs.Worlds.{Event, World, replayed}
 use Rattle.head.specs.declared.error.CommitError.{CommitError}
@@ -11,6 +13,7 @@ use Rattle.keeper.specs.declared.error.KeepError.{KeepError}
 use Rattle.keeper.specs.declared.error.KeepError.TheVariants as keep
 use Rattle.snapshots.specs.Marks.{accepted, list_of, tried_of}
 use Rattle.snapshots.specs.Replays.{events_in}
+use Rattle.snapshots.specs.Seats.{SeatView}
 use Rattle.snapshots.specs.Standings.{StandsFor}
 use Rattle.snapshots.specs.declared.entry.Mark.{Mark}
 use Rattle.snapshots.specs.declared.entry.Entry.{Entry}
@@ -47,6 +50,20 @@ pub record IsGroup (opening : SnapshotParts) (idle : Bool) (log : List Mark)
 abbrev pub kept_of : List Event → List Entry → List Event
 kept_of before entries = before ++ events_in entries
 
+-- A keeper of this kind has come to hold these entries: what it holds in some state are the events
+-- from before the store was opened, and those of a list that begins with the entries.
+pub record AreHeld {K : Type 0} (holds : K → List Event → Type 0) (before : List Event)
+    (entries : List Entry) : Type 0 where
+  pub keeper : K
+  pub all : List Entry
+  pub begins : IsPrefix entries all
+  pub held : holds keeper (kept_of before all)
+
+-- the seat is as it was, or all that it has seen is held
+abbrev pub PublishesHeld : {K : Type 0} → (K → List Event → Type 0) → List Event → SeatView
+    → SeatView → Type 0
+PublishesHeld holds before old new = (new ≡ old) ⊎ AreHeld holds before new.seen
+
 -- If events are kept, those from before the store was opened make of the first world the one that
 -- it opened with.
 abbrev pub OpensAsKept : Bool → World → List Event → SnapshotParts → Type 0
@@ -58,6 +75,11 @@ OpensAsKept idle first before opening =
 abbrev pub IsOfAllKept : Bool → World → List Event → List Entry → SnapshotParts → Type 0
 IsOfAllKept idle first before entries s =
     idle ≡ false → replayed first (kept_of before entries) ≡ Ok (world_of s)
+
+-- the world of events that are kept, and of the first few of some more
+abbrev pub IsOfKeptAndSome : World → List Event → List Event → World → Type 0
+IsOfKeptAndSome first events more w =
+    (few : ℕ) × (replayed first (events ++ take few more) ≡ Ok w)
 
 -- the refusal of a store whose keeper refuses so
 abbrev pub keep_refusal : KeepError → CommitError

@@ -2,9 +2,11 @@
 
 ghost use Rattle.std.specs.Prelude.{◌≡◌, [], false, true, IfErr, None, OnErr, OnOk, Ok};
 ghost use Rattle.std.specs.Arc.{arc_value};
+ghost use mathlib.Core.List.{IsPrefix};
 ghost use Rattle.snapshots.specs.Marks.{accepted, list_of};
 ghost use Rattle.snapshots.specs.Grows.{Shows};
-ghost use Rattle.snapshots.specs.Keeping.{IsGroup, IsOfAllKept, IsOfKeeping, OpensAsKept};
+ghost use Rattle.snapshots.specs.Keeping.{AreHeld, IsGroup, IsOfAllKept, IsOfKeeping};
+ghost use Rattle.snapshots.specs.Keeping.{OpensAsKept};
 ghost use Rattle.snapshots.specs.Replays.{IsAfter};
 
 use crate::group::Group;
@@ -83,6 +85,9 @@ impl<J: Naming, R: Wait + Drop, K: Keeper + Drop> Book<J, R, K> {
             (arc_value group.standing.snapshot) group.standing.counts.items group.records.items }
         requires alike { arc_value group.shown ≡ arc_value group.standing.snapshot }
         ensures list { OnOk result.1 (self.new.entries ≡ list_of group.log) }
+        // What was published stays, and what is new comes behind it.
+        ensures begins { IsPrefix self.old.entries self.new.entries }
+        ensures held { AreHeld K.holds J.before self.new.entries }
         ensures parts { OnOk result.1 (self.new.parts ≡ arc_value group.shown) }
         ensures kept { OnErr result.1 (self.new ≡ self.old) }
         ensures refused { IfErr result.1 (λ e. IsOfKeeping e) }

@@ -2,6 +2,7 @@
 
 ghost use Rattle.std.specs.Prelude.{◌≡◌, false, true, None, Ok, Some, is_none, IsTrue, IfOk, IfErr};
 ghost use Rattle.std.specs.Prelude.{OnErr};
+ghost use Rattle.snapshots.specs.Keeping.{AreHeld};
 ghost use Rattle.snapshots.specs.Marks.{tried_of};
 ghost use Rattle.snapshots.specs.Tips.{IsFailure};
 ghost use Rattle.labels.specs.Contents.{is_time};
@@ -97,6 +98,7 @@ impl<J: Naming, R: Wait + Drop, K: Keeper + Drop> Committer<J, R, K> {
         trial: &LogPrefix<J>,
     ) -> Result<Receipt<J>, CommitError>
         ensures receipt { IfOk result (λ r. r ≡ tried_of trial.now) }
+        ensures held { IfOk result (λ r. AreHeld K.holds J.before r) }
         ensures refused { IfErr result (λ e. IsFailure K.idle e) }
     {
         let mut tip = tip;
@@ -121,6 +123,7 @@ impl<J: Naming, R: Wait + Drop, K: Keeper + Drop> Committer<J, R, K> {
     ) -> Result<Receipt<J>, (C, CommitError)>
         ensures ends { IfOk result (λ r. EndsWith (C.event change) seat.old.number r) }
         ensures accepted { IfOk result (λ r. AreAccepted J.opening r) }
+        ensures held { IfOk result (λ r. AreHeld K.holds J.before r) }
         ensures counted { IfOk result (λ r. HasOneMoreEvent seat.old seat.new r) }
         ensures kept { IfErr result (λ e. (e.0 ≡ change) × (seat.new ≡ seat.old)) }
         ensures refused { IfErr result (λ e.
@@ -151,13 +154,14 @@ impl<J: Naming, R: Wait + Drop, K: Keeper + Drop> Committer<J, R, K> {
     }
 
     /// Publishes a batch under the seat's number, whole or not at all. The list of the receipt
-    /// begins with that of the seat's last receipt and ends with the batch, and each pass that
-    /// learns the receipt sees it from then on. Its refusals are memory's, `E7`, where the seat's
-    /// count is not the store's, `E8`, if the batch is not kept, and `E1` to `E4`. With each of
-    /// those four the batch's step is refused after some list of accepted events that begins with
-    /// the list of the seat's last receipt and has no event more under the seat's number. A refusal
-    /// gives the appender back and leaves the seat. It waits for the committer's lock, until its
-    /// batch is kept, which others may do with theirs, and for the readers of the version before.
+    /// begins with that of the seat's last receipt and ends with the batch. A keeper holds it by
+    /// then (`held`), and each pass that learns the receipt sees it from then on. Its refusals are
+    /// memory's, `E7`, where the seat's count is not the store's, `E8`, if the batch is not kept,
+    /// and `E1` to `E4`. With each of those four the batch's step is refused after some list of
+    /// accepted events that begins with the list of the seat's last receipt and has no event more
+    /// under the seat's number. A refusal gives the appender back and leaves the seat. It waits for
+    /// the committer's lock, until its batch is kept, which others may do with theirs, and for the
+    /// readers of the version before.
     pub fn commit(
         &self,
         rt: &impl Wait,
@@ -166,6 +170,7 @@ impl<J: Naming, R: Wait + Drop, K: Keeper + Drop> Committer<J, R, K> {
     ) -> Result<Receipt<J>, (Appender, CommitError)>
         ensures ends { IfOk result (λ r. EndsWith (batch appender) seat.old.number r) }
         ensures accepted { IfOk result (λ r. AreAccepted J.opening r) }
+        ensures held { IfOk result (λ r. AreHeld K.holds J.before r) }
         ensures counted { IfOk result (λ r. HasOneMoreEvent seat.old seat.new r) }
         ensures kept { IfErr result (λ e. (e.0 ≡ appender) × (seat.new ≡ seat.old)) }
         ensures refused { IfErr result (λ e.
@@ -190,6 +195,7 @@ impl<J: Naming, R: Wait + Drop, K: Keeper + Drop> Committer<J, R, K> {
         ensures ends { IfOk result (λ r.
             EndsWith (batch (batch_of_rows rows)) seat.old.number r) }
         ensures accepted { IfOk result (λ r. AreAccepted J.opening r) }
+        ensures held { IfOk result (λ r. AreHeld K.holds J.before r) }
         ensures counted { IfOk result (λ r. HasOneMoreEvent seat.old seat.new r) }
         ensures kept { IfErr result (λ e. (e.0 ≡ rows) × (seat.new ≡ seat.old)) }
         ensures refused { IfErr result (λ e.
@@ -215,6 +221,7 @@ impl<J: Naming, R: Wait + Drop, K: Keeper + Drop> Committer<J, R, K> {
         requires { IsTrue (is_deletion matchers.items from to) }
         ensures ends { IfOk result (EndsWith (deletion matchers.items from to) seat.old.number) }
         ensures accepted { IfOk result (λ r. AreAccepted J.opening r) }
+        ensures held { IfOk result (λ r. AreHeld K.holds J.before r) }
         ensures counted { IfOk result (λ r. HasOneMoreEvent seat.old seat.new r) }
         ensures kept { IfErr result (λ e. (e.0.items ≡ matchers.items) × (seat.new ≡ seat.old)) }
         ensures refused { IfErr result (λ e. IsOfStore e.1) }
@@ -241,6 +248,7 @@ impl<J: Naming, R: Wait + Drop, K: Keeper + Drop> Committer<J, R, K> {
         requires { IsTrue (is_time at) }
         ensures ends { IfOk result (λ r. EndsWith (cut at) seat.old.number r) }
         ensures accepted { IfOk result (λ r. AreAccepted J.opening r) }
+        ensures held { IfOk result (λ r. AreHeld K.holds J.before r) }
         ensures counted { IfOk result (λ r. HasOneMoreEvent seat.old seat.new r) }
         ensures kept { OnErr result (seat.new ≡ seat.old) }
         ensures refused { IfErr result (λ e. IsRefusedAfter J.opening seat.old e (cut at)) }

@@ -2,7 +2,7 @@
 
 ghost use Rattle.std.specs.Prelude.{◌≡◌, ◌++◌, ◌∷◌, [], List, false, IfOk, IfErr, OnOk, OnErr};
 ghost use Rattle.head.specs.Worlds.{Event};
-ghost use Rattle.keeper.specs.Finding.{FindsOnly, IsOfAllAndMore, IsOfAllAndSome};
+ghost use Rattle.keeper.specs.Finding.{AreAllAndMore, AreAllAndSome, LeavesEvents};
 ghost use Rattle.snapshots.specs.Keeping.{keep_refusal, AreAllOrNone, IsHindered, IsOfKeeping};
 ghost use Rattle.snapshots.specs.Keeping.{IsRecordFor, SpellAll};
 
@@ -66,16 +66,17 @@ pub fn keep<K: Keeper>(keeper: &mut K, bytes: &[u8]) -> Result<(), CommitError>
     ensures open { OnOk result (K.closed keeper.new ≡ false) }
     ensures err { OnErr result ((events : List Event) → K.holds keeper.old events
         → K.holds keeper.new events) }
-    // After a crash at any moment of the call a start finds the world of all that was kept.
+    // A crash at any moment of the call leaves all that was kept.
     ensures any_moment { (events more : List Event) → K.holds keeper.old events
         → SpellAll K.idle more bytes.now
-        → FindsOnly K.moment K.found_since keeper.old keeper.new (IsOfAllAndMore K.first events) }
+        → LeavesEvents K.moment K.left_since K.stands keeper.old keeper.new
+        (AreAllAndMore events) }
     // Beyond that at most the first few of these events are in it, unless the keeper was closed
     // before.
     ensures in_flight { (events more : List Event) → K.holds keeper.old events
         → SpellAll K.idle more bytes.now → K.closed keeper.old ≡ false
-        → FindsOnly K.moment K.found_since keeper.old keeper.new
-        (IsOfAllAndSome K.first events more) }
+        → LeavesEvents K.moment K.left_since K.stands keeper.old keeper.new
+        (AreAllAndSome events more) }
     ensures refused { IfErr result (λ e. IsOfKeeping e) }
     // One that keeps nothing refuses nothing.
     ensures needed { OnErr result (K.idle ≡ false) }

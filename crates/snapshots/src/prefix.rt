@@ -3,6 +3,7 @@
 ghost use Rattle.std.specs.Prelude.{◌≡◌, ◌+◌, ◌==◌, ◌<◌, ◌≤◌, ◌^◌, ◌++◌, ◌∷◌, [], length};
 ghost use Rattle.std.specs.Prelude.{MatchBool, IsTrue, ◌↔◌, None};
 ghost use mathlib.Core.List.{IsPrefix};
+ghost use Rattle.snapshots.specs.Keeping.{AreHeld};
 ghost use Rattle.snapshots.specs.Marks.{accepted, list_of, tried_of, voids_of};
 ghost use Rattle.snapshots.specs.Tallies.{IsTally};
 ghost use Rattle.snapshots.specs.Tries.{entry_of};
@@ -13,6 +14,7 @@ use crate::entry::{Mark, Tried};
 use crate::log::{Add, Ends, Law, LogEnd, Nothing, Seals, Tries, Voids};
 use crate::naming::Naming;
 use crate::tally::Tally;
+use keeper::Keeper;
 use logbook::{Offer, Plain, Seen};
 use std::marker::{Model, PhantomData};
 use std::sync::Wait;
@@ -293,9 +295,10 @@ impl<J: Naming> LogPrefix<J> {
         self.add::<(), Seals, R>(rt, end, &(), tally);
     }
 
-    /// Adds that what was sealed is done.
-    pub fn add_done<R: Wait>(&mut self, rt: &R, end: &LogEnd<J>)
-        requires { length self.old < 2 ^ 62 }
+    /// Adds that what was sealed is done: a keeper of the store's kind holds it.
+    pub fn add_done<K: Keeper, R: Wait>(&mut self, rt: &R, end: &LogEnd<J>)
+        requires room { length self.old < 2 ^ 62 }
+        requires held { AreHeld K.holds J.before (list_of self.old) }
         ensures { self.new ≡ self.old ++ Done ∷ [] }
     {
         let tally = Tally {

@@ -10,7 +10,7 @@ ghost use Rattle.head.specs.Heads.{world_of};
 ghost use Rattle.head.specs.Worlds.{stepped};
 ghost use Rattle.snapshots.specs.Marks.{accepted, list_of, tried_of};
 ghost use Rattle.snapshots.specs.Grows.{Shows, MayFollow};
-ghost use Rattle.snapshots.specs.Keeping.{IsGroup, IsRecordFor};
+ghost use Rattle.snapshots.specs.Keeping.{AreHeld, IsGroup, IsRecordFor};
 ghost use Rattle.snapshots.specs.Replays.{IsAfter, Steps, IsEventRefusal, IsOfStore};
 ghost use Rattle.snapshots.specs.Seats.{FitsSeat, AreCounts, IsMetBy, count_of};
 ghost use Rattle.snapshots.specs.Standings.{StandsFor, current};
@@ -142,6 +142,7 @@ pub struct Tip<J: Naming, K: Keeper> {
 impl<J: Naming, K: Keeper> Model for Tip<J, K> {
     ghost use Rattle.std.specs.Prelude.{◌≡◌, MatchBool};
     ghost use Rattle.std.specs.Arc.{arc_value};
+    ghost use Rattle.snapshots.specs.Keeping.{AreHeld};
     ghost use Rattle.snapshots.specs.Marks.{accepted};
     ghost use Rattle.snapshots.specs.Standings.{StandsFor, current};
     ghost use Rattle.snapshots.specs.Tips.{IsBehind, IsFailure};
@@ -161,7 +162,8 @@ impl<J: Naming, K: Keeper> Model for Tip<J, K> {
         t.ahead.counts.items
         × MatchBool t.waits (IsBehind J.opening K.idle t.log (arc_value t.base.snapshot)
         t.base.counts.items t.records.items) (Unit {0})
-        × IsFailure K.idle t.failure × (accepted t.done ≡ accepted t.log) };
+        × IsFailure K.idle t.failure × (accepted t.done ≡ accepted t.log)
+        × AreHeld K.holds J.before (accepted t.done) };
 }
 
 impl<J: Naming, K: Keeper> Tip<J, K> {
@@ -175,6 +177,7 @@ impl<J: Naming, K: Keeper> Tip<J, K> {
     ) -> Tip<J, K>
         requires empty { log ≡ [] }
         requires stands { StandsFor J.opening [] (arc_value ahead.snapshot) ahead.counts.items }
+        requires held { AreHeld K.holds J.before [] }
         ensures { result ≡ record {
           published = [];
           entries = [];
@@ -312,6 +315,9 @@ impl<J: Naming, K: Keeper> Tip<J, K> {
         ensures receipt { IfOk result (λ found. IfSome found (λ r. r ≡ tried_of trial.now)) }
         ensures published { IfOk result (λ found.
             IfSome found (λ r. IsPrefix r self.old.published)) }
+        // What is acknowledged is kept.
+        ensures held { IfOk result (λ found.
+            IfSome found (λ r. AreHeld K.holds J.before r)) }
         // What is given up is not published.
         ensures gone { IfErr result (λ e.
             ¬ IsPrefix (tried_of trial.now) self.old.published) }
@@ -395,8 +401,8 @@ impl<J: Naming, K: Keeper> Tip<J, K> {
         })
     }
 
-    /// Publishes a group that is kept, and marks that in the log, which is answered; `None` if it
-    /// is not published. What was tried meanwhile waits.
+    /// Publishes a group that a keeper holds, and marks that in the log, which is answered; `None`
+    /// if it is not published. What was tried meanwhile waits.
     pub fn publish<R: Wait>(
         &mut self,
         rt: &R,
@@ -406,6 +412,7 @@ impl<J: Naming, K: Keeper> Tip<J, K> {
         requires group { IsGroup J.opening K.idle group.log
             (arc_value group.standing.snapshot) group.standing.counts.items group.records.items }
         requires alike { arc_value group.shown ≡ arc_value group.standing.snapshot }
+        requires held { AreHeld K.holds J.before (list_of group.log) }
         requires shown { Shows J.book J.opening press.old.desk.shown.value (accepted group.log) }
         ensures list { IfSome result (λ log. accepted log ≡ list_of group.log) }
         ensures shown { MatchOption result
@@ -446,7 +453,7 @@ impl<J: Naming, K: Keeper> Tip<J, K> {
         if !published {
             return None;
         }
-        self.log.add_done(rt, &self.end);
+        self.log.add_done::<K, R>(rt, &self.end);
         self.base = standing;
         self.waits = !self.log.is_settled();
         self.done = self.log.share();

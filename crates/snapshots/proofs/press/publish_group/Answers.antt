@@ -1,13 +1,16 @@
-use Rattle.std.proofs.Common.{◌≡◌, List, refl, rules, sym, subst}
+use Rattle.std.proofs.Common.{◌≡◌, ◌∙◌, List, refl, rules, sym, subst}
 use Rattle.std.specs.Arc.{arc_value}
+use Rattle.head.specs.Heads.{world_of}
 use Rattle.head.specs.Worlds.{Event}
-use Rattle.keeper.specs.Finding.{IsOfAllAndMore, IsOfAllAndSome}
-use Rattle.keeper.proofs.Finds.{some_is_more, wider}
+use Rattle.keeper.specs.Finding.{AreAllAndMore, AreAllAndSome}
+use Rattle.keeper.proofs.Finds.{joined, some_is_more, wider}
 use Rattle.snapshots.specs.Keeping.{kept_of}
-use Rattle.snapshots.specs.Marks.{accepted}
+use Rattle.snapshots.specs.Marks.{accepted, list_of}
 use Rattle.snapshots.specs.Replays.{events_in}
-use Rattle.snapshots.proofs.Keeps.{at_most, joined}
-use Rattle.snapshots.proofs.Tips.{group_as, group_kept, group_spelled}
+use Rattle.snapshots.proofs.Held.{group_accepted, held_by}
+use Rattle.snapshots.proofs.Keeps.{at_most, finds_some}
+use Rattle.snapshots.proofs.Prefixes.{prefix_self}
+use Rattle.snapshots.proofs.Tips.{group_as, group_kept, group_parts, group_spelled}
 use Rattle.snapshots.proofs.press.publish_group.Goals as goal
 
 -- nothing was kept
@@ -22,7 +25,42 @@ returns-in-Err-clause-in_flight g c more is opened =
     (group_spelled g.J.Naming.opening g.K.Keeper.idle group.log (arc_value group.standing.snapshot) group.standing.counts.items c.deref.result.now
     is_group (accepted c.args.log.now) c.requires.follows more is) opened
 
+pub returns-in-Err-clause-finds : goal.returns-in-Err-clause-finds
+returns-in-Err-clause-finds g c more is opens opened keeps left had =
+    let k = g.K.Keeper in
+    let group = c.args.group in
+    let s = arc_value group.standing.snapshot in
+    finds_some k.stands k.makes k.first g.met.K.Keeper.finds (kept_of g.J.Naming.before (accepted c.args.log.now)) (events_in more) (world_of s)
+    (group_accepted k.idle k.first g.J.Naming.before g.J.Naming.opening group.log s group.standing.counts.items group.records.items
+    c.requires.group (accepted c.args.log.now) c.requires.follows more is opens keeps)
+    left ((returns-in-Err-clause-in_flight g c more is opened).each left had)
+
+pub returns-in-Err-clause-begins : goal.returns-in-Err-clause-begins
+returns-in-Err-clause-begins g c = prefix_self (accepted c.args.log.now)
+
 -- it was kept and published
+
+pub publish-requires-clause-held : goal.publish-requires-clause-held
+publish-requires-clause-held g c =
+    let bytes : c.deref.result.now ≡ c.args.group.records.items = search rules in
+    let is_group = group_as g.J.Naming.opening g.K.Keeper.idle c.args.group.log c.args.group.log (arc_value c.args.group.standing.snapshot) (arc_value c.args.group.standing.snapshot)
+    c.args.group.standing.counts.items c.args.group.standing.counts.items c.args.group.records.items c.deref.result.now refl refl refl bytes c.requires.group in
+    let group = c.args.group in
+    let events : List Event = kept_of g.J.Naming.before (accepted c.args.log.now) in
+    let waiting = is_group.waiting in
+    held_by g.K.Keeper.holds g.J.Naming.before c.keep.new.keeper (list_of group.log)
+    (subst (λ (es : List Event). g.K.Keeper.holds c.keep.new.keeper es)
+    (sym (group_kept g.J.Naming.opening g.K.Keeper.idle group.log (arc_value group.standing.snapshot) group.standing.counts.items c.deref.result.now
+    is_group (accepted c.args.log.now) c.requires.follows g.J.Naming.before (list_of group.log) refl))
+    (c.in-Ok.ensures.ok events (events_in waiting.more) c.requires.held waiting.spelled))
+
+pub returns-in-Some-clause-begins : goal.returns-in-Some-clause-begins
+returns-in-Some-clause-begins g c =
+    let group = c.args.group in (
+      c.requires.group.waiting.more,
+      sym (group_parts g.J.Naming.opening g.K.Keeper.idle group.log (arc_value group.standing.snapshot) group.standing.counts.items group.records.items
+          c.requires.group (accepted c.args.log.now) c.requires.follows) ∙ sym c.in-Some.ensures.list,
+    )
 
 pub returns-in-Some-clause-held : goal.returns-in-Some-clause-held
 returns-in-Some-clause-held g c =
@@ -47,7 +85,20 @@ returns-in-Some-clause-in_flight g c more is opened =
     (group_spelled g.J.Naming.opening g.K.Keeper.idle group.log (arc_value group.standing.snapshot) group.standing.counts.items c.deref.result.now
     is_group (accepted c.args.log.now) c.requires.follows more is) opened
 
+pub returns-in-Some-clause-finds : goal.returns-in-Some-clause-finds
+returns-in-Some-clause-finds g c more is opens opened keeps left had =
+    let k = g.K.Keeper in
+    let group = c.args.group in
+    let s = arc_value group.standing.snapshot in
+    finds_some k.stands k.makes k.first g.met.K.Keeper.finds (kept_of g.J.Naming.before (accepted c.args.log.now)) (events_in more) (world_of s)
+    (group_accepted k.idle k.first g.J.Naming.before g.J.Naming.opening group.log s group.standing.counts.items group.records.items
+    c.requires.group (accepted c.args.log.now) c.requires.follows more is opens keeps)
+    left ((returns-in-Some-clause-in_flight g c more is opened).each left had)
+
 -- and not published
+
+pub returns-in-None-clause-begins : goal.returns-in-None-clause-begins
+returns-in-None-clause-begins g c = prefix_self (accepted c.args.log.now)
 
 pub returns-in-None-clause-held : goal.returns-in-None-clause-held
 returns-in-None-clause-held g c =
@@ -68,10 +119,10 @@ returns-in-None-clause-any_moment g c =
     let events : List Event = kept_of g.J.Naming.before (accepted c.args.log.now) in
     let waiting = is_group.waiting in
     let last = c.in-Ok.ensures.last events (events_in waiting.more) c.requires.held waiting.spelled in
-    joined k.moment k.first k.found_since c.args.keeper.now c.keep.new.keeper c.close.new.self (IsOfAllAndMore k.first events)
+    joined k.moment k.left_since k.stands c.args.keeper.now c.keep.new.keeper c.close.new.self (AreAllAndMore events)
     (c.keep.ensures.any_moment events (events_in waiting.more) c.requires.held waiting.spelled)
-    (wider k.moment k.found_since c.keep.new.keeper c.close.new.self (IsOfAllAndSome k.first events last.0) (IsOfAllAndMore k.first events)
-    (λ w some. some_is_more k.first events last.0 w some)
+    (wider k.moment k.left_since k.stands c.keep.new.keeper c.close.new.self (AreAllAndSome events last.0) (AreAllAndMore events)
+    (λ found some. some_is_more events last.0 found some)
     (c.close.ensures.any_moment events last.0 last.2))
 
 pub returns-in-None-clause-in_flight : goal.returns-in-None-clause-in_flight
@@ -85,8 +136,18 @@ returns-in-None-clause-in_flight g c more is opened =
     let spelled = group_spelled g.J.Naming.opening k.idle group.log (arc_value group.standing.snapshot) group.standing.counts.items c.deref.result.now
     is_group (accepted c.args.log.now) c.requires.follows more is in
     let last = c.in-Ok.ensures.last events (events_in more) c.requires.held spelled in
-    joined k.moment k.first k.found_since c.args.keeper.now c.keep.new.keeper c.close.new.self (IsOfAllAndSome k.first events (events_in more))
+    joined k.moment k.left_since k.stands c.args.keeper.now c.keep.new.keeper c.close.new.self (AreAllAndSome events (events_in more))
     (c.keep.ensures.in_flight events (events_in more) c.requires.held spelled opened)
-    (wider k.moment k.found_since c.keep.new.keeper c.close.new.self (IsOfAllAndSome k.first events last.0) (IsOfAllAndSome k.first events (events_in more))
-    (λ w some. at_most k.first events (events_in more) last.0 w last.1 some)
+    (wider k.moment k.left_since k.stands c.keep.new.keeper c.close.new.self (AreAllAndSome events last.0) (AreAllAndSome events (events_in more))
+    (λ found some. at_most events (events_in more) last.0 found last.1 some)
     (c.close.ensures.any_moment events last.0 last.2))
+
+pub returns-in-None-clause-finds : goal.returns-in-None-clause-finds
+returns-in-None-clause-finds g c more is opens opened keeps left had =
+    let k = g.K.Keeper in
+    let group = c.args.group in
+    let s = arc_value group.standing.snapshot in
+    finds_some k.stands k.makes k.first g.met.K.Keeper.finds (kept_of g.J.Naming.before (accepted c.args.log.now)) (events_in more) (world_of s)
+    (group_accepted k.idle k.first g.J.Naming.before g.J.Naming.opening group.log s group.standing.counts.items group.records.items
+    c.requires.group (accepted c.args.log.now) c.requires.follows more is opens keeps)
+    left ((returns-in-None-clause-in_flight g c more is opened).each left had)

@@ -15,6 +15,7 @@ invariant_of-self-2 g c =
       none_behind t.waits _ c.if-self.false,
       c.self.invariant.2,
       c.self.invariant.3 ∙ sym (ap accepted c.add_void.ensures ∙ accepted_void t.log),
+      c.self.invariant.4,
     )
 
 pub returns : goal.returns

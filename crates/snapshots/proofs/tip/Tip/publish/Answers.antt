@@ -1,7 +1,9 @@
 use Rattle.std.proofs.Common.{◌≡◌, ◌∙◌, ap, true, not, rules}
 use Rattle.std.specs.Arc.{arc_value}
+use Rattle.snapshots.specs.Marks.{accepted, list_of}
 use Rattle.snapshots.specs.Views.{Ledger}
-use Rattle.snapshots.proofs.Tips.{behind_kept, behind_while, done_behind, done_current, done_stands, stands_tried}
+use Rattle.snapshots.proofs.Held.{held_as}
+use Rattle.snapshots.proofs.Tips.{accepted_done, behind_kept, behind_while, done_behind, done_current, done_stands, listed, stands_tried}
 use Rattle.snapshots.proofs.tip.Tip.publish.Goals as goal
 
 pub invariant_of-self-2 : goal.invariant_of-self-2
@@ -22,6 +24,11 @@ invariant_of-self-2 g c =
           c.add_done.new.self c.add_done.ensures (arc_value t.base.snapshot) t.base.counts.items t.records.items behind),
       c.self.invariant.2,
       search rules,
+      held_as g.K.Keeper.holds g.J.Naming.before (list_of group.log) _
+          (ap accepted c.share.ensures
+          ∙ accepted_done g.J.Naming.book opening idle group.log t.log s m group.records.items c.requires.group c.if-not-lists.ensures.lists
+          c.add_done.new.self c.add_done.ensures)
+          c.requires.held,
     )
 
 pub returns-clause-tried : goal.returns-clause-tried
@@ -32,3 +39,12 @@ returns-clause-tried g c =
     done_current g.J.Naming.book g.J.Naming.opening g.K.Keeper.idle group.log t.log (arc_value group.standing.snapshot) group.standing.counts.items group.records.items
     c.requires.group c.if-not-lists.ensures.lists c.add_done.new.self c.add_done.ensures c.is_settled.result t.waits c.is_settled.ensures.settled is
     ∙ ap (λ (l : Ledger). l.entries) c.self.view_is
+
+pub add_done-requires-clause-held : goal.add_done-requires-clause-held
+add_done-requires-clause-held g c =
+    let t = c.self.inside in
+    let group = c.args.group in
+    held_as g.K.Keeper.holds g.J.Naming.before (list_of group.log) (list_of t.log)
+    (listed g.J.Naming.book g.J.Naming.opening g.K.Keeper.idle group.log t.log (arc_value group.standing.snapshot) group.standing.counts.items group.records.items
+    c.requires.group c.if-not-lists.ensures.lists)
+    c.requires.held

@@ -23,6 +23,7 @@ invariant_of-self g c =
           t.records.items c.replace-records.new.dest.items c.add_seal.ensures behind none),
       c.self.invariant.2,
       c.self.invariant.3 ∙ sym (ap accepted c.add_seal.ensures ∙ accepted_seal t.log),
+      c.self.invariant.4,
     )
 
 pub returns-clause-group : goal.returns-clause-group

@@ -37,6 +37,7 @@ invariant_of-self-2 g c =
           (λ events so_far. c.in-Ok-push_record.ensures.ok events entry.event so_far c.requires),
       c.self.invariant.2,
       c.self.invariant.3 ∙ sym (ap accepted c.add_try.ensures ∙ accepted_try t.log entry),
+      c.self.invariant.4,
     )
 
 pub returns-clause-list : goal.returns-clause-list
