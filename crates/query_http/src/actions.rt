@@ -15,6 +15,7 @@ ghost use Rattle.query_http.specs.Reply.{text_of};
 ghost use Rattle.answers.specs.Body.{body_text};
 ghost use Rattle.answers.specs.Kept.{whole_of};
 ghost use Rattle.answers.specs.MergedRows.{rows_of};
+ghost use Rattle.snapshots.specs.Keeping.{PublishesHeld};
 ghost use Rattle.query_http.specs.Serving.{worker, IsIdle, IsReplyOfRefusal, conflict_body};
 ghost use Rattle.query_http.specs.Serving.{IsQueryReply, IsEventReply, IsRequestReply};
 ghost use Rattle.query_http.specs.Serving.{refused_at as place_refused};
@@ -169,6 +170,7 @@ fn write<J: Naming, C: Wait + Drop, K: Keeper + Drop>(
     ensures reply { IfOk result (λ r. IsEventReply J.opening K.idle
         (batch (batch_of_rows rows.items))
         (worker pass.old seat.old) (worker pass.new seat.new) r.status (text_of r)) }
+    ensures held { PublishesHeld K.holds J.before seat.old seat.new }
     ensures kept { OnErr result ((pass.new ≡ pass.old) × (seat.new ≡ seat.old)) }
 {
     let done = change_reply(alloc)?;
@@ -194,6 +196,7 @@ fn delete<J: Naming, C: Wait + Drop, K: Keeper + Drop>(
     ensures reply { IfOk result (λ r. IsEventReply J.opening K.idle
         (deletion asked.0.items asked.1 asked.2)
         (worker pass.old seat.old) (worker pass.new seat.new) r.status (text_of r)) }
+    ensures held { PublishesHeld K.holds J.before seat.old seat.new }
     ensures kept { OnErr result ((pass.new ≡ pass.old) × (seat.new ≡ seat.old)) }
 {
     let (matchers, from, to) = asked;
@@ -219,6 +222,7 @@ fn cut_at<J: Naming, C: Wait + Drop, K: Keeper + Drop>(
     requires { IsTrue (is_time at) }
     ensures reply { IfOk result (λ r. IsEventReply J.opening K.idle (cut at)
         (worker pass.old seat.old) (worker pass.new seat.new) r.status (text_of r)) }
+    ensures held { PublishesHeld K.holds J.before seat.old seat.new }
     ensures kept { OnErr result ((pass.new ≡ pass.old) × (seat.new ≡ seat.old)) }
 {
     let done = change_reply(alloc)?;
@@ -245,6 +249,7 @@ pub(crate) fn act<J: Naming, C: Wait + Drop, K: Keeper + Drop>(
     requires { IsFit request }
     ensures reply { IfOk result (λ r. IsRequestReply J.opening K.idle request
         (worker pass.old seat.old) (worker pass.new seat.new) r.status (text_of r)) }
+    ensures held { PublishesHeld K.holds J.before seat.old seat.new }
     ensures idle { OnErr result (IsIdle (worker pass.old seat.old) (worker pass.new seat.new)) }
 {
     match request {

@@ -6,6 +6,7 @@ ghost use Rattle.requests.specs.Admitting.{MeansUnder, IsBarred};
 ghost use Rattle.requests.specs.Fitting.{IsFit};
 ghost use Rattle.requests.specs.Reading.{Means};
 ghost use Rattle.requests.specs.declared.status.Status.{Status};
+ghost use Rattle.snapshots.specs.Keeping.{PublishesHeld};
 ghost use Rattle.query_http.specs.Bounds.{IsBounded};
 ghost use Rattle.query_http.specs.Reply.{text_of};
 ghost use Rattle.query_http.specs.Serving.{worker, IsIdle, IsReplyOfRefusal, IsSilent, Serves};
@@ -63,6 +64,7 @@ fn do_asked<J: Naming, C: Wait + Drop, K: Keeper + Drop>(
     requires { IsFit request }
     ensures reply { IfOk result (λ r. IsRequestReply J.opening K.idle request
         (worker pass.old seat.old) (worker pass.new seat.new) r.status (text_of r)) }
+    ensures held { PublishesHeld K.holds J.before seat.old seat.new }
     ensures memory { IfErr result (λ s. s ≡ Served.NoMemory) }
     ensures idle { OnErr result (IsIdle (worker pass.old seat.old) (worker pass.new seat.new)) }
 {
@@ -86,6 +88,7 @@ fn reply_to<J: Naming, C: Wait + Drop, K: Keeper + Drop, R: Inlet>(
     ensures reply { IfOk result (λ r. IsReply (MeansUnder rules.now) J.opening K.idle
         (R.input reader.old)
         (worker pass.old seat.old) (worker pass.new seat.new) r.status (text_of r)) }
+    ensures held { PublishesHeld K.holds J.before seat.old seat.new }
     ensures silent { IfErr result IsSilent }
     ensures idle { OnErr result (IsIdle (worker pass.old seat.old) (worker pass.new seat.new)) }
     ensures closed { IsErrOf result Served.Closed
@@ -135,6 +138,7 @@ fn serve_next<J: Naming, C: Wait + Drop, K: Keeper + Drop, R: Inlet, W: Outlet>(
     ensures serves { Serves (MeansUnder rules.now) J.opening K.idle (R.input reader.old)
         (worker pass.old seat.old) (worker pass.new seat.new)
         (W.output writer.old) (W.output writer.new) result }
+    ensures held { PublishesHeld K.holds J.before seat.old seat.new }
     ensures silent { IsSilent result → writer.new ≡ writer.old }
     ensures reads { result ≡ Served.ReadFault
         → HasGrown (R.failed_reads reader.old) (R.failed_reads reader.new) }
@@ -187,6 +191,7 @@ pub fn serve_one_with<J: Naming, C: Wait + Drop, K: Keeper + Drop, R: Inlet, W: 
     ensures serves { Serves (MeansUnder rules.now) J.opening K.idle (R.input reader.old)
         (worker pass.old seat.old) (worker pass.new seat.new)
         (W.output writer.old) (W.output writer.new) result }
+    ensures held { PublishesHeld K.holds J.before seat.old seat.new }
     ensures silent { IsSilent result → writer.new ≡ writer.old }
     ensures reads { result ≡ Served.ReadFault
         → HasGrown (R.failed_reads reader.old) (R.failed_reads reader.new) }
@@ -218,6 +223,7 @@ pub fn serve_one<J: Naming, C: Wait + Drop, K: Keeper + Drop, R: Inlet, W: Outle
     ensures serves { Serves Means J.opening K.idle (R.input reader.old)
         (worker pass.old seat.old) (worker pass.new seat.new)
         (W.output writer.old) (W.output writer.new) result }
+    ensures held { PublishesHeld K.holds J.before seat.old seat.new }
     ensures silent { IsSilent result → writer.new ≡ writer.old }
     ensures reads { result ≡ Served.ReadFault
         → HasGrown (R.failed_reads reader.old) (R.failed_reads reader.new) }

@@ -2,6 +2,7 @@ use Rattle.std.proofs.Common.{ap}
 use Rattle.head.specs.BatchRows.{batch_of_rows}
 use Rattle.head.specs.Worlds.{batch}
 use Rattle.query_http.specs.Serving.{worker}
+use Rattle.snapshots.proofs.Held.{seat_held}
 use Rattle.query_http.proofs.Replying.{event_refused}
 use Rattle.query_http.proofs.actions.write.Goals as goal
 
@@ -14,3 +15,8 @@ returns-in-Err-clause-reply g c =
     c.in-Err.ensures.journal
     c.event_refusal_reply.ensures.no_memory c.event_refusal_reply.ensures.unkept
     c.event_refusal_reply.ensures.number c.event_refusal_reply.ensures.spelled
+
+pub returns-in-Ok-clause-held : goal.returns-in-Ok-clause-held
+returns-in-Ok-clause-held g c =
+    seat_held g.K.Keeper.holds g.J.Naming.before c.args.seat.now _ c.in-Ok.receipt
+    c.in-Ok.ensures.counted c.in-Ok.ensures.held
