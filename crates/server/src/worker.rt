@@ -1,6 +1,7 @@
 //! One worker: it serves one connection after another.
 
 ghost use Rattle.std.specs.Prelude.{◌≡◌, ◌<◌, ◌≤◌};
+ghost use Rattle.snapshots.specs.Keeping.{PublishesHeld};
 ghost use Rattle.query_http.specs.Serving.{worker};
 ghost use Rattle.server.specs.Sessions.{IsOver};
 ghost use Rattle.server.specs.Working.{Works, IsFarther};
@@ -57,6 +58,8 @@ pub fn work<'a, J: Naming, C: Wait + Drop, K: Keeper + Drop, A: Connections>(
         (A.past connections.old) (A.past connections.new) result.served }
     ensures farther { IsFarther (worker pass.old seat.old) (worker pass.new seat.new)
         result.served }
+    // What it got a reply of success for is held by a keeper.
+    ensures held { PublishesHeld K.holds J.before seat.old seat.new }
     ensures few { result.served ≤ most }
     ensures over { result.served < most → IsOver (A.coming connections.new) }
     ensures ruled { result.rules.now ≡ rules.now }

@@ -1,4 +1,5 @@
-use Rattle.std.proofs.Common.{List, [], ◌∷◌, Option, ℕ, sym, subst}
+use Rattle.std.proofs.Common.{List, [], ◌∷◌, Option, ℕ, inl, refl, sym, subst}
+use Rattle.snapshots.proofs.Held.{publishes_more}
 use Rattle.query_http.specs.Serving.{worker}
 use Rattle.server.specs.Sessions.{Session, Ending, IsServed, Arrives, AreAdded}
 use Rattle.server.proofs.Farther.{none_farther, farther_more, served_farther}
@@ -12,6 +13,7 @@ loop-done-init g c =
           (g.A.Connections.coming c.args.connections.now)
           (g.A.Connections.past c.args.connections.now),
       none_farther before,
+      inl refl,
     )
 
 pub loop-done-preserved : goal.loop-done-preserved
@@ -49,4 +51,6 @@ loop-done-preserved g c =
           c.loop-done.done s c.loop-done.invariant.0 one arrives added,
       farther_more before between after c.loop-done.done c.loop-done.invariant.1
           (served_farther c.args.rules.now g.J.Naming.opening g.K.Keeper.idle between after s one),
+      publishes_more g.K.Keeper.holds g.J.Naming.before c.args.seat.now c.loop-done.seat c.serve_one_with-served.new.seat
+          c.loop-done.invariant.2 c.serve_one_with-served.ensures.held,
     )

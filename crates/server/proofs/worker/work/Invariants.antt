@@ -1,3 +1,4 @@
+use Rattle.snapshots.specs.Keeping.{PublishesHeld}
 use Rattle.query_http.specs.Serving.{worker}
 use Rattle.server.specs.Working.{Works, IsFarther}
 use Rattle.server.proofs.worker.work.Given as goal
@@ -8,3 +9,4 @@ invariant-loop-done g l =
     (g.A.Connections.coming l.initial.connections) (g.A.Connections.coming l.connections)
     (g.A.Connections.past l.initial.connections) (g.A.Connections.past l.connections) l.done
     × IsFarther (worker l.initial.pass l.initial.seat) (worker l.pass l.seat) l.done
+    × PublishesHeld g.K.Keeper.holds g.J.Naming.before l.initial.seat l.seat
