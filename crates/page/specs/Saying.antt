@@ -33,11 +33,18 @@ claim_words NotShown = codes "This reply does not show that no series is missing
 abbrev pub later_name : PartName → List ℕ
 later_name name = codes ", " ++ subject_text (Part name)
 
+-- what begins the sentence of parts that nobody judged
+unfoldable pub first_name : PartName → List ℕ
+first_name name = codes "Nobody judged: " ++ subject_text (Part name)
+
+-- some parts that nobody judged, in a sentence
+unfoldable pub unjudged_names : PartName → List PartName → List ℕ
+unjudged_names name names = first_name name ++ flat_map later_name names ++ codes "."
+
 -- the parts that nobody judged; if there are none, what else is wanting for a stronger claim
 unfoldable pub unjudged_words : List PartName → List ℕ
 unjudged_words [] = codes "The reply does not name the head and each block once."
-unjudged_words (name ∷ names) =
-    codes "Nobody judged: " ++ subject_text (Part name) ++ flat_map later_name names ++ codes "."
+unjudged_words (name ∷ names) = unjudged_names name names
 
 -- what stands before the mark of a claim
 unfoldable pub mark_front : List ℕ

@@ -5,8 +5,8 @@ ghost use Rattle.std.specs.List.{flat_map};
 ghost use Rattle.auditor.specs.Judgements.{subject_text};
 ghost use Rattle.auditor.specs.declared.judgement.Subject.TheVariants.{Part};
 ghost use Rattle.page.specs.Saying.{claim_text, claim_front, claim_mark, claim_words, claim_note};
-ghost use Rattle.page.specs.Saying.{later_name, unjudged_words, mark_front, claim_box, plain_note};
-ghost use Rattle.page.specs.Saying.{plain_claim};
+ghost use Rattle.page.specs.Saying.{first_name, later_name, unjudged_names, unjudged_words};
+ghost use Rattle.page.specs.Saying.{mark_front, claim_box, plain_note, plain_claim};
 
 use auditor::Subject;
 use page_claims::Completeness;
@@ -88,6 +88,30 @@ fn append_later_names(
     Ok(())
 }
 
+/// Appends what begins the sentence of parts that nobody judged.
+#[tactic(auto, unfolding(crate::specs::Saying::first_name))]
+fn append_first_name(alloc: Global, out: &mut Vec<u8>, name: PartName) -> Result<(), AllocError>
+    ensures { OnOk result (out.new.items ≡ out.old.items ++ first_name name) }
+{
+    out.extend_from_slice(b"Nobody judged: ")?;
+    append_name(alloc, out, name)
+}
+
+/// Appends which parts, of which there are some, nobody judged.
+#[tactic(auto, unfolding(crate::specs::Saying::unjudged_names))]
+fn append_names(
+    alloc: Global,
+    out: &mut Vec<u8>,
+    name: PartName,
+    names: &[PartName],
+) -> Result<(), AllocError>
+    ensures { OnOk result (out.new.items ≡ out.old.items ++ unjudged_names name names.now) }
+{
+    append_first_name(alloc, out, name)?;
+    append_later_names(alloc, out, names)?;
+    out.extend_from_slice(b".")
+}
+
 /// Appends which parts nobody judged.
 #[tactic(auto, unfolding(crate::specs::Saying::unjudged_words))]
 fn append_unjudged(
@@ -97,13 +121,10 @@ fn append_unjudged(
 ) -> Result<(), AllocError>
     ensures { OnOk result (out.new.items ≡ out.old.items ++ unjudged_words unjudged.now) }
 {
-    let Some((name, names)) = unjudged.split_first() else {
-        return out.extend_from_slice(b"The reply does not name the head and each block once.");
-    };
-    out.extend_from_slice(b"Nobody judged: ")?;
-    append_name(alloc, out, *name)?;
-    append_later_names(alloc, out, names)?;
-    out.extend_from_slice(b".")
+    match unjudged.split_first() {
+        None => out.extend_from_slice(b"The reply does not name the head and each block once."),
+        Some((name, names)) => append_names(alloc, out, *name, names),
+    }
 }
 
 /// Appends a paragraph that says what nobody judged, if that belongs to the claim.
