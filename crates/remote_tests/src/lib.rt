@@ -6,7 +6,7 @@
 #![tactic(auto)]
 
 #[cfg(test)]
-mod doubles;
+mod kept_doubles;
 #[cfg(test)]
 mod numbers;
 #[cfg(test)]

@@ -1,4 +1,4 @@
-//! Calls that are refused memory, made again. `tests/allocations` runs these tests with each of
+//! Calls that are refused memory, made again. `tests/allocations.sh` runs these tests with each of
 //! their allocations refused in turn.
 
 use crate::answered::{FOUND, SOUND, answer, query, rows_at};

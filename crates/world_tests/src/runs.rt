@@ -116,7 +116,7 @@ fn is_run_again(alloc: Global) -> bool {
     }
 }
 
-/// `tests/allocations` runs this test with each of its allocations refused in turn.
+/// `tests/allocations.sh` runs this test with each of its allocations refused in turn.
 #[test]
 fn a_program_refused_memory_says_so(rt: HostRuntime) {
     assert!(rt; is_run_again(rt.alloc()));

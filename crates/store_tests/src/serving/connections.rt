@@ -210,7 +210,7 @@ fn is_held<R: Wait + Threads + Sync>(rt: &R, alloc: Global) -> Option<bool> {
     }
 }
 
-/// `tests/allocations` runs this test with each of its allocations refused in turn.
+/// `tests/allocations.sh` runs this test with each of its allocations refused in turn.
 #[test]
 fn a_connection_refused_memory_is_served_when_made_again(rt: HostRuntime) {
     assert!(rt; is_held(&rt, rt.alloc()) == Some(true));

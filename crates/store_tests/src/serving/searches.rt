@@ -237,7 +237,7 @@ fn text_again<R: Threads + Sync>(rt: &R, alloc: Global) -> Option<Vec<u8>> {
     }
 }
 
-/// `tests/allocations` runs this test with each of its allocations refused in turn: those of two
+/// `tests/allocations.sh` runs this test with each of its allocations refused in turn: those of two
 /// blocks, of the search by workers, of the merge and of the text.
 #[test]
 fn an_answer_refused_memory_is_the_same_when_asked_for_again(rt: HostRuntime) {

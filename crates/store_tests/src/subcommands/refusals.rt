@@ -84,7 +84,7 @@ fn tell(alloc: Global, empty: &Snapshot, one: &Snapshot, two: &Snapshot) -> bool
         && tells(alloc, two, 0, 100, DEMO.trim_end())
 }
 
-/// `tests/allocations` runs this test with each of its allocations refused in turn.
+/// `tests/allocations.sh` runs this test with each of its allocations refused in turn.
 #[test]
 fn a_call_refused_memory_changes_nothing_and_answers_when_made_again(rt: HostRuntime) {
     assert!(rt; matches!(answers_again(rt.alloc()), Some(true)));
@@ -154,13 +154,13 @@ fn is_run_again<
     }
 }
 
-/// `tests/allocations` runs this test with each of its allocations refused in turn.
+/// `tests/allocations.sh` runs this test with each of its allocations refused in turn.
 #[test]
 fn a_program_refused_memory_says_so(rt: HostRuntime) {
     assert!(rt; is_run_again(&rt, rt.alloc(), &["demo"], DEMO));
 }
 
-/// `tests/allocations` runs this test with each of its allocations refused in turn: those of two
+/// `tests/allocations.sh` runs this test with each of its allocations refused in turn: those of two
 /// workers, of the merge and of the text.
 #[test]
 fn a_selection_refused_memory_says_so(rt: HostRuntime) {
