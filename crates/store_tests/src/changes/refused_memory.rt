@@ -1,6 +1,6 @@
 //! Commits, deletions and cuts that are refused memory. What was asked comes back, the store shows
-//! what it showed, and the same call is then answered as if nothing had been. `tests/allocations.sh`
-//! runs this with each of its allocations refused in turn.
+//! what it showed, and the same call is then answered as if nothing had been.
+//! `tests/allocations.sh` runs this with each of its allocations refused in turn.
 
 ghost use Rattle.std.specs.Prelude.{◌≡◌, []};
 ghost use Rattle.head.specs.Blocks.{opening_of};
