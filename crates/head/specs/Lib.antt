@@ -30,3 +30,7 @@ pub mod Codes
 pub mod Outcomes
 pub mod Taking
 pub mod OwnSteps
+pub mod Sifting
+pub mod Laws
+pub mod Telling
+pub mod Wording
