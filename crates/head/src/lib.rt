@@ -43,17 +43,22 @@
 //! series.
 #![tactic(auto)]
 
+mod adding;
 mod cut;
 mod deletion;
 mod draft;
 mod error;
 mod event;
+mod growing;
 mod head;
 mod index;
+mod joining;
+mod judge;
 mod left;
 mod list;
 mod listed;
 mod live;
+mod looking;
 mod order;
 mod reference_list;
 mod references;
