@@ -1,10 +1,10 @@
 -- A sift on its way.
-use Rattle.std.specs.Prelude.{Result, Ok, Err, ◌||◌, ◌≡◌, ◌<◌, ◌≤◌, ℕ, suc, ℤ, ◌+◌, Bool, true, false, T, List, [], ◌∷◌, ◌++◌, Option, None, Some, IfNone, IfSome, refl, length, slice_index_or}
+use Rattle.std.specs.Prelude.{Result, Ok, Err, ◌||◌, ◌≡◌, ◌<◌, ◌≤◌, ℕ, suc, ℤ, ◌+◌, Bool, true, false, T, List, [], ◌∷◌, ◌++◌, Option, None, Some, IfNone, IfSome, IsTrue, ◌≢◌, ◌*◌, refl, map, nat_le, length, slice_index_or}
 use Rattle.std.specs.List.{list_all}
-use Rattle.std.proofs.Common.{sym, ◌∙◌, ap, subst, arith, append_assoc, append-nil, drop}
+use Rattle.std.proofs.Common.{inl, inr, sym, ◌∙◌, ap, subst, arith, append_assoc, append-nil, drop}
 use Rattle.std.proofs.Math.Seq.{drop-cons}
 use Rattle.std.proofs.Math.ListN.{drop_of_length-le}
-use Rattle.std.proofs.lemmas.Bool.{leb-false}
+use Rattle.std.proofs.lemmas.Bool.{leb-false, leb-true, le-leb}
 use Rattle.std.proofs.lemmas.List.{map-append}
 use Rattle.head.specs.declared.judge.Met.{Met}
 use Rattle.head.specs.declared.judge.Met.TheVariants.{Joins, Held, Refused}
@@ -13,18 +13,20 @@ use Rattle.head.specs.declared.left.Reason.TheVariants.{OutOfBounds, OutOfOrder,
 use Rattle.head.specs.declared.left.Left.{Left}
 use Rattle.labels.specs.Labels.{Labels}
 use Rattle.labels.specs.Rows.{Row}
-use Rattle.labels.proofs.Times.{first_T}
+use Rattle.labels.specs.Contents.{is_time}
+use Rattle.labels.proofs.Times.{both_T, first_T, second_T, T_of}
 use Rattle.head.specs.Limits.{max_series}
 use Rattle.head.specs.Worlds.{World, Batch, is_repeated}
 use Rattle.head.specs.Refusals.{Refusal}
 use Rattle.std.specs.Ordering.{int_cmp}
 use Rattle.std.specs.FinMap.Entries.{find}
 use Rattle.head.specs.Sifting.{has_value, Fate, joins, held, left_out, fate, Sifted, sifted}
-use Rattle.head.specs.Laws.{reason_of, reasons}
+use Rattle.head.specs.Laws.{IsPartOf, reason_of, reasons}
 use Rattle.head.specs.Taking.{head_added, head_added_each, extended, place_from}
 use Rattle.head.specs.BatchRows.{pairs_with, batch_of_rows}
 use Rattle.head.specs.Heads.{HeadSeries, SnapshotParts, IsSoundSnapshot, series_at, world_of}
-use Rattle.head.specs.Slots.{Slot, series_in_each, AddsNoOwnBut}
+use Rattle.head.specs.Batches.{is_batch, has_set, set_count}
+use Rattle.head.specs.Slots.{Slot, Shared, series_in_each, owned, AllOwn, AddsNoOwnBut}
 use Rattle.head.specs.Known.{known_of, samples_or}
 use Rattle.head.specs.Meeting.{IsMet, met, told, is_there, judged_at, has_no_room, standing, newest_standing, samples_standing, snapshot_has, snapshot_value}
 use Rattle.head.specs.Telling.{counted, told_of, first_or, with_last, total}
@@ -32,8 +34,9 @@ use Rattle.head.specs.OnWay.{IsOnWay, IsSiftedTo, with_slots}
 use Rattle.head.proofs.Steps.{Item}
 use Rattle.head.proofs.Sifts.{first_by, alike}
 use Rattle.head.proofs.RowSteps.{split_all}
-use Rattle.head.proofs.SlotLaws.{length-each}
-use Rattle.head.proofs.Meets.{met_is, joined_is, judged_step, step_joins, told_joins, not_held, standing_is}
+use Rattle.head.proofs.SlotLaws.{length-each, series_shared, AllOwn-shared, owned-shared}
+use Rattle.head.proofs.Counting.{owned_within, has_each, copied_within}
+use Rattle.head.proofs.Meets.{met_is, joined_is, judged_step, step_joins, told_joins, not_held, standing_is, has_room}
 use Rattle.head.proofs.Places.{stands_at}
 
 pub joins_of : (f : Fate) → IsMet Joins f → (v : World) × (f ≡ joins v)
@@ -199,20 +202,20 @@ sifted_left s all slots x rest kept left reason sound is h =
     })
 
 -- the samples of a row that are left
-pub row_next : (s : SnapshotParts) (all : Batch) (old new : List Slot) (l k : Labels) (ss items : List (ℤ × ℤ)) (i : ℕ) (d : ℤ × ℤ) (rest kept : Batch) (mine more : List (ℤ × ℤ)) (left next : Left)
-    → k ≡ l → items ≡ ss → i < length items
-    → (IsSiftedTo s all old ((k, slice_index_or items i d) ∷ (pairs_with l (drop (i + 1) ss) ++ rest)) (kept ++ pairs_with k mine) left
+pub row_next : (s : SnapshotParts) (all : Batch) (old new : List Slot) (l k : Labels) (ss items : List (ℤ × ℤ)) (i : ℕ) (x : ℤ × ℤ) (rest kept : Batch) (mine more : List (ℤ × ℤ)) (left next : Left)
+    → k ≡ l → items ≡ ss → i < length items → x ≡ slice_index_or items i x
+    → (IsSiftedTo s all old ((k, x) ∷ (pairs_with l (drop (i + 1) ss) ++ rest)) (kept ++ pairs_with k mine) left
     → IsSiftedTo s all new (pairs_with l (drop (i + 1) ss) ++ rest) (kept ++ pairs_with k more) next)
     → IsSiftedTo s all old (pairs_with l (drop i ss) ++ rest) (kept ++ pairs_with l mine) left
     → IsSiftedTo s all new (pairs_with l (drop (i + 1) ss) ++ rest) (kept ++ pairs_with l more) next
-row_next s all old new l k ss items i d rest kept mine more left next is same h step way =
-    let there : IsSiftedTo s all old ((l, slice_index_or items i d) ∷ (pairs_with l (drop (i + 1) ss) ++ rest)) (kept ++ pairs_with l mine) left =
+row_next s all old new l k ss items i x rest kept mine more left next is same h item step way =
+    let there : IsSiftedTo s all old ((l, x) ∷ (pairs_with l (drop (i + 1) ss) ++ rest)) (kept ++ pairs_with l mine) left =
     subst (λ (b : Batch). IsSiftedTo s all old b (kept ++ pairs_with l mine) left)
-    (ap (λ (b : Batch). b ++ rest) (pairs_next l ss i d (subst (λ (zs : List (ℤ × ℤ)). i < length zs) same h))
-    ∙ ap (λ (zs : List (ℤ × ℤ)). (l, slice_index_or zs i d) ∷ (pairs_with l (drop (i + 1) ss) ++ rest)) (sym same))
+    (ap (λ (b : Batch). b ++ rest) (pairs_next l ss i x (subst (λ (zs : List (ℤ × ℤ)). i < length zs) same h))
+    ∙ ap (λ (y : ℤ × ℤ). (l, y) ∷ (pairs_with l (drop (i + 1) ss) ++ rest)) (ap (λ (zs : List (ℤ × ℤ)). slice_index_or zs i x) (sym same) ∙ sym item))
     way in
     subst (λ (m : Labels). IsSiftedTo s all new (pairs_with l (drop (i + 1) ss) ++ rest) (kept ++ pairs_with m more) next) is
-    (step (subst (λ (m : Labels). IsSiftedTo s all old ((m, slice_index_or items i d) ∷ (pairs_with l (drop (i + 1) ss) ++ rest)) (kept ++ pairs_with m mine) left) (sym is) there))
+    (step (subst (λ (m : Labels). IsSiftedTo s all old ((m, x) ∷ (pairs_with l (drop (i + 1) ss) ++ rest)) (kept ++ pairs_with m mine) left) (sym is) there))
 
 pub row_done : (s : SnapshotParts) (all : Batch) (slots : List Slot) (l : Labels) (ss : List (ℤ × ℤ)) (i : ℕ) (rest kept : Batch) (left : Left) → length ss ≤ i
     → IsSiftedTo s all slots (pairs_with l (drop i ss) ++ rest) kept left → IsSiftedTo s all slots rest kept left
@@ -250,3 +253,76 @@ there_value s x place d value e is v = ap (has_value x.1.1) v ∙ ap (λ b. b ||
 -- what is met, by what is judged
 pub met_by : (s : SnapshotParts) (x : Item) (place : Option ℕ) (d : HeadSeries) (m : Met) → place ≡ place_from x.0 0 s.head → m ≡ judged_at s.floor s.head (standing s.head place d) x.1 → told (is_there s x) m ≡ met s x
 met_by s x place d m e is = ap (told (is_there s x)) (is ∙ ap (λ o. judged_at s.floor s.head o x.1) (sym (standing_is x.0 s.head place d e)))
+
+-- a sample that joins has room
+pub room_joins : (s : SnapshotParts) (slots : List Slot) (x : Item) (place : Option ℕ) (d : HeadSeries) → place ≡ place_from x.0 0 (series_in_each slots) → met (with_slots s slots) x ≡ Joins → IfNone place (length slots < max_series)
+room_joins s slots x place d e is =
+    let head : List HeadSeries = series_in_each slots in
+    room_for slots place d (ap (has_no_room head) (sym (standing_is x.0 head place d e)) ∙ has_room s.floor head (series_at x.0 head) x.1 (judged_joins (with_slots s slots) x is))
+
+-- nothing joined of a row yet
+pub no_pairs : (kept : Batch) (l : Labels) (mine : List (ℤ × ℤ)) → mine ≡ [] → kept ≡ kept ++ pairs_with l mine
+no_pairs kept l mine e = sym (ap (λ (ss : List (ℤ × ℤ)). kept ++ pairs_with l ss) e ∙ append-nil kept)
+
+pub some_pairs : (kept : Batch) (l : Labels) (mine : List (ℤ × ℤ)) → mine ≢ [] → kept ++ pairs_with l mine ≡ [] → ⊥
+some_pairs kept l [] some e = some refl
+some_pairs [] l (s ∷ ss) some e = absurd cc
+some_pairs (x ∷ xs) l (s ∷ ss) some e = absurd cc
+
+-- the beginning of a sift
+fresh_head : (s : SnapshotParts) (slots : List Slot) → slots ≡ map (λ h. Shared h) s.head → series_in_each slots ≡ s.head
+fresh_head s slots e = ap (λ (ss : List Slot). series_in_each ss) e ∙ series_shared s.head
+
+pub fresh : (s : SnapshotParts) (slots : List Slot) → slots ≡ map (λ h. Shared h) s.head → with_slots s slots ≡ s
+fresh s slots e = ap (λ (hs : List HeadSeries). record s { head = hs }) (fresh_head s slots e)
+
+pub begun : (s : SnapshotParts) (all : Batch) (slots : List Slot) (left : Left) → slots ≡ map (λ h. Shared h) s.head → left ≡ told_of [] → IsSiftedTo s all slots all [] left
+begun s all slots left e none = record {
+  way = subst (λ (v : SnapshotParts). IsOnWay (world_of s) all (world_of v) all [] left) (sym (fresh s slots e))
+      (record { world = refl; kept_first = refl; out = []; told = none; reasons_first = refl });
+  step = ap Ok (sym (fresh_head s slots e));
+  owners = λ p each. subst (λ (ss : List Slot). AllOwn p ss) (sym e) (AllOwn-shared p s.head);
+}
+
+-- the end of a sift
+pub kept_all : (s : SnapshotParts) (all : Batch) (slots : List Slot) (kept : Batch) (left : Left) → IsSiftedTo s all slots [] kept left → kept ≡ (sifted (world_of s) all).kept
+kept_all s all slots kept left h = sym (append-nil kept) ∙ h.way.kept_first
+
+pub left_all : (s : SnapshotParts) (all : Batch) (slots : List Slot) (kept : Batch) (left : Left) → IsSiftedTo s all slots [] kept left → left ≡ told_of (reasons (sifted (world_of s) all).left)
+left_all s all slots kept left h = h.way.told ∙ ap told_of (sym (append-nil h.way.out) ∙ h.way.reasons_first)
+
+pub copied_few : (s : SnapshotParts) (all : Batch) (first slots : List Slot) (kept : Batch) (left : Left) (copied result : ℕ) → IsSoundSnapshot (with_slots s slots) → first ≡ map (λ h. Shared h) s.head
+    → IsSiftedTo s all slots [] kept left → copied + 119 * owned first ≤ 119 * owned slots → result ≡ copied → result ≤ 119 * set_count kept
+copied_few s all first slots kept left copied result sound e h counted same =
+    copied_within copied (owned first) (owned slots) (set_count kept) result counted (ap (λ (ss : List Slot). owned ss) e ∙ owned-shared s.head)
+    (owned_within s.floor slots kept sound.head (h.owners (has_set kept) (has_each kept))) same
+
+-- a part of a batch is a batch
+part_few : (ks xs : Batch) → IsPartOf ks xs → length ks ≤ length xs
+part_few [] xs h = omega arith
+part_few (k ∷ ks) [] h = absurd h
+part_few (k ∷ ks) (x ∷ xs) (inl h) = let f = part_few ks xs h.1 in omega (arith, f)
+part_few (k ∷ ks) (x ∷ xs) (inr h) = let f = part_few (k ∷ ks) xs h in omega (arith, f)
+
+part_each : (p : Item → Bool) (ks xs : Batch) → IsPartOf ks xs → T (list_all p xs) → T (list_all p ks)
+part_each p [] xs h all = tt
+part_each p (k ∷ ks) [] h all = absurd h
+part_each p (k ∷ ks) (x ∷ xs) (inl h) all = both_T _ _ (subst (λ (z : Item). T (p z)) (sym h.0) (first_T (p x) _ all)) (part_each p ks xs h.1 (second_T (p x) (list_all p xs) all))
+part_each p (k ∷ ks) (x ∷ xs) (inr h) all = part_each p (k ∷ ks) xs h (second_T (p x) (list_all p xs) all)
+
+true_of : (b : Bool) → T b → b ≡ true
+true_of true h = refl
+true_of false h = absurd h
+
+pub part_batch : (ks xs : Batch) → IsPartOf ks xs → IsTrue (is_batch xs) → IsTrue (is_batch ks)
+part_batch ks xs h b =
+    let all : T (is_batch xs) = T_of (is_batch xs) b in
+    let timed : Item → Bool = λ x. is_time x.1.0 in
+    let few = leb-true (length xs) 4096 (true_of (nat_le (length xs) 4096) (first_T (nat_le (length xs) 4096) (list_all timed xs) all)) in
+    let less = part_few ks xs h in
+    true_of (is_batch ks) (both_T (nat_le (length ks) 4096) (list_all timed ks)
+    (T_of (nat_le (length ks) 4096) (le-leb (length ks) 4096 (omega (arith, few, less))))
+    (part_each timed ks xs h (second_T (nat_le (length xs) 4096) (list_all timed xs) all)))
+
+pub batch_few : (xs : Batch) → IsTrue (is_batch xs) → length xs ≤ 4096
+batch_few xs b = leb-true (length xs) 4096 (true_of (nat_le (length xs) 4096) (first_T (nat_le (length xs) 4096) (list_all (λ x. is_time x.1.0) xs) (T_of (is_batch xs) b)))

@@ -4,13 +4,13 @@ use Rattle.std.specs.Ordering.{int_cmp}
 use Rattle.std.specs.FinMap.Entries.{find}
 use Rattle.std.proofs.Common.{sym, ◌∙◌, ap}
 use Rattle.labels.specs.Labels.{point_cmp}
-use Rattle.head.specs.Worlds.{World, Batch, added, committed, is_earlier, is_level, is_full}
+use Rattle.head.specs.Worlds.{World, Batch, Event, added, committed, replayed, replayed_from, stepped, is_earlier, is_level, is_full}
 use Rattle.head.specs.Refusals.{Refusal}
 use Rattle.labels.proofs.ContentLaws.{or_else}
 use Rattle.head.specs.Sifting.{held, has, has_value, is_newest, fate_by, fate, world_after, noted, sifted_from, sifted}
-use Rattle.head.specs.Wording.{by_step, fate_in_words, sifted_in_words, replayed, events_of}
+use Rattle.head.specs.Wording.{by_step, fate_in_words, sifted_in_words, events_of}
 use Rattle.head.specs.Heads.{HeadSeries, SnapshotParts, world_of, series_at, IsSoundSnapshot, IsSoundSeries}
-use Rattle.head.specs.Meeting.{snapshot_has}
+use Rattle.head.specs.Meeting.{snapshot_has, value_below}
 use Rattle.head.specs.Known.{samples_or, known_of}
 use Rattle.head.specs.Taking.{extended}
 use Rattle.labels.proofs.Times.{true_not_false, missing, later}
@@ -35,7 +35,7 @@ pub nothing_later : (s : SnapshotParts) (x : Item) → IsSoundSnapshot s → int
 nothing_later s x sound above e l =
     let o = series_at x.0 s.head in
     let b = earlier_by x.1 (known_of (series_at x.0 s.head)) in
-    ap (λ k. has_value x.1.1 (or_else k (find point_cmp (x.0, x.1.0) s.below))) (later_than s.floor x.1.0 o (sound_at s.floor x.0 s.head sound.head) (sym b.0 ∙ e) (sym b.1 ∙ l))
+    ap (λ k. has_value x.1.1 (or_else k (value_below s (x.0, x.1.0)))) (later_than s.floor x.1.0 o (sound_at s.floor x.0 s.head sound.head) (sym b.0 ∙ e) (sym b.1 ∙ l))
     ∙ ap (has_value x.1.1) (sound.blocks.none x.0 x.1.0 above)
 
 closed_by : (a b c d : Bool) (P : Type 0) → (a ≡ false → b ≡ false → c ≡ false → P) → (P → ⊥) → (a || (b || (c || d))) ≡ true
@@ -86,17 +86,17 @@ pub none_kept : (w v : World) (kept : Batch) → committed w kept ≡ Ok v → k
 none_kept w v [] p e = cc
 none_kept w v (x ∷ xs) p e = cc
 
-replayed-++ : (r : Result World Refusal) (es fs : List Batch) (v : World) → replayed r es ≡ Ok v → replayed r (es ++ fs) ≡ replayed (Ok v) fs
-replayed-++ r [] fs v is = ap (λ (s : Result World Refusal). replayed s fs) is
+replayed-++ : (r : Result World Refusal) (es fs : List Event) (v : World) → replayed_from r es ≡ Ok v → replayed_from r (es ++ fs) ≡ replayed_from (Ok v) fs
+replayed-++ r [] fs v is = ap (λ (s : Result World Refusal). replayed_from s fs) is
 replayed-++ (Err x) (f ∷ es) fs v is = absurd (cc is)
-replayed-++ (Ok w) (f ∷ es) fs v is = replayed-++ (committed w f) es fs v is
+replayed-++ (Ok w) (f ∷ es) fs v is = replayed-++ (stepped w f) es fs v is
 
-one_event : (w v : World) (kept : Batch) → committed w kept ≡ Ok v → replayed (Ok w) (events_of kept) ≡ Ok v
+one_event : (w v : World) (kept : Batch) → committed w kept ≡ Ok v → replayed_from (Ok w) (events_of kept) ≡ Ok v
 one_event w v [] p = p
 one_event w v (x ∷ xs) p = p
 
 -- A replay finds the sifted world, by one event more or by none.
-pub replays : (w v : World) (events : List Batch) (xs : Batch) → replayed (Ok w) events ≡ Ok v → replayed (Ok w) (events ++ events_of (sifted v xs).kept) ≡ Ok (sifted v xs).world
+pub replays : (w v : World) (events : List Event) (xs : Batch) → replayed w events ≡ Ok v → replayed w (events ++ events_of (sifted v xs).kept) ≡ Ok (sifted v xs).world
 replays w v events xs e =
     replayed-++ (Ok w) events (events_of (sifted v xs).kept) v e
     ∙ one_event v (sifted v xs).world (sifted v xs).kept (accepted v 0 0 xs)

@@ -1,7 +1,9 @@
 -- A sift on its way.
-use Rattle.std.specs.Prelude.{◌≡◌, ◌++◌, Bool, T, List, Ok}
+use Rattle.std.specs.Prelude.{◌≡◌, ◌++◌, Bool, T, List, [], Ok}
 use Rattle.std.specs.List.{list_all}
 use Rattle.labels.specs.Labels.{Labels}
+use Rattle.labels.specs.Rows.{Row}
+use Rattle.head.specs.BatchRows.{batch_of_rows}
 use Rattle.head.specs.declared.left.Left.{Left}
 use Rattle.head.specs.declared.left.Reason.{Reason}
 use Rattle.head.specs.Worlds.{World, Batch}
@@ -25,6 +27,10 @@ pub record IsOnWay (first : World) (all : Batch) (w : World) (rest kept : Batch)
 -- the snapshot with the series of a version in the making for its head
 abbrev pub with_slots : SnapshotParts → List Slot → SnapshotParts
 with_slots s slots = record s { head = series_in_each slots }
+
+-- rows that have no sample together are no rows
+abbrev pub HaveSamples : List Row → Type 0
+HaveSamples rows = batch_of_rows rows ≡ [] → rows ≡ []
 
 -- a batch has come to this version in the making
 pub record IsReached (s : SnapshotParts) (slots : List Slot) : Type 0 where

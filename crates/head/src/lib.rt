@@ -54,6 +54,7 @@ mod head;
 mod index;
 mod joining;
 mod judge;
+mod laws;
 mod left;
 mod list;
 mod listed;
@@ -77,6 +78,11 @@ pub use cut::MAX_BLOCKS;
 pub use error::{AppendError, CommitError, RefusedEvent, ResumeError};
 pub use event::{Event, EventView, MAX_BATCH};
 pub use head::HeadView;
+pub use laws::{
+    a_sift_is_one_event_or_none, again_changes_nothing, an_accepted_batch_is_kept,
+    each_sample_is_told, parts_are_as_the_whole, what_is_held_may_come_first,
+    what_is_kept_is_accepted, what_is_kept_is_held_later, what_is_kept_stands,
+};
 pub use left::{Left, Reason};
 pub use list::HeadList;
 pub use live::LiveList;

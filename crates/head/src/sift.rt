@@ -17,7 +17,7 @@ ghost use Rattle.head.specs.Laws.{reasons};
 ghost use Rattle.head.specs.Telling.{told_of, total};
 ghost use Rattle.head.specs.Meeting.{met, is_there, newest_standing, samples_standing};
 ghost use Rattle.head.specs.Meeting.{snapshot_value};
-ghost use Rattle.head.specs.OnWay.{with_slots, IsSiftedTo};
+ghost use Rattle.head.specs.OnWay.{with_slots, HaveSamples, IsSiftedTo};
 
 use crate::draft::Draft;
 use crate::joining::{Near, join, place_of};
@@ -151,7 +151,8 @@ fn meet(
         Met::Joins => Ok(Met::Joins),
         Met::Held => Ok(Met::Held),
         Met::Refused(reason) => {
-            if is_there(alloc, at, draft, place, labels, sample)? {
+            let there = is_there(alloc, at, draft, place, labels, sample)?;
+            if there {
                 return Ok(Met::Held);
             }
             Ok(Met::Refused(reason))
@@ -165,8 +166,9 @@ fn push_row(
     labels: &LabelSet,
     samples: Vec<Sample>,
 ) -> Result<(), AllocError>
-    ensures { OnOk result (batch_of_rows kept.new.items
+    ensures rows { OnOk result (batch_of_rows kept.new.items
         ≡ batch_of_rows kept.old.items ++ pairs_with labels.now samples.items) }
+    ensures some { OnOk result (HaveSamples kept.old.items → HaveSamples kept.new.items) }
 {
     if samples.is_empty() {
         return Ok(());
@@ -205,7 +207,8 @@ impl Sifter {
             → IsSiftedTo at.now all self.new.draft rest
             (kept ++ pairs_with labels.now mine.new.items) self.new.left) }
     {
-        match meet(alloc, at, &self.draft, *place, labels, sample)? {
+        let met = meet(alloc, at, &self.draft, *place, labels, sample)?;
+        match met {
             Met::Joins => {
                 let made = join(alloc, &mut self.draft, &mut self.order, *place, labels, sample)?;
                 mine.push(sample)?;
@@ -270,6 +273,7 @@ impl Sifter {
         ensures ordered { OnOk result (IsOrderOf self.new.order (series_in_each self.new.draft)) }
         ensures counted { IfOk result (λ made.
             made.1 + 119 * owned self.old.draft ≤ 119 * owned self.new.draft) }
+        ensures some { IfOk result (λ made. HaveSamples made.0.items) }
         ensures sifted { IfOk result (λ made. (all : Batch)
             → IsSiftedTo at.now all self.old.draft (batch_of_rows rows.now) [] self.old.left
             → IsSiftedTo at.now all self.new.draft [] (batch_of_rows made.0.items) self.new.left) }

@@ -167,7 +167,8 @@ fn snapshot_with(alloc: Global, at: &Snapshot, batch: Samples<'_>) -> Result<Sna
     let mut order = at.head.order().try_clone()?;
     let mut draft = Draft::new(alloc, last);
     let copied = add_each(alloc, &mut draft, &mut order, at.floor, batch)?;
-    Ok(snapshot_of(alloc, at, draft, order, copied)?)
+    let snapshot = snapshot_of(alloc, at, draft, order, copied)?;
+    Ok(snapshot)
 }
 
 /// The snapshot after an event. It shares with the one before what the event leaves alone: a batch
