@@ -1,5 +1,5 @@
 -- What a part has under a label set, and the blocks at a point.
-use Rattle.std.specs.Prelude.{◌≡◌, ◌≢◌, ◌⊎◌, ℕ, zero, suc, ℤ, ◌+◌, ◌<◌, Bool, true, false, cond, not, ◌&&◌, ◌||◌, MatchBool, List, [], ◌∷◌, ◌++◌, Option, None, Some, refl, map, length, is_some, int_lt, int_le, nat_eq, slice_get, slice_index_or}
+use Rattle.std.specs.Prelude.{◌≡◌, ◌≢◌, ◌⊎◌, ℕ, zero, suc, ℤ, ◌+◌, ◌<◌, Bool, true, false, cond, not, ◌&&◌, ◌||◌, MatchBool, List, [], ◌∷◌, ◌++◌, Option, None, Some, refl, map, length, is_some, int_lt, nat_eq, slice_get, slice_index_or}
 use Rattle.std.specs.List.{Contains, AllByRecursion, filter}
 use Rattle.std.specs.declared.cmp.Ordering.TheVariants.{Less, Equal, Greater}
 use Rattle.std.specs.Ordering.{int_cmp, eq_by_cmp, is_eq}
@@ -11,7 +11,7 @@ use Rattle.std.proofs.lemmas.Bool.{or_right}
 use Rattle.std.proofs.lemmas.List.{take_more}
 use Rattle.std.specs.List.Sorted.{IsStrictlyIncreasing}
 use Rattle.std.proofs.lemmas.Bool.{ne_eqb}
-use Rattle.labels.specs.Labels.{Labels, pair_cmp, labels_cmp, point_cmp, same_labels}
+use Rattle.labels.specs.Labels.{Labels, pair_cmp, point_cmp, same_labels}
 use Rattle.labels.specs.LabelSets.{IsLabelSet}
 use Rattle.labels.specs.Contents.{in_range}
 use Rattle.labels.specs.Rows.{Row, points_in, points_of}

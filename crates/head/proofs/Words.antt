@@ -3,7 +3,6 @@ use Rattle.std.specs.Prelude.{◌≡◌, ℕ, ℤ, ◌+◌, Bool, true, false, c
 use Rattle.std.specs.Ordering.{int_cmp}
 use Rattle.std.specs.FinMap.Entries.{find}
 use Rattle.std.proofs.Common.{sym, ◌∙◌, ap}
-use Rattle.labels.specs.Labels.{point_cmp}
 use Rattle.head.specs.Worlds.{World, Batch, Event, added, committed, replayed, replayed_from, stepped, is_earlier, is_level, is_full}
 use Rattle.head.specs.Refusals.{Refusal}
 use Rattle.labels.proofs.ContentLaws.{or_else}

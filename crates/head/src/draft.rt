@@ -117,7 +117,12 @@ impl Draft {
 
     /// Adds a sample to the series at a place, to a copy where it is shared. Gives how many samples
     /// were copied.
-    pub(crate) fn grow(&mut self, alloc: Global, place: usize, sample: Sample) -> Result<u64, AllocError>
+    pub(crate) fn grow(
+        &mut self,
+        alloc: Global,
+        place: usize,
+        sample: Sample,
+    ) -> Result<u64, AllocError>
         requires { place < length self.old }
         ensures grown { IfOk result (λ _. (d : HeadSeries) → self.new ≡ slice_set self.old place
             (Own (grown sample (series_at_place self.old place d)))) }
@@ -247,4 +252,3 @@ pub(crate) enum Samples<'a> {
     Pairs(&'a [(LabelSet, Sample)]),
     Rows(&'a [Row]),
 }
-

@@ -56,7 +56,12 @@ impl Near {
 /// The place of the series with a label set. It looks first at the series that was begun after the
 /// last one found, and at that one: batches mostly have series as they were begun, and samples of
 /// one series in a row.
-pub(crate) fn place_of(draft: &Draft, order: &Order, labels: &LabelSet, near: &mut Near) -> Option<usize>
+pub(crate) fn place_of(
+    draft: &Draft,
+    order: &Order,
+    labels: &LabelSet,
+    near: &mut Near,
+) -> Option<usize>
     requires { IsOrderOf order.now (series_in_each draft.now) }
     ensures place { result ≡ place_from labels.now 0 (series_in_each draft.now) }
     ensures found { IfSome result (λ place. near.new.place ≡ place) }

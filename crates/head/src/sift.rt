@@ -161,11 +161,7 @@ fn meet(
 }
 
 /// Adds a row, if it has samples.
-fn push_row(
-    kept: &mut Vec<Row>,
-    labels: &LabelSet,
-    samples: Vec<Sample>,
-) -> Result<(), AllocError>
+fn push_row(kept: &mut Vec<Row>, labels: &LabelSet, samples: Vec<Sample>) -> Result<(), AllocError>
     ensures rows { OnOk result (batch_of_rows kept.new.items
         ≡ batch_of_rows kept.old.items ++ pairs_with labels.now samples.items) }
     ensures some { OnOk result (HaveSamples kept.old.items → HaveSamples kept.new.items) }
@@ -210,7 +206,14 @@ impl Sifter {
         let met = meet(alloc, at, &self.draft, *place, labels, sample)?;
         match met {
             Met::Joins => {
-                let made = join(alloc, &mut self.draft, &mut self.order, *place, labels, sample)?;
+                let made = join(
+                    alloc,
+                    &mut self.draft,
+                    &mut self.order,
+                    *place,
+                    labels,
+                    sample,
+                )?;
                 mine.push(sample)?;
                 *place = Some(made.0);
                 Ok(made.1)
@@ -319,7 +322,12 @@ pub fn apply_sifted(alloc: Global, at: &Snapshot, rows: &RowBatch) -> Result<Sie
         left: Left::none(),
     };
     let (kept, copied) = sifter.sift_rows(alloc, at, rows.rows())?;
-    let Sifter { draft, order, left, .. } = sifter;
+    let Sifter {
+        draft,
+        order,
+        left,
+        ..
+    } = sifter;
     if kept.is_empty() {
         return Ok(Sieve { next: None, left });
     }

@@ -1,11 +1,10 @@
 use Rattle.std.specs.Prelude.{◌≡◌, pos, List, [], Ok}
 use Rattle.std.proofs.Common.{rules, sym, ◌∙◌, ap, subst, to_z, of_z, w64}
-use Rattle.head.specs.declared.judge.Met.{Met}
 use Rattle.head.specs.declared.judge.Met.TheVariants.{Joins, Held, Refused}
-use Rattle.head.specs.Heads.{HeadSeries, series_at}
+use Rattle.head.specs.Heads.{HeadSeries}
 use Rattle.head.specs.Meeting.{judged_at, standing}
 use Rattle.head.specs.Outcomes.{IsStepRefusal}
-use Rattle.head.specs.Slots.{Slot, series_in_each}
+use Rattle.head.specs.Slots.{series_in_each}
 use Rattle.head.specs.Taking.{head_added, extended}
 use Rattle.head.proofs.Meets.{judged_step, step_joins, step_held, step_refused, standing_is, has_room}
 use Rattle.head.proofs.Ways.{place_within, room_for, held_place}

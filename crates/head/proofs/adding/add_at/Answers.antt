@@ -2,7 +2,6 @@ use Rattle.std.specs.Prelude.{◌≡◌, pos, T, List, [], Ok, Some, slice_index
 use Rattle.std.proofs.Common.{rules, sym, ◌∙◌, ap, subst, refl, to_z, of_z, w64}
 use Rattle.std.proofs.lemmas.List.{map-set}
 use Rattle.labels.specs.Labels.{Labels}
-use Rattle.head.specs.declared.judge.Met.{Met}
 use Rattle.head.specs.declared.judge.Met.TheVariants.{Joins, Held, Refused}
 use Rattle.head.specs.Heads.{HeadSeries}
 use Rattle.head.specs.Meeting.{judged_at}

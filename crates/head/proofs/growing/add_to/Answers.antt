@@ -1,6 +1,5 @@
 use Rattle.std.specs.Prelude.{◌≡◌, Ok, Some, nat_le, length, slice_set}
 use Rattle.std.proofs.Common.{rules, sym, ◌∙◌, ap, subst}
-use Rattle.head.specs.declared.judge.Met.{Met}
 use Rattle.head.specs.declared.judge.Met.TheVariants.{Joins, Held, Refused}
 use Rattle.head.specs.Heads.{HeadSeries}
 use Rattle.head.specs.Limits.{max_samples}

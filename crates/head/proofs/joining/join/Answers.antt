@@ -1,4 +1,4 @@
-use Rattle.std.specs.Prelude.{◌≡◌, ◌++◌, ◌∷◌, [], pos, Some, None, List, length, slice_index_or, T}
+use Rattle.std.specs.Prelude.{◌≡◌, ◌++◌, ◌∷◌, [], pos, Some, None, List, slice_index_or, T}
 use Rattle.std.proofs.Common.{sym, ◌∙◌, ap, subst, arith, refl}
 use Rattle.std.proofs.lemmas.List.{map-append, map-set}
 use Rattle.labels.specs.Labels.{Labels}

@@ -1,4 +1,4 @@
-use Rattle.std.specs.Prelude.{◌≡◌, [], refl}
+use Rattle.std.specs.Prelude.{[], refl}
 use Rattle.std.proofs.Common.{◌∙◌}
 use Rattle.matchers.specs.Satisfies.{satisfies_all}
 use Rattle.head.proofs.Selecting.{satisfies_none}

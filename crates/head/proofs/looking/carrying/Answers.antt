@@ -1,4 +1,3 @@
-use Rattle.std.specs.Prelude.{◌≡◌, []}
 use Rattle.std.proofs.Common.{sym, ◌∙◌}
 use Rattle.labels.specs.Parts.{carries}
 use Rattle.head.proofs.LookUps.{carried}

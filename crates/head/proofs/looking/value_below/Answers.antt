@@ -2,7 +2,7 @@ use Rattle.std.specs.Prelude.{◌≡◌, ◌<◌, ◌+◌, ◌-◌, ℤ, List, t
 use Rattle.std.proofs.Common.{sym, ◌∙◌, ap, rules, arith, take, to_z, of_z, w64}
 use Rattle.labels.proofs.ContentLaws.{or_else}
 use Rattle.block.specs.Blocks.{Shown}
-use Rattle.head.specs.Looking.{blocks_value, part_value}
+use Rattle.head.specs.Looking.{blocks_value}
 use Rattle.head.proofs.LookUps.{last_value, some_first, none_first}
 use Rattle.head.proofs.looking.value_below.Goals as goal
 

@@ -6,7 +6,7 @@ use Rattle.head.specs.Batches.{set_count}
 use Rattle.head.specs.BatchRows.{batch_of_rows}
 use Rattle.head.specs.Heads.{HeadSeries, SnapshotParts, IsSoundSnapshot, world_of}
 use Rattle.head.specs.Laws.{IsPartOf}
-use Rattle.head.specs.OnWay.{IsSiftedTo, with_slots}
+use Rattle.head.specs.OnWay.{IsSiftedTo}
 use Rattle.head.specs.Orders.{IsOrderOf}
 use Rattle.head.specs.Slots.{Slot, Shared, series_in_each}
 use Rattle.head.specs.Snapshots.{parts_in}

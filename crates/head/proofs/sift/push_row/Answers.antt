@@ -1,4 +1,4 @@
-use Rattle.std.specs.Prelude.{◌≡◌, ◌≢◌, ◌++◌, ◌∷◌, [], length}
+use Rattle.std.specs.Prelude.{◌≡◌, ◌≢◌, ◌++◌, ◌∷◌, []}
 use Rattle.std.proofs.Common.{ap, ◌∙◌, sym, rules}
 use Rattle.labels.specs.Rows.{Row}
 use Rattle.head.specs.BatchRows.{batch_of_rows, pairs_with}

@@ -1,4 +1,4 @@
-use Rattle.std.specs.Prelude.{◌≡◌, ℤ, List, [], Option, None, Some, map, pos}
+use Rattle.std.specs.Prelude.{◌≡◌, List, [], None, Some, map, pos}
 use Rattle.std.specs.Ordering.{int_cmp}
 use Rattle.std.specs.FinMap.Entries.{find}
 use Rattle.std.proofs.Common.{sym, ◌∙◌, ap, rules, to_z, of_z, w64}

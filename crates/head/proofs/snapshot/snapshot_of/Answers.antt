@@ -1,22 +1,15 @@
-use Rattle.std.specs.Prelude.{◌≡◌, ◌≤◌, ℕ, Ok, List, map, length}
+use Rattle.std.specs.Prelude.{◌≡◌, ◌≤◌, List, map, length}
 use Rattle.std.proofs.Common.{subst, sym, ◌∙◌, ap, rules, to_z, of_z, w64}
-use Rattle.labels.specs.Labels.{Labels}
 use Rattle.labels.specs.Parts.{IsPart}
 use Rattle.head.specs.Orders.{sets_of, Extends, IsOrderOf}
 use Rattle.head.proofs.Indexing.{batch_extends}
 use Rattle.head.specs.OnWay.{IsReached, with_slots}
 use Rattle.head.specs.Limits.{max_series}
-use Rattle.head.specs.Slots.{Slot, series_in_each, owned, AllOwn}
+use Rattle.head.specs.Slots.{series_in_each}
 use Rattle.head.specs.Snapshots.{parts_in}
 use Rattle.head.specs.Blocks.{part_in}
 use Rattle.head.specs.Heads.{HeadSeries, SnapshotParts, IsSoundSnapshot, head_part, world_of}
-use Rattle.head.specs.Taking.{head_added_each}
-use Rattle.head.specs.Worlds.{committed}
-use Rattle.head.specs.Batches.{has_set, set_count}
-use Rattle.head.specs.BatchRows.{batch_in}
-use Rattle.head.proofs.Counting.{owned_within, has_each, copied_within}
-use Rattle.head.proofs.SlotLaws.{owned-shared, AllOwn-shared, series_shared}
-use Rattle.head.proofs.Applies.{accepted, refused}
+use Rattle.head.proofs.Applies.{accepted}
 use Rattle.head.proofs.PartLaws.{IsPart-head_part, few_after_batch}
 use Rattle.head.proofs.Applies.{same_world}
 use Rattle.head.proofs.snapshot.snapshot_of.Goals as goal

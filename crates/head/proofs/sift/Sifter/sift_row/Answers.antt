@@ -1,5 +1,5 @@
 use Rattle.std.specs.Prelude.{◌≡◌, ◌++◌, ◌+◌, length}
-use Rattle.std.proofs.Common.{ap, drop, arith, rules}
+use Rattle.std.proofs.Common.{ap, drop, arith}
 use Rattle.head.specs.BatchRows.{pairs_with}
 use Rattle.head.proofs.Ways.{row_next, row_done}
 use Rattle.head.proofs.sift.Sifter.sift_row.Goals as goal

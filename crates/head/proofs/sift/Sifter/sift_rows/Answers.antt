@@ -1,4 +1,4 @@
-use Rattle.std.specs.Prelude.{◌≡◌, ◌++◌, ◌+◌, ◌*◌, List, [], length}
+use Rattle.std.specs.Prelude.{◌≡◌, ◌++◌, ◌+◌, List}
 use Rattle.std.proofs.Common.{ap, ◌∙◌, sym, subst, drop, arith}
 use Rattle.std.proofs.Math.ListN.{drop_of_length-le}
 use Rattle.labels.specs.Rows.{Row}

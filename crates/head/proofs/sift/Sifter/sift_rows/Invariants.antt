@@ -1,4 +1,4 @@
-use Rattle.std.specs.Prelude.{◌≡◌, ◌≤◌, ◌+◌, ◌*◌, [], length}
+use Rattle.std.specs.Prelude.{◌≤◌, ◌+◌, ◌*◌, [], length}
 use Rattle.std.proofs.Common.{drop}
 use Rattle.head.specs.Worlds.{Batch}
 use Rattle.head.specs.BatchRows.{batch_of_rows}

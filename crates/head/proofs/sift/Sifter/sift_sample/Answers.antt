@@ -1,13 +1,10 @@
 use Rattle.std.specs.Prelude.{◌≡◌, ◌++◌, ◌∷◌, [], ℤ, List, pos}
 use Rattle.std.proofs.Common.{ap, ◌∙◌, sym, subst, arith}
-use Rattle.head.specs.declared.judge.Met.TheVariants.{Joins, Held, Refused}
 use Rattle.head.specs.declared.left.Left.{Left}
 use Rattle.head.specs.Worlds.{Batch}
 use Rattle.head.specs.BatchRows.{pairs_with}
-use Rattle.head.specs.Heads.{HeadSeries, SnapshotParts}
-use Rattle.head.specs.Meeting.{met}
-use Rattle.head.specs.OnWay.{IsSiftedTo, with_slots}
-use Rattle.head.specs.Slots.{Slot}
+use Rattle.head.specs.Heads.{HeadSeries}
+use Rattle.head.specs.OnWay.{IsSiftedTo}
 use Rattle.head.specs.Telling.{total}
 use Rattle.head.proofs.Ways.{sound_joins, sifted_joins, sifted_held, sifted_left, pairs-snoc, room_joins, total-with_last}
 use Rattle.head.proofs.sift.Sifter.sift_sample.Goals as goal
