@@ -26,8 +26,8 @@ refusal_at at OutOfOrder = error.OutOfOrder at
 refusal_at at Duplicate = error.Duplicate at
 refusal_at at Limit = error.Limit
 
--- what the step says of a sample of a label set with this newest one, where there may be no room for
--- one more
+-- what the step says of a sample of a label set with this newest one, where there may be no room
+-- for one more
 abbrev pub judged : ℤ → Option (ℤ × ℤ) → Bool → ℤ × ℤ → Met
 judged floor newest full s =
     if int_lt s.0 floor then Refused OutOfBounds

@@ -1,6 +1,7 @@
 //! The laws of the sifted commit.
 
-ghost use Rattle.std.specs.Prelude.{◌≡◌, ◌+◌, ◌++◌, ℕ, ℤ, int_lt, Ok, false, true, List, [], length};
+ghost use Rattle.std.specs.Prelude.{◌≡◌, ◌+◌, ◌++◌, ℕ, ℤ, int_lt, Ok, false, true, List, []};
+ghost use Rattle.std.specs.Prelude.{length};
 ghost use Rattle.std.specs.List.{AllByRecursion};
 ghost use Rattle.labels.specs.Labels.{Labels};
 ghost use Rattle.head.specs.Worlds.{Batch, Event, World, is_earlier, is_level, committed, replayed};
@@ -88,9 +89,9 @@ pub fn a_sift_is_one_event_or_none()
         → (sifted w xs).world ≡ w }
 {}
 
-/// In every world that a snapshot can have, what the store holds may be asked first: what the content
-/// has can't join. And what is later than the newest of its label set is nowhere, so that a sample
-/// that is refused by a limit need not be looked for.
+/// In every world that a snapshot can have, what the store holds may be asked first: what the
+/// content has can't join. And what is later than the newest of its label set is nowhere, so that a
+/// sample that is refused by a limit need not be looked for.
 pub fn what_is_held_may_come_first()
     ensures words { (s : SnapshotParts) (xs : Batch) → IsSoundSnapshot s
         → sifted_in_words (world_of s) 0 xs ≡ sifted (world_of s) xs }

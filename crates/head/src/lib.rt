@@ -6,8 +6,8 @@
 //! [`apply`] takes a snapshot one [`Event`] further: it is Ok exactly where the step of that event
 //! accepts it on the snapshot's world, and the world of what it gives is the world after; else it
 //! answers the step's refusal ([`CommitError`]). [`apply_rows`] does so for a batch whose samples
-//! stand in rows ([`RowBatch`]). [`apply_sifted`] takes of such a batch what can be taken, and tells
-//! what it leaves out ([`Left`]): no sample is refused for another one's sake. A head
+//! stand in rows ([`RowBatch`]). [`apply_sifted`] takes of such a batch what can be taken, and
+//! tells what it leaves out ([`Left`]): no sample is refused for another one's sake. A head
 //! ([`HeadView`]) is a part: its references are 1 to n in order of creation. A store is opened with
 //! at most 63 blocks, and its floor is then at the greatest end of their ranges, so that no block
 //! has a sample at or above it.

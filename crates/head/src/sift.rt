@@ -293,10 +293,14 @@ impl Sifter {
 }
 
 /// The snapshot after what can be taken of a batch of rows, one sample after another. A sample that
-/// the step takes is kept. One that is the newest of its label set, or that the content has with its
-/// value, is held already, and is neither kept nor left out. Any other is left out, for the reason
-/// of its refusal. What is kept is an ordinary batch, and `next` is what [`crate::apply_rows`] gives
-/// for it. It is refused for memory alone.
+/// the step takes is kept. One that is the newest of its label set, or that the content has with
+/// its value, is held already, and is neither kept nor left out. Any other is left out, for the
+/// reason of its refusal. What is kept is an ordinary batch, and `next` is what
+/// [`crate::apply_rows`] gives for it. It is refused for memory alone.
+///
+/// A sample that joins costs what it costs in a batch. One that is refused is looked for: in its
+/// series, and in the blocks whose range covers its time, from the last to the first, of which it
+/// reads the lists of its pairs and one chunk.
 pub fn apply_sifted(alloc: Global, at: &Snapshot, rows: &RowBatch) -> Result<Sieve, AllocError>
     ensures none { IfOk result (λ s. IfNone s.next
         ((sifted (world_of at.now) (batch_of_rows rows.now)).kept ≡ [])) }
