@@ -7,3 +7,4 @@ mod first_pages;
 mod heads;
 mod refused_memory;
 mod rows;
+mod sifts;
