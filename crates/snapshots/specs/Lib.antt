@@ -11,3 +11,4 @@ pub mod Views
 pub mod Grows
 pub mod Refusals
 pub mod Tries
+pub mod Trials

@@ -1,7 +1,7 @@
 //! Committers, which publish events.
 
 ghost use Rattle.std.specs.Prelude.{◌≡◌, false, true, None, Ok, Some, is_none, IsTrue, IfOk, IfErr};
-ghost use Rattle.std.specs.Prelude.{MatchBool, OnErr};
+ghost use Rattle.std.specs.Prelude.{IfSome, MatchBool, OnErr};
 ghost use Rattle.snapshots.specs.Keeping.{AreHeld};
 ghost use Rattle.snapshots.specs.Marks.{tried_of};
 ghost use Rattle.snapshots.specs.Tips.{IsFailure};
@@ -12,6 +12,7 @@ ghost use Rattle.head.specs.Worlds.{batch, deletion, cut, matchers_of};
 ghost use Rattle.snapshots.specs.Replays.{EndsWith, AreAccepted, IsRefusedAfter, IsOfStore};
 ghost use Rattle.snapshots.specs.Seats.{HasOneMoreEvent};
 ghost use Rattle.snapshots.specs.Sifts.{IsSiftedOnceMet};
+ghost use Rattle.snapshots.specs.Trials.{list_in, published_in};
 
 use crate::appender::Appender;
 use crate::book::Book;
@@ -21,6 +22,7 @@ use crate::naming::Naming;
 use crate::prefix::LogPrefix;
 use crate::receipt::Receipt;
 use crate::seat::Seat;
+use crate::sift::{Screened, Trial};
 use crate::sifted::Sifted;
 use crate::tip::Tip;
 use head::{CommitError, Event, RowBatch};
@@ -113,6 +115,24 @@ impl<J: Naming, R: Wait + Drop, K: Keeper + Drop> Committer<J, R, K> {
             tip = self.go_on(rt, tip);
         }
         unreachable!()
+    }
+
+    /// The receipt of that behind which a sift stands, once it is published.
+    fn receipt_of<'a, W: Wait>(
+        &'a self,
+        rt: &W,
+        tip: MutexGuard<'a, Tip<J, K>>,
+        trial: Trial<J>,
+    ) -> Result<Receipt<J>, CommitError>
+        requires held { IfSome (published_in trial) (λ r. AreHeld K.holds J.before r) }
+        ensures receipt { IfOk result (λ r. r ≡ list_in trial) }
+        ensures held { IfOk result (λ r. AreHeld K.holds J.before r) }
+        ensures refused { IfErr result (λ e. IsFailure K.idle e) }
+    {
+        match trial {
+            Trial::Done(receipt) => Ok(receipt),
+            Trial::Waits(trial) => self.settle(rt, tip, &trial),
+        }
     }
 
     /// Makes the record of the event, tries it, and waits until it is published or given up. One
@@ -235,7 +255,23 @@ impl<J: Naming, R: Wait + Drop, K: Keeper + Drop> Committer<J, R, K> {
         ensures refused { IfErr result (λ e. IsOfStore e.1) }
         ensures journal { IfErr result (λ e. e.1 ≡ CommitError.Journal → K.idle ≡ false) }
     {
-        Err((rows, CommitError::Memory))
+        let mut tip = self.tip.lock(rt);
+        let Screened {
+            trial,
+            left,
+            joined,
+        } = match tip.sift(rt, self.alloc, seat, &rows) {
+            Ok(screened) => screened,
+            Err(error) => return Err((rows, error)),
+        };
+        let receipt = match self.receipt_of(rt, tip, trial) {
+            Ok(receipt) => receipt,
+            Err(error) => return Err((rows, error)),
+        };
+        if joined {
+            seat.add_one(&receipt);
+        }
+        Ok(Sifted::of(receipt, left, joined))
     }
 
     /// Publishes a deletion under the seat's number: the samples from one time to another, both

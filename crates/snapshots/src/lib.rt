@@ -52,12 +52,14 @@ mod prefix;
 mod press;
 mod receipt;
 mod seat;
+mod sift;
 mod sifted;
 mod standing;
 mod store;
 mod tally;
 mod tip;
 mod version;
+mod waiting;
 
 pub use appender::Appender;
 pub use book::Book;
