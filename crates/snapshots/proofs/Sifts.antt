@@ -1,5 +1,5 @@
 -- What a sift at a tip comes to.
-use Rattle.std.proofs.Common.{◌≡◌, ◌≢◌, ℕ, ◌+◌, true, false, List, [], ◌∷◌, ◌++◌, refl, sym, ap, ◌∙◌}
+use Rattle.std.proofs.Common.{◌≡◌, ◌≢◌, ℕ, ◌+◌, Bool, true, false, MatchBool, List, [], ◌∷◌, ◌++◌, refl, sym, ap, ◌∙◌}
 use Rattle.std.proofs.lemmas.List.{append-nil}
 use Rattle.head.specs.Heads.{SnapshotParts, world_of}
 use Rattle.head.specs.Laws.{reasons}
@@ -55,3 +55,12 @@ one_more old new before list (y ∷ ys) met is any next = (
   count_more old.number before list (record { event = batch (y ∷ ys); seat = old.number }) is refl
       ∙ (ap (λ (n : ℕ). n + 1) met.counted ∙ sym (ap (λ (s : SeatView). s.count) next)),
 )
+
+-- by whether a sample joined
+pub if_true : {P Q : Type 0} (b : Bool) → b ≡ true → P → MatchBool b P Q
+if_true true is p = p
+if_true false is p = absurd (cc is)
+
+pub if_false : {P Q : Type 0} (b : Bool) → b ≡ false → Q → MatchBool b P Q
+if_false true is q = absurd (cc is)
+if_false false is q = q

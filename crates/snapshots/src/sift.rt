@@ -80,7 +80,9 @@ impl<J: Naming, K: Keeper> Tip<J, K> {
             });
         };
         let bytes = record_of::<RowBatch, K>(alloc, &kept)?;
-        let snapshot = Arc::new(alloc, snapshot)?;
+        let Ok(snapshot) = Arc::new(alloc, snapshot) else {
+            return Err(CommitError::Memory);
+        };
         let trial = self.place(rt, seat, &kept, &bytes, snapshot)?;
         Ok(Screened {
             trial: Trial::Waits(trial),

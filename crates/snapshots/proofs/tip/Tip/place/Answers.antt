@@ -27,7 +27,7 @@ invariant_of-self-2 g c =
       tried_stands g.J.Naming.opening t.waits t.log c.add_try.new.self entry (arc_value t.ahead.snapshot) (arc_value c.args.snapshot)
           counts c.number-number.result (c.count.result + 1) c.if-is_given_up.ensures c.add_try.ensures c.self.invariant.0 step refl within more,
       tried_behind g.J.Naming.opening g.K.Keeper.idle t.log c.add_try.new.self entry (arc_value c.set_aside.new.base.snapshot) c.set_aside.new.base.counts.items
-          c.set_aside.new.records.items c.push_record.new.records.items c.add_try.ensures c.in-Ok-set_aside.ensures.behind
+          c.set_aside.new.records.items c.push_record.new.records.items c.add_try.ensures c.in-Ok.ensures.behind
           (λ events so_far. c.in-Ok-push_record.ensures.ok events entry.event so_far c.requires.spelled),
       c.self.invariant.2,
       c.self.invariant.3 ∙ sym (ap accepted c.add_try.ensures ∙ accepted_try t.log entry),
