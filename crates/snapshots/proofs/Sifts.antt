@@ -1,6 +1,5 @@
 -- What a sift at a tip comes to.
 use Rattle.std.proofs.Common.{◌≡◌, ◌≢◌, ℕ, ◌+◌, Bool, true, false, MatchBool, List, [], ◌∷◌, ◌++◌, refl, sym, ap, ◌∙◌}
-use Rattle.std.proofs.lemmas.List.{append-nil}
 use Rattle.head.specs.Heads.{SnapshotParts, world_of}
 use Rattle.head.specs.Laws.{reasons}
 use Rattle.head.specs.Sifting.{sifted}
@@ -22,18 +21,9 @@ any_samples : (ys : Batch) → ys ≢ [] → true ≡ has_samples ys
 any_samples [] some = absurd (some refl)
 any_samples (y ∷ ys) some = refl
 
+-- these were kept
 module _ (seat : ℕ) (before list : List Entry) (s : SnapshotParts) (xs : Batch) (left : Left)
     (told : left ≡ told_of (reasons (sifted (world_of s) xs).left)) where
-  -- nothing was kept
-  pub sifted_none : (sifted (world_of s) xs).kept ≡ [] → list ≡ before
-      → IsSiftedAt seat before s xs (record { list = list; left = left; joined = false })
-  sifted_none none same = record {
-    list = same ∙ (sym (append-nil before) ∙ ap (λ (ys : Batch). before ++ entries_of seat ys) (sym none));
-    left = told;
-    joined = ap has_samples (sym none);
-  }
-
-  -- these were kept
   pub sifted_some : (ys : Batch) → ys ≢ [] → ys ≡ (sifted (world_of s) xs).kept
       → list ≡ before ++ record { event = batch ys; seat = seat } ∷ []
       → IsSiftedAt seat before s xs (record { list = list; left = left; joined = true })
@@ -57,10 +47,10 @@ one_more old new before list (y ∷ ys) met is any next = (
 )
 
 -- by whether a sample joined
-pub if_true : {P Q : Type 0} (b : Bool) → b ≡ true → P → MatchBool b P Q
-if_true true is p = p
-if_true false is p = absurd (cc is)
+pub if_true : (P Q : Type 0) (b : Bool) → b ≡ true → P → MatchBool b P Q
+if_true P Q true is p = p
+if_true P Q false is p = absurd (cc is)
 
-pub if_false : {P Q : Type 0} (b : Bool) → b ≡ false → Q → MatchBool b P Q
-if_false true is q = absurd (cc is)
-if_false false is q = q
+pub if_false : (P Q : Type 0) (b : Bool) → b ≡ false → Q → MatchBool b P Q
+if_false P Q true is q = absurd (cc is)
+if_false P Q false is q = q

@@ -13,10 +13,10 @@ returns-clause-one g c =
     let list : c.of.result.list ≡ c.in-Ok-receipt_of.receipt = ap (λ (v : SiftView). v.list) c.of.ensures in
     elim c.if-joined.branch [
       | then-joined w ↦
-          if_true c.of.result.joined (joined ∙ w.if-joined.true)
+          if_true _ _ c.of.result.joined (joined ∙ w.if-joined.true)
           (one_more seat c.if-joined.seat _ c.of.result.list _ c.in-Ok.ensures.met
           (list ∙ (c.in-Ok-receipt_of.ensures.receipt ∙ s.list))
           (sym w.if-joined.true ∙ s.joined)
           (w.seat-is ∙ (w.add_one.ensures ∙ same_seen seat.number (seat.count + 1) _ _ (sym list))))
-      | else-joined w ↦ if_false c.of.result.joined (joined ∙ w.if-joined.false) w.seat-is
+      | else-joined w ↦ if_false _ _ c.of.result.joined (joined ∙ w.if-joined.false) w.seat-is
     ]
