@@ -1,4 +1,4 @@
-use Rattle.std.proofs.Common.{◌≤◌, length, arith, rules}
+use Rattle.std.proofs.Common.{arith}
 use Rattle.snapshots.specs.Marks.{accepted}
 use Rattle.snapshots.proofs.Prefixes.{prefix_self, take_prefix}
 use Rattle.snapshots.proofs.receipt.Receipt.whole.Goals as goal
