@@ -10,6 +10,7 @@ use Rattle.head.specs.Worlds.{Newest, with_newest}
 use Rattle.labels.specs.Rows.{points_in, points_of}
 use Rattle.labels.specs.Parts.{rows_in}
 use Rattle.head.specs.Heads.{HeadSeries, newest_in, numbered, series_at, IsSoundHead}
+use Rattle.head.specs.Known.{samples_or, known_of}
 use Rattle.head.specs.Taking.{grown, extended}
 use Rattle.labels.proofs.OrderLaws.{labels_exact}
 use Rattle.labels.proofs.ContentLaws.{or_else, or_else_none, find-++, find-points_in}
@@ -22,10 +23,6 @@ head_points (h ∷ hs) = points_in h.labels h.samples ++ head_points hs
 pub points_of-numbered : (n : ℕ) (head : List HeadSeries) → points_of (rows_in (numbered n head)) ≡ head_points head
 points_of-numbered n [] = refl
 points_of-numbered n (h ∷ hs) = ap (λ c. points_in h.labels h.samples ++ c) (points_of-numbered (n + 1) hs)
-
-abbrev pub samples_or : Option HeadSeries → List (ℤ × ℤ)
-samples_or None = []
-samples_or (Some h) = h.samples
 
 abbrev pub samples_at : Labels → List HeadSeries → List (ℤ × ℤ)
 samples_at l head = samples_or (series_at l head)
@@ -45,10 +42,6 @@ find-head_points floor (h ∷ hs) l t sound =
     find-++ (l, t) (points_in h.labels h.samples) (head_points hs)
     ∙ (λ i. or_else (find-points_in l t h.labels h.samples i) (find-head_points floor hs l t sound.2 i))
     ∙ find_in (same_labels l h.labels) hs h l t (λ e. subst (λ (k : Labels). series_at k hs ≡ None) (sym (same_path l h.labels e)) sound.1)
-
-abbrev pub known_of : Option HeadSeries → Option (ℤ × ℤ)
-known_of None = None
-known_of (Some h) = Some h.newest
 
 -- the newest list is that of the series
 pub find-newest_in : (l : Labels) (head : List HeadSeries) → find labels_cmp l (newest_in head) ≡ known_of (series_at l head)

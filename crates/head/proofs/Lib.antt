@@ -35,3 +35,11 @@ pub mod WorkedRows
 pub mod OwnSteps
 pub mod Replays
 pub mod Resuming
+pub mod Points
+pub mod Steps
+pub mod Fates
+pub mod Sifts
+pub mod Meets
+pub mod Ways
+pub mod LookUps
+pub mod Words

@@ -100,7 +100,7 @@ pairs_end l (suc i) [] h = refl
 pairs_end l zero (s ∷ ss) h = absurd (omega (arith, h))
 pairs_end l (suc i) (s ∷ ss) h = pairs_end l i ss (omega (arith, h))
 
-split_all : (p : Labels × (ℤ × ℤ) → Bool) (xs ys : List (Labels × (ℤ × ℤ))) → T (list_all p (xs ++ ys)) → T (list_all p xs) × T (list_all p ys)
+pub split_all : (p : Labels × (ℤ × ℤ) → Bool) (xs ys : List (Labels × (ℤ × ℤ))) → T (list_all p (xs ++ ys)) → T (list_all p xs) × T (list_all p ys)
 split_all p [] ys h = (tt, h)
 split_all p (x ∷ xs) ys h =
     let rest = split_all p xs ys (second_T (p x) (list_all p (xs ++ ys)) h) in

@@ -20,7 +20,8 @@ use Rattle.labels.proofs.OrderLaws.{point_total, point_exact, same_turn}
 use Rattle.labels.proofs.ContentLaws.{or_else, or_else_cond, or_else_none, find-laid_over, is_sorted-laid_over, is_sorted-over, same_content, over-last, find-points_in, length-points_in, is_sorted-points_in}
 use Rattle.labels.proofs.Times.{true_not_false, missing, later}
 use Rattle.head.proofs.SeriesLaws.{IsSoundSeries-grown, IsSoundSeries-new}
-use Rattle.head.proofs.HeadLaws.{head_points, points_of-numbered, samples_or, samples_at, same_path, find-head_points, find-newest_in, with_newest-newest_in, length-newest_in, samples_at-extended, known_of}
+use Rattle.head.proofs.HeadLaws.{head_points, points_of-numbered, samples_at, same_path, find-head_points, find-newest_in, with_newest-newest_in, length-newest_in, samples_at-extended}
+use Rattle.head.specs.Known.{samples_or, known_of}
 
 -- what the blocks hold
 abbrev pub below_of : SnapshotParts → Content
@@ -139,7 +140,7 @@ IsSoundHead-extended floor l x (h ∷ hs) above sound less =
       | false ↦ λ is less. (sound.0, absent-extended h.labels l x hs (same_turn h.labels l ∙ is) sound.1, IsSoundHead-extended floor l x hs above sound.2 less)
     ] refl less
 
-none_later : (floor : ℤ) (x : ℤ × ℤ) (o : Option HeadSeries) → IfSeries (IsSoundSeries floor) o → IfSeries (IsNext x) o → find int_cmp x.0 (samples_or o) ≡ None
+pub none_later : (floor : ℤ) (x : ℤ × ℤ) (o : Option HeadSeries) → IfSeries (IsSoundSeries floor) o → IfSeries (IsNext x) o → find int_cmp x.0 (samples_or o) ≡ None
 none_later floor x None sound less = refl
 none_later floor x (Some h) sound less = missing (λ u. int_lt h.newest.0 u) x.0 h.samples less.0 sound.upto
 
@@ -155,7 +156,7 @@ IsSoundWith s (Err e) = Unit {0}
 abbrev pub Follows : SnapshotParts → Result World Refusal → Result (List HeadSeries) Refusal → Type 0
 Follows s r q = (r ≡ world_with s q) × IsSoundWith s q
 
-with_sample-world_of : (s : SnapshotParts) (l : Labels) (x : ℤ × ℤ) → IsSoundSnapshot s → IsSoundSnapshot (record s { head = extended l x s.head }) → find int_cmp x.0 (samples_at l s.head) ≡ None → with_sample (world_of s) l x ≡ world_of (record s { head = extended l x s.head })
+pub with_sample-world_of : (s : SnapshotParts) (l : Labels) (x : ℤ × ℤ) → IsSoundSnapshot s → IsSoundSnapshot (record s { head = extended l x s.head }) → find int_cmp x.0 (samples_at l s.head) ≡ None → with_sample (world_of s) l x ≡ world_of (record s { head = extended l x s.head })
 unfolding world_of
 with_sample-world_of s l x sound more none = λ i. record { content = put-world_of s l x sound more none i; newest = with_newest-newest_in l x s.head i; floor = s.floor; blocks = length s.blocks }
 

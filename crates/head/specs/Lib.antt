@@ -29,8 +29,12 @@ pub mod Replaying
 pub mod Codes
 pub mod Outcomes
 pub mod Taking
+pub mod Known
 pub mod OwnSteps
 pub mod Sifting
 pub mod Laws
 pub mod Telling
 pub mod Wording
+pub mod Meeting
+pub mod OnWay
+pub mod Looking

@@ -1,11 +1,8 @@
 -- What is told of the samples that are left out.
-use Rattle.std.specs.Prelude.{◌≡◌, ℕ, ◌+◌, List, [], ◌∷◌, ◌++◌, Option, None, Some, codes}
+use Rattle.std.specs.Prelude.{ℕ, ◌+◌, List, [], ◌∷◌, Option, None, Some, codes}
 use Rattle.head.specs.declared.left.Reason.{Reason}
 use Rattle.head.specs.declared.left.Reason.TheVariants.{OutOfBounds, OutOfOrder, Duplicate, Limit}
 use Rattle.head.specs.declared.left.Left.{Left}
-use Rattle.head.specs.Worlds.{World, Batch}
-use Rattle.head.specs.Sifting.{sifted}
-use Rattle.head.specs.Laws.{reasons}
 
 -- the number of a reason, as text
 abbrev pub reason_code : Reason → List ℕ
@@ -37,13 +34,3 @@ with_last c t = record (counted c t) { first = first_or t.first c }
 -- how many are left out
 abbrev pub total : Left → ℕ
 total t = t.out_of_bounds + t.out_of_order + t.duplicate + t.limit
-
--- With these kept and left out, the sift of what is left from this world comes to that of all from
--- the first world.
-pub record IsOnWay (first : World) (all : Batch) (w : World) (rest kept : Batch)
-    (left : Left) : Type 0 where
-  pub world : (sifted w rest).world ≡ (sifted first all).world
-  pub kept_first : kept ++ (sifted w rest).kept ≡ (sifted first all).kept
-  pub out : List Reason
-  pub told : left ≡ told_of out
-  pub reasons_first : out ++ reasons (sifted w rest).left ≡ reasons (sifted first all).left

@@ -21,9 +21,10 @@ ghost use Rattle.head.specs.declared.TheConstants.{MAX_SERIES};
 ghost use Rattle.head.specs.Worlds.{cut, cut_at, cut_off};
 
 use crate::MAX_SERIES;
-use crate::draft::{Draft, begin};
+use crate::draft::Draft;
 use crate::error::CommitError;
 use crate::head::HeadView;
+use crate::joining::begin;
 use crate::order::Order;
 use crate::series::SeriesList;
 use crate::snapshot::Snapshot;

@@ -2,6 +2,9 @@
 
 ghost use Rattle.std.specs.Prelude.{◌≡◌, ◌<◌, []};
 ghost use Rattle.head.specs.Telling.{reason_code, told_of, total, with_last};
+ghost use Rattle.head.specs.Meeting.{refusal_at};
+
+use crate::error::CommitError;
 
 /// Why a sample is left out.
 #[derive(Clone, Copy, Debug, PartialEq, Eq, Drop)]
@@ -26,6 +29,18 @@ impl Reason {
             Reason::OutOfOrder => "E2",
             Reason::Duplicate => "E3",
             Reason::Limit => "E4",
+        }
+    }
+
+    /// The refusal of the sample that has the number `at` in its batch.
+    pub(crate) fn refusal(self, at: usize) -> CommitError
+        ensures { result ≡ refusal_at at self }
+    {
+        match self {
+            Reason::OutOfBounds => CommitError::OutOfBounds { at },
+            Reason::OutOfOrder => CommitError::OutOfOrder { at },
+            Reason::Duplicate => CommitError::Duplicate { at },
+            Reason::Limit => CommitError::Limit,
         }
     }
 }

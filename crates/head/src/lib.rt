@@ -6,9 +6,11 @@
 //! [`apply`] takes a snapshot one [`Event`] further: it is Ok exactly where the step of that event
 //! accepts it on the snapshot's world, and the world of what it gives is the world after; else it
 //! answers the step's refusal ([`CommitError`]). [`apply_rows`] does so for a batch whose samples
-//! stand in rows ([`RowBatch`]). A head ([`HeadView`]) is a part: its references are 1 to n in
-//! order of creation. A store is opened with at most 63 blocks, and its floor is then
-//! at the greatest end of their ranges, so that no block has a sample at or above it.
+//! stand in rows ([`RowBatch`]). [`apply_sifted`] takes of such a batch what can be taken, and tells
+//! what it leaves out ([`Left`]): no sample is refused for another one's sake. A head
+//! ([`HeadView`]) is a part: its references are 1 to n in order of creation. A store is opened with
+//! at most 63 blocks, and its floor is then at the greatest end of their ranges, so that no block
+//! has a sample at or above it.
 //!
 //! A cut makes the head's samples before its time a block of their own, the last one, whose range
 //! is from the floor up to that time; then the time is the floor, and the content is what it was.
@@ -43,17 +45,23 @@
 //! series.
 #![tactic(auto)]
 
+mod adding;
 mod cut;
 mod deletion;
 mod draft;
 mod error;
 mod event;
+mod growing;
 mod head;
 mod index;
+mod joining;
+mod judge;
+mod laws;
 mod left;
 mod list;
 mod listed;
 mod live;
+mod looking;
 mod order;
 mod reference_list;
 mod references;
@@ -72,6 +80,11 @@ pub use cut::MAX_BLOCKS;
 pub use error::{AppendError, CommitError, RefusedEvent, ResumeError};
 pub use event::{Event, EventView, MAX_BATCH};
 pub use head::HeadView;
+pub use laws::{
+    a_sift_is_one_event_or_none, again_changes_nothing, an_accepted_batch_is_kept,
+    each_sample_is_told, parts_are_as_the_whole, what_is_held_may_come_first,
+    what_is_kept_is_accepted, what_is_kept_is_held_later, what_is_kept_stands,
+};
 pub use left::{Left, Reason};
 pub use list::HeadList;
 pub use live::LiveList;

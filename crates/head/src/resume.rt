@@ -14,9 +14,10 @@ ghost use Rattle.head.specs.Shown.{series_of, copied_of};
 ghost use Rattle.head.specs.Slots.{Own, series_in_each};
 
 use crate::cut::MAX_BLOCKS;
-use crate::draft::{Draft, begin};
+use crate::draft::Draft;
 use crate::error::ResumeError;
 use crate::head::HeadView;
+use crate::joining::begin;
 use crate::order::Order;
 use crate::saved::SavedSeries;
 use crate::series::{Series, SeriesList, are_within};

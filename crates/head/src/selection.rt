@@ -14,7 +14,7 @@ use postings::{Postings, Source, choose};
 use std::alloc::{AllocError, Global};
 
 /// The references of a list.
-fn collect_references<P: Postings + Drop>(
+pub(crate) fn collect_references<P: Postings + Drop>(
     alloc: Global,
     list: P,
 ) -> Result<Vec<SeriesRef>, AllocError>
@@ -70,7 +70,7 @@ fn references_in_both<A: Postings + Drop, B: Postings + Drop>(
 }
 
 /// Those of the references that stand in a list, by one seek for each.
-fn common<P: Postings + Drop>(
+pub(crate) fn common<P: Postings + Drop>(
     alloc: Global,
     references: &[SeriesRef],
     list: P,

@@ -6,7 +6,7 @@ ghost use Rattle.std.specs.Arc.{arc_value};
 ghost use Rattle.std.specs.Prelude.{T};
 ghost use Rattle.std.specs.Ordering.{int_cmp};
 ghost use Rattle.std.specs.List.{list_all};
-ghost use Rattle.std.specs.FinMap.Entries.{is_sorted};
+ghost use Rattle.std.specs.FinMap.Entries.{find, is_sorted};
 ghost use Rattle.labels.specs.Contents.{in_range};
 ghost use Rattle.labels.specs.Parts.{has_sample, within};
 ghost use Rattle.head.specs.Pointers.{values_in};
@@ -16,6 +16,7 @@ ghost use Rattle.head.specs.Taking.{grown};
 ghost use Rattle.head.specs.Removing.{outside, series_less};
 
 use crate::MAX_SAMPLES;
+use crate::looking::first_value;
 use crate::saved::SavedSeries;
 use labels::{LabelSet, Sample};
 use pages::PagedList;
@@ -407,5 +408,13 @@ impl Series {
         }
         push_within(&mut found, self.tail.as_slice(), from, to)?;
         Ok(found)
+    }
+
+    /// The value at a time.
+    pub(crate) fn value_at(&self, alloc: Global, t: i64) -> Result<Option<i64>, AllocError>
+        ensures { IfOk result (λ value. value ≡ find int_cmp t self.now.samples) }
+    {
+        let samples = self.samples_within(alloc, t, t)?;
+        Ok(first_value(samples.as_slice()))
     }
 }

@@ -8,14 +8,19 @@ ghost use Rattle.head.specs.Batches.{is_batch, set_count, CopiesFew};
 ghost use Rattle.head.specs.BatchRows.{batch_of_rows, batch_in};
 ghost use Rattle.head.specs.Kept.{KeepsBlocks};
 ghost use Rattle.head.specs.Worlds.{stepped, committed, batch};
+ghost use Rattle.head.specs.OnWay.{with_slots, IsReached};
+ghost use Rattle.head.specs.Orders.{IsOrderOf};
 ghost use Rattle.head.specs.Outcomes.{IsStepRefusal};
+ghost use Rattle.head.specs.Slots.{series_in_each};
 
+use crate::adding::add_each;
 use crate::cut::cut_at;
 use crate::deletion::snapshot_without;
-use crate::draft::{Draft, Samples, add_each};
+use crate::draft::{Draft, Samples};
 use crate::error::CommitError;
 use crate::event::{Event, EventView};
 use crate::head::HeadView;
+use crate::order::Order;
 use crate::row_batch::RowBatch;
 use block::Block;
 use labels::MIN_TIME;
@@ -125,6 +130,30 @@ impl Snapshot {
     }
 }
 
+/// The snapshot with a version in the making for its head, which a batch has come to.
+pub(crate) fn snapshot_of(
+    alloc: Global,
+    at: &Snapshot,
+    draft: Draft,
+    order: Order,
+    copied: u64,
+) -> Result<Snapshot, AllocError>
+    requires ordered { IsOrderOf order (series_in_each draft) }
+    requires reached { IsReached at.now draft }
+    ensures world { IfOk result (λ s. world_of s ≡ world_of (with_slots at.now draft)) }
+    ensures kept { IfOk result (λ s. s.blocks ≡ at.now.blocks) }
+    ensures copied { IfOk result (λ s. s.copied ≡ copied) }
+{
+    let blocks = Arc::try_clone(&at.blocks)?;
+    let series = draft.into_list(alloc)?;
+    let index = at.head.index_of(alloc, &series)?;
+    Ok(Snapshot {
+        blocks,
+        head: HeadView::of(series, order, index, copied),
+        floor: at.floor,
+    })
+}
+
 fn snapshot_with(alloc: Global, at: &Snapshot, batch: Samples<'_>) -> Result<Snapshot, CommitError>
     requires { IsTrue (is_batch (batch_in batch)) }
     ensures ok { IfOk result (λ s.
@@ -135,17 +164,11 @@ fn snapshot_with(alloc: Global, at: &Snapshot, batch: Samples<'_>) -> Result<Sna
     ensures copied { IfOk result (λ s. s.copied ≤ 119 * set_count (batch_in batch.entry)) }
 {
     let last = at.head.series().try_clone()?;
-    let blocks = Arc::try_clone(&at.blocks)?;
     let mut order = at.head.order().try_clone()?;
     let mut draft = Draft::new(alloc, last);
     let copied = add_each(alloc, &mut draft, &mut order, at.floor, batch)?;
-    let series = draft.into_list(alloc)?;
-    let index = at.head.index_of(alloc, &series)?;
-    Ok(Snapshot {
-        blocks,
-        head: HeadView::of(series, order, index, copied),
-        floor: at.floor,
-    })
+    let snapshot = snapshot_of(alloc, at, draft, order, copied)?;
+    Ok(snapshot)
 }
 
 /// The snapshot after an event. It shares with the one before what the event leaves alone: a batch

@@ -5,6 +5,7 @@ use Rattle.labels.specs.Labels.{Labels}
 use Rattle.labels.specs.Parts.{IsPart}
 use Rattle.head.specs.Orders.{sets_of, Extends, IsOrderOf}
 use Rattle.head.proofs.Indexing.{batch_extends}
+use Rattle.head.specs.OnWay.{IsReached, with_slots}
 use Rattle.head.specs.Outcomes.{IsStepRefusal}
 use Rattle.head.specs.Limits.{max_series}
 use Rattle.head.specs.Slots.{Slot, series_in_each, owned, AllOwn}
@@ -44,51 +45,18 @@ returns-in_err-copied-clause-refused c =
     (refused s (batch_in c.args.batch) c.in_err-copied.field-0.0 c.at.invariant
     (subst (IsStepRefusal c.in_err-copied.field-0.0) (λ i. head_added_each (floor_is i) (Ok (head_is i)) 0 (batch_in c.args.batch)) c.in_err-copied.ensures.step)))
 
-pub index_of-requires : goal.index_of-requires
-index_of-requires c =
+pub snapshot_of-requires : goal.snapshot_of-requires
+snapshot_of-requires c =
     let s : SnapshotParts = parts_in c.at.inside in
     let floor_is : to_z w64 (of_z w64 c.at.inside.floor) ≡ c.at.inside.floor = search rules in
     let last_is : c.in_ok-last.last ≡ s.head = c.in_ok-last.ensures ∙ c.series.ensures in
     let head_is : series_in_each c.new-draft.result ≡ s.head = ap (λ (ss : List Slot). series_in_each ss) c.new-draft.ensures ∙ series_shared c.in_ok-last.last ∙ last_is in
     let is : head_added_each s.floor (Ok s.head) 0 (batch_in c.args.batch) ≡ Ok (series_in_each c.add_each.new.draft) =
     (λ i. head_added_each (sym floor_is i) (Ok (sym head_is i)) 0 (batch_in c.args.batch)) ∙ c.in_ok-copied.ensures.step in
-    let after : length (series_in_each c.add_each.new.draft) ≤ max_series = few_after_batch s.floor s.head 0 (batch_in c.args.batch) (series_in_each c.add_each.new.draft) c.at.inside.head.few is in
-    let made : c.in_ok-series.series ≡ series_in_each c.add_each.new.draft = c.in_ok-series.ensures.series in
     record {
-      few = subst (λ (hs : List HeadSeries). length hs ≤ max_series) (sym made) after;
-      extended = subst (λ (hs : List HeadSeries). Extends (sets_of s.head) (sets_of hs)) (sym made) (batch_extends s.floor s.head (batch_in c.args.batch) (series_in_each c.add_each.new.draft) is);
+      ordered = c.in_ok-copied.ensures.ordered;
+      reached = subst (λ (v : SnapshotParts). IsReached v c.add_each.new.draft) c.at.view_is (record { samples = batch_in c.args.batch; step = is });
     }
-
-pub of-requires : goal.of-requires
-of-requires c =
-    let s : SnapshotParts = parts_in c.at.inside in
-    let floor_is : to_z w64 (of_z w64 c.at.inside.floor) ≡ c.at.inside.floor = search rules in
-    let last_is : c.in_ok-last.last ≡ s.head = c.in_ok-last.ensures ∙ c.series.ensures in
-    let head_is : series_in_each c.new-draft.result ≡ s.head = ap (λ (ss : List Slot). series_in_each ss) c.new-draft.ensures ∙ series_shared c.in_ok-last.last ∙ last_is in
-    let is : head_added_each s.floor (Ok s.head) 0 (batch_in c.args.batch) ≡ Ok (series_in_each c.add_each.new.draft) =
-    (λ i. head_added_each (sym floor_is i) (Ok (sym head_is i)) 0 (batch_in c.args.batch)) ∙ c.in_ok-copied.ensures.step in
-    let after : length (series_in_each c.add_each.new.draft) ≤ max_series = few_after_batch s.floor s.head 0 (batch_in c.args.batch) (series_in_each c.add_each.new.draft) c.at.inside.head.few is in
-    let made : c.in_ok-series.series ≡ series_in_each c.add_each.new.draft = c.in_ok-series.ensures.series in
-    record {
-      few = subst (λ (hs : List HeadSeries). length hs ≤ max_series) (sym made) after;
-      ordered = subst (λ (hs : List HeadSeries). IsOrderOf c.add_each.new.order hs) (sym made) c.in_ok-copied.ensures.ordered;
-      indexed = c.in_ok-index.ensures;
-      is_part = subst (λ (hs : List HeadSeries). IsPart (head_part hs)) (sym made)
-          (IsPart-head_part s.floor (series_in_each c.add_each.new.draft) (accepted s (batch_in c.args.batch) (series_in_each c.add_each.new.draft) c.at.invariant is).1.head after);
-    }
-
-pub invariant_of-result : goal.invariant_of-result
-invariant_of-result c =
-    let s : SnapshotParts = parts_in c.at.inside in
-    let floor_is : to_z w64 (of_z w64 c.at.inside.floor) ≡ c.at.inside.floor = search rules in
-    let last_is : c.in_ok-last.last ≡ s.head = c.in_ok-last.ensures ∙ c.series.ensures in
-    let head_is : series_in_each c.new-draft.result ≡ s.head = ap (λ (ss : List Slot). series_in_each ss) c.new-draft.ensures ∙ series_shared c.in_ok-last.last ∙ last_is in
-    let is : head_added_each s.floor (Ok s.head) 0 (batch_in c.args.batch) ≡ Ok (series_in_each c.add_each.new.draft) =
-    (λ i. head_added_each (sym floor_is i) (Ok (sym head_is i)) 0 (batch_in c.args.batch)) ∙ c.in_ok-copied.ensures.step in
-    let made = c.of.ensures.series ∙ c.in_ok-series.ensures.series in
-    let sound = (accepted s (batch_in c.args.batch) (series_in_each c.add_each.new.draft) c.at.invariant is).1 in
-    subst IsSoundSnapshot (λ i. record { blocks = map part_in (sym c.in_ok-blocks.ensures i).items; head = sym made i; floor = sym floor_is i; copied = c.of.result.copied })
-    (record { few = sound.few; time = sound.time; ends = sound.ends; head = sound.head; blocks = sound.blocks })
 
 pub returns-clause-ok : goal.returns-clause-ok
 returns-clause-ok c =
@@ -98,11 +66,10 @@ returns-clause-ok c =
     let head_is : series_in_each c.new-draft.result ≡ s.head = ap (λ (ss : List Slot). series_in_each ss) c.new-draft.ensures ∙ series_shared c.in_ok-last.last ∙ last_is in
     let is : head_added_each s.floor (Ok s.head) 0 (batch_in c.args.batch) ≡ Ok (series_in_each c.add_each.new.draft) =
     (λ i. head_added_each (sym floor_is i) (Ok (sym head_is i)) 0 (batch_in c.args.batch)) ∙ c.in_ok-copied.ensures.step in
-    let made = c.of.ensures.series ∙ c.in_ok-series.ensures.series in
     ap (λ (v : SnapshotParts). committed (world_of v) (batch_in c.args.batch)) (sym c.at.view_is)
     ∙ (accepted s (batch_in c.args.batch) (series_in_each c.add_each.new.draft) c.at.invariant is).0
-    ∙ ap Ok (same_world (record s { head = series_in_each c.add_each.new.draft }) c.of.result.copied)
-    ∙ (λ i. Ok (world_of (record { blocks = map part_in (sym c.in_ok-blocks.ensures i).items; head = sym made i; floor = sym floor_is i; copied = c.of.result.copied })))
+    ∙ ap (λ (v : SnapshotParts). Ok (world_of (with_slots v c.add_each.new.draft))) c.at.view_is
+    ∙ ap Ok (sym c.in_ok-snapshot.ensures.world)
 
 pub returns-clause-copied : goal.returns-clause-copied
 returns-clause-copied c =
@@ -118,4 +85,4 @@ returns-clause-copied c =
     let own = c.in_ok-copied.ensures.owners (has_set (batch_in c.args.batch)) (has_each (batch_in c.args.batch)) before in
     let few = owned_within s.floor c.add_each.new.draft (batch_in c.args.batch) sound own in
     let none = ap (λ (ss : List Slot). owned ss) fresh ∙ owned-shared c.in_ok-last.last in
-    copied_within c.in_ok-copied.copied (owned c.new-draft.result) (owned c.add_each.new.draft) (set_count (batch_in c.args.batch)) _ c.in_ok-copied.ensures.counted none few c.of.ensures.copied
+    copied_within c.in_ok-copied.copied (owned c.new-draft.result) (owned c.add_each.new.draft) (set_count (batch_in c.args.batch)) _ c.in_ok-copied.ensures.counted none few c.in_ok-snapshot.ensures.copied
