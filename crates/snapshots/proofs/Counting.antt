@@ -47,6 +47,13 @@ counts_own counts es e are in_range =
     let one = count_one e.seat (e.seat == e.seat) refl in
     omega (arith, count_of-snoc e.seat es e)
 
+-- one event more of a seat
+pub count_more : (number : ℕ) (es all : List Entry) (e : Entry) → all ≡ es ++ e ∷ []
+    → e.seat ≡ number → count_of number all ≡ count_of number es + 1
+count_more number es all e is seat =
+    rw (is, ← seat)
+    (let one = count_one e.seat (e.seat == e.seat) refl in omega (arith, count_of-snoc e.seat es e))
+
 -- the counts where one event more was published, and the count of its seat is one more
 pub counts_next : (counts : List ℕ) (es all : List Entry) (e : Entry) (number n : ℕ)
     → AreCounts counts es

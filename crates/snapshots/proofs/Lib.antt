@@ -7,3 +7,4 @@ pub mod Replaying
 pub mod Keeps
 pub mod Tips
 pub mod Held
+pub mod Sifts

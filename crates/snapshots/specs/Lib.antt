@@ -2,6 +2,7 @@ pub mod Marks
 pub mod Tallies
 pub mod Replays
 pub mod Seats
+pub mod Sifts
 pub mod Standings
 pub mod Keeping
 pub mod Tips
@@ -10,3 +11,4 @@ pub mod Views
 pub mod Grows
 pub mod Refusals
 pub mod Tries
+pub mod Trials

@@ -1,6 +1,7 @@
 //! What a committer publishes.
 
 ghost use Rattle.std.specs.Prelude.{IfOk, IfErr};
+ghost use Rattle.std.specs.Arc.{arc_value};
 ghost use Rattle.head.specs.Heads.{world_of};
 ghost use Rattle.head.specs.Outcomes.{IsStepRefusal};
 ghost use Rattle.head.specs.Worlds.{Event as HeadEvent, stepped};
@@ -10,6 +11,7 @@ ghost use Rattle.snapshots.specs.Replays.{Steps};
 use event_text::{text_of_event, text_of_rows};
 use head::{CommitError, Event, RowBatch, Snapshot, apply, apply_rows};
 use std::alloc::{AllocError, Global};
+use std::sync::Arc;
 
 /// What a committer publishes: an event, or a batch that is held in rows, which is one too.
 pub trait Change {
@@ -51,5 +53,22 @@ impl Change for RowBatch {
 
     fn text(&self, alloc: Global) -> Result<Vec<u8>, AllocError> {
         text_of_rows(alloc, self)
+    }
+}
+
+/// The snapshot after a change, to be shared.
+pub fn snapshot_after<C: Change>(
+    alloc: Global,
+    at: &Snapshot,
+    change: &C,
+) -> Result<Arc<Snapshot>, CommitError>
+    ensures ok { IfOk result (λ s. Steps at.now (C.event change.now) (arc_value s)) }
+    ensures refused { IfErr result (λ e.
+        IsStepRefusal e (stepped (world_of at.now) (C.event change.now))) }
+{
+    let snapshot = change.apply(alloc, at)?;
+    match Arc::new(alloc, snapshot) {
+        Ok(shared) => Ok(shared),
+        Err(_) => Err(CommitError::Memory),
     }
 }

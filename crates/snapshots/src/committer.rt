@@ -1,7 +1,7 @@
 //! Committers, which publish events.
 
 ghost use Rattle.std.specs.Prelude.{◌≡◌, false, true, None, Ok, Some, is_none, IsTrue, IfOk, IfErr};
-ghost use Rattle.std.specs.Prelude.{OnErr};
+ghost use Rattle.std.specs.Prelude.{IfSome, MatchBool, OnErr};
 ghost use Rattle.snapshots.specs.Keeping.{AreHeld};
 ghost use Rattle.snapshots.specs.Marks.{tried_of};
 ghost use Rattle.snapshots.specs.Tips.{IsFailure};
@@ -11,6 +11,8 @@ ghost use Rattle.head.specs.Batches.{is_deletion};
 ghost use Rattle.head.specs.Worlds.{batch, deletion, cut, matchers_of};
 ghost use Rattle.snapshots.specs.Replays.{EndsWith, AreAccepted, IsRefusedAfter, IsOfStore};
 ghost use Rattle.snapshots.specs.Seats.{HasOneMoreEvent};
+ghost use Rattle.snapshots.specs.Sifts.{IsSiftedOnceMet};
+ghost use Rattle.snapshots.specs.Trials.{list_in, published_in};
 
 use crate::appender::Appender;
 use crate::book::Book;
@@ -20,6 +22,8 @@ use crate::naming::Naming;
 use crate::prefix::LogPrefix;
 use crate::receipt::Receipt;
 use crate::seat::Seat;
+use crate::sift::{Screened, Trial};
+use crate::sifted::Sifted;
 use crate::tip::Tip;
 use head::{CommitError, Event, RowBatch};
 use keeper::{KeepError, Keeper, NoKeeper};
@@ -113,6 +117,24 @@ impl<J: Naming, R: Wait + Drop, K: Keeper + Drop> Committer<J, R, K> {
         unreachable!()
     }
 
+    /// The receipt of that behind which a sift stands, once it is published.
+    fn receipt_of<'a, W: Wait>(
+        &'a self,
+        rt: &W,
+        tip: MutexGuard<'a, Tip<J, K>>,
+        trial: Trial<J>,
+    ) -> Result<Receipt<J>, CommitError>
+        requires held { IfSome (published_in trial) (λ r. AreHeld K.holds J.before r) }
+        ensures receipt { IfOk result (λ r. r ≡ list_in trial) }
+        ensures held { IfOk result (λ r. AreHeld K.holds J.before r) }
+        ensures refused { IfErr result (λ e. IsFailure K.idle e) }
+    {
+        match trial {
+            Trial::Done(receipt) => Ok(receipt),
+            Trial::Waits(trial) => self.settle(rt, tip, &trial),
+        }
+    }
+
     /// Makes the record of the event, tries it, and waits until it is published or given up. One
     /// that is refused waits too, until all that was tried before it is published.
     fn step<C: Change + Drop, W: Wait>(
@@ -203,6 +225,53 @@ impl<J: Naming, R: Wait + Drop, K: Keeper + Drop> Committer<J, R, K> {
         ensures journal { IfErr result (λ e. e.1 ≡ CommitError.Journal → K.idle ≡ false) }
     {
         self.step(rt, seat, rows)
+    }
+
+    /// Publishes what can be kept of a batch of rows, as one event under the seat's number. Its
+    /// samples are met in their order. One that may join is kept. One that the store has already,
+    /// with its value, or that is the newest one of its label set, is held: it is neither kept nor
+    /// left out. Any other is left out, and told by its code, `E1` to `E4`. The list that the batch
+    /// is sifted after begins with that of the seat's last receipt and has no event more under the
+    /// seat's number; the receipt's list is that one, with the batch of what was kept behind it, if
+    /// there is any. A receipt comes also if nothing joined. Then the seat stays, and all that was
+    /// tried before, a first try of the same samples too, is published and held by a keeper. The
+    /// refusals are memory's, `E7` and `E8`: no sample's. A refusal gives the rows back and leaves
+    /// the seat. It waits as [`Committer::commit`] does. Its price: what is kept is known only once
+    /// the committer's lock is held, so the record of it is made under that lock, and the look-ups
+    /// of what is refused are too.
+    pub fn sift(
+        &self,
+        rt: &impl Wait,
+        seat: &mut Seat<J>,
+        rows: RowBatch,
+    ) -> Result<Sifted<J>, (RowBatch, CommitError)>
+        ensures sifted { IfOk result (λ s.
+            IsSiftedOnceMet J.opening seat.old (batch_of_rows rows) s) }
+        ensures accepted { IfOk result (λ s. AreAccepted J.opening s.list) }
+        ensures held { IfOk result (λ s. AreHeld K.holds J.before s.list) }
+        ensures one { IfOk result (λ s. MatchBool s.joined
+            (HasOneMoreEvent seat.old seat.new s.list) (seat.new ≡ seat.old)) }
+        ensures kept { IfErr result (λ e. (e.0 ≡ rows) × (seat.new ≡ seat.old)) }
+        ensures refused { IfErr result (λ e. IsOfStore e.1) }
+        ensures journal { IfErr result (λ e. e.1 ≡ CommitError.Journal → K.idle ≡ false) }
+    {
+        let mut tip = self.tip.lock(rt);
+        let Screened {
+            trial,
+            left,
+            joined,
+        } = match tip.sift(rt, self.alloc, seat, &rows) {
+            Ok(screened) => screened,
+            Err(error) => return Err((rows, error)),
+        };
+        let receipt = match self.receipt_of(rt, tip, trial) {
+            Ok(receipt) => receipt,
+            Err(error) => return Err((rows, error)),
+        };
+        if joined {
+            seat.add_one(&receipt);
+        }
+        Ok(Sifted::of(receipt, left, joined))
     }
 
     /// Publishes a deletion under the seat's number: the samples from one time to another, both

@@ -44,6 +44,16 @@ impl<J: Naming> Receipt<J> {
         })
     }
 
+    /// The receipt of all that a log has accepted.
+    pub(crate) fn whole(done: &LogPrefix<J>) -> Receipt<J>
+        ensures { result ≡ accepted done.now }
+    {
+        Receipt {
+            log: done.share(),
+            events: done.accepted(),
+        }
+    }
+
     /// How many events its list has. It takes no memory.
     pub fn events(&self) -> u64
         ensures { result ≡ length self.now }

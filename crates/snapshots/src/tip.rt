@@ -1,22 +1,21 @@
 //! Where the events of a store are tried.
 
-ghost use Rattle.std.specs.Prelude.{◌≡◌, ◌+◌, ◌++◌, ◌∷◌, ◌↔◌, [], slice_set};
-ghost use Rattle.std.specs.Prelude.{false, IsOk, IfOk, IfErr, IfSome, OnOk, OnErr, MatchBool};
-ghost use Rattle.std.specs.Prelude.{MatchOption};
+ghost use Rattle.std.specs.Prelude.{◌≡◌, ◌+◌, ◌++◌, ◌∷◌, ◌↔◌, ◌⊎◌, [], slice_set};
+ghost use Rattle.std.specs.Prelude.{false, IsOk, IfOk, IfErr, IfSome, IfNone, OnOk, OnErr};
+ghost use Rattle.std.specs.Prelude.{MatchBool, MatchOption};
 ghost use Rattle.std.specs.Arc.{arc_value};
 ghost use mathlib.Core.List.{IsPrefix};
-ghost use Rattle.head.specs.Outcomes.{IsStepRefusal};
 ghost use Rattle.head.specs.Heads.{world_of};
 ghost use Rattle.head.specs.Worlds.{stepped};
 ghost use Rattle.snapshots.specs.Marks.{accepted, list_of, tried_of};
 ghost use Rattle.snapshots.specs.Grows.{Shows, MayFollow};
-ghost use Rattle.snapshots.specs.Keeping.{AreHeld, IsGroup, IsRecordFor};
+ghost use Rattle.snapshots.specs.Keeping.{AreHeld, IsGroup, IsOfKeeping, IsRecordFor};
 ghost use Rattle.snapshots.specs.Replays.{IsAfter, Steps, IsEventRefusal, IsOfStore};
 ghost use Rattle.snapshots.specs.Seats.{FitsSeat, AreCounts, IsMetBy, count_of};
 ghost use Rattle.snapshots.specs.Standings.{StandsFor, current};
-ghost use Rattle.snapshots.specs.Tips.{IsBehind, IsFailure};
+ghost use Rattle.snapshots.specs.Tips.{IsFailure};
 
-use crate::change::Change;
+use crate::change::{Change, snapshot_after};
 use crate::entry::Tried;
 use crate::group::Group;
 use crate::keeping::push_record;
@@ -28,10 +27,11 @@ use crate::receipt::Receipt;
 use crate::seat::Seat;
 use crate::standing::Standing;
 use crate::version::Version;
-use core::mem::{replace, replace_with, swap};
+use crate::waiting::{is_given_up, put_back, set_aside};
+use core::mem::{replace, replace_with};
 use head::{CommitError, Snapshot};
 use keeper::Keeper;
-use std::alloc::{AllocError, Global};
+use std::alloc::Global;
 use std::marker::{Model, PhantomData};
 use std::sync::{Arc, Wait};
 
@@ -43,71 +43,6 @@ fn fits<J: Naming>(counts: &Vec<u64>, seat: &Seat<J>) -> bool
     match counts.get(seat.number()) {
         Some(count) => *count == seat.count() && seat.count() < u64::MAX,
         None => false,
-    }
-}
-
-/// The snapshot after a change, to be shared.
-fn snapshot_after<C: Change>(
-    alloc: Global,
-    at: &Snapshot,
-    change: &C,
-) -> Result<Arc<Snapshot>, CommitError>
-    ensures ok { IfOk result (λ s. Steps at.now (C.event change.now) (arc_value s)) }
-    ensures refused { IfErr result (λ e.
-        IsStepRefusal e (stepped (world_of at.now) (C.event change.now))) }
-{
-    let snapshot = change.apply(alloc, at)?;
-    match Arc::new(alloc, snapshot) {
-        Ok(shared) => Ok(shared),
-        Err(_) => Err(CommitError::Memory),
-    }
-}
-
-/// Whether what waited was given up, and not all who tried know it yet.
-fn is_given_up<J: Naming>(waits: bool, log: &LogPrefix<J>) -> bool
-    ensures { MatchBool result (Unit {0})
-        (MatchBool waits (Unit {0}) (accepted log.now ≡ tried_of log.now)) }
-{
-    if waits {
-        return false;
-    }
-    !log.is_settled()
-}
-
-/// Makes ready for one more event to wait. If none does, what was tried is what is published, and
-/// is set aside.
-fn set_aside<J: Naming, K: Keeper>(
-    alloc: Global,
-    log: &LogPrefix<J>,
-    waits: bool,
-    ahead: &Standing,
-    base: &mut Standing,
-    records: &mut Vec<u8>,
-) -> Result<(), AllocError>
-    requires ahead { StandsFor J.opening (current waits log.now)
-        (arc_value ahead.now.snapshot) ahead.now.counts.items }
-    requires behind { MatchBool waits (IsBehind J.opening K.idle log.now
-        (arc_value base.old.snapshot) base.old.counts.items records.old.items) (Unit {0}) }
-    requires settled { MatchBool waits (Unit {0}) (accepted log.now ≡ tried_of log.now) }
-    ensures behind { OnOk result (IsBehind J.opening K.idle log.now
-        (arc_value base.new.snapshot) base.new.counts.items records.new.items) }
-    ensures kept { OnErr result ((base.new ≡ base.old) × (records.new ≡ records.old)) }
-{
-    if waits {
-        return Ok(());
-    }
-    let set = ahead.share(alloc)?;
-    *base = set;
-    records.clear();
-    Ok(())
-}
-
-/// What is published, where what waits is given up; the other comes into its place.
-fn put_back(waits: bool, ahead: &mut Standing, base: &mut Standing)
-    ensures { MatchBool waits (ahead.new ≡ base.old) (ahead.new ≡ ahead.old) }
-{
-    if waits {
-        swap(ahead, base);
     }
 }
 
@@ -202,6 +137,97 @@ impl<J: Naming, K: Keeper> Tip<J, K> {
         }
     }
 
+    /// Whether the seat may try an event here. `E7` if its number is none of this store's, or its
+    /// count is not the one here, or cannot grow. A list shorter than that of its last receipt
+    /// would be a refusal of memory, and does not occur.
+    pub(crate) fn meets(&self, seat: &Seat<J>) -> Result<(), CommitError>
+        ensures fits { OnOk result (FitsSeat seat.now self.now.counts) }
+        ensures met { OnOk result (IsMetBy seat.now self.now.entries) }
+        ensures seat { IfErr result (λ e.
+            (e ≡ CommitError.Seat) ↔ (¬ FitsSeat seat.now self.now.counts)) }
+        ensures refused { IfErr result (λ e.
+            (e ≡ CommitError.Seat) ⊎ (e ≡ CommitError.Memory)) }
+        ensures books { AreCounts self.now.counts self.now.entries }
+        ensures world { IsAfter J.opening self.now.entries self.now.parts }
+    {
+        if !fits(&self.ahead.counts, seat) {
+            return Err(CommitError::Seat);
+        }
+        if !self.log.begins_with(seat.log()) {
+            return Err(CommitError::Memory);
+        }
+        Ok(())
+    }
+
+    /// Puts an event, in the form that it is held in, behind all that was tried: its step was made,
+    /// and gave the snapshot. It waits from then on, with its record; the log that is answered ends
+    /// with its try. `E8` while events that were given up are still waited for.
+    pub(crate) fn place<C: Change, R: Wait>(
+        &mut self,
+        rt: &R,
+        seat: &Seat<J>,
+        change: &C,
+        bytes: &[u8],
+        snapshot: Arc<Snapshot>,
+    ) -> Result<LogPrefix<J>, CommitError>
+        requires spelled { IsRecordFor K.idle (C.event change.now) bytes.now }
+        requires fits { FitsSeat seat.now self.old.counts }
+        requires begins { IsPrefix seat.now.seen self.old.entries }
+        requires steps { Steps self.old.parts (C.event change.now) (arc_value snapshot) }
+        ensures parts { OnOk result (self.new.parts ≡ arc_value snapshot) }
+        ensures refused { IfErr result (λ e. IsOfKeeping e) }
+        ensures journal { IfErr result (λ e. e ≡ CommitError.Journal → K.idle ≡ false) }
+        ensures kept { OnErr result (self.new ≡ self.old) }
+        ensures list { IfOk result (λ p. tried_of p
+            ≡ self.old.entries
+            ++ record { event = C.event change.now; seat = seat.now.number } ∷ []) }
+        ensures added { IfOk result (λ p. self.new.entries ≡ tried_of p) }
+        ensures published { self.new.published ≡ self.old.published }
+        ensures counts { OnOk result (self.new.counts
+            ≡ slice_set self.old.counts seat.now.number (seat.now.count + 1)) }
+        ensures begins { IfOk result (λ p. IsPrefix seat.now.seen (tried_of p)) }
+        ensures counted { IfOk result (λ p.
+            count_of seat.now.number (tried_of p) ≡ seat.now.count + 1) }
+        ensures books { AreCounts self.new.counts self.new.entries }
+        ensures world { IsAfter J.opening self.new.entries self.new.parts }
+    {
+        let number = seat.number();
+        if !self.log.has_room() {
+            return Err(CommitError::Memory);
+        }
+        if is_given_up(self.waits, &self.log) {
+            return Err(self.failure);
+        }
+        match set_aside::<J, K>(
+            self.alloc,
+            &self.log,
+            self.waits,
+            &self.ahead,
+            &mut self.base,
+            &mut self.records,
+        ) {
+            Ok(()) => {}
+            Err(_) => return Err(CommitError::Memory),
+        }
+        match push_record::<K>(&mut self.records, bytes) {
+            Ok(()) => {}
+            Err(_) => return Err(CommitError::Memory),
+        }
+        self.log.add_try::<C, R>(
+            rt,
+            &self.end,
+            &Tried {
+                change,
+                seat: number,
+            },
+        );
+        self.ahead.snapshot = snapshot;
+        self.ahead.counts[number] = seat.count() + 1;
+        self.waits = true;
+        self.trials = self.trials.saturating_add(1);
+        Ok(self.log.share())
+    }
+
     /// Tries one event, in the form that it is held in, under a seat's number: its step after all
     /// that was tried. It waits from then on, with its record, to be kept and published; the log
     /// that is answered ends with its try. `E7` where the number is none of this store's, or the
@@ -244,57 +270,19 @@ impl<J: Naming, K: Keeper> Tip<J, K> {
         ensures books { AreCounts self.new.counts self.new.entries }
         ensures world { IsAfter J.opening self.new.entries self.new.parts }
     {
-        let number = seat.number();
-        if !fits(&self.ahead.counts, seat) {
-            return Err(CommitError::Seat);
-        }
-        if !self.log.has_room() {
-            return Err(CommitError::Memory);
-        }
-        if !self.log.begins_with(seat.log()) {
-            return Err(CommitError::Memory);
-        }
+        self.meets(seat)?;
         let snapshot = match snapshot_after(self.alloc, &self.ahead.snapshot, change) {
             Ok(snapshot) => snapshot,
             Err(error) => return Err(error),
         };
-        if is_given_up(self.waits, &self.log) {
-            return Err(self.failure);
-        }
-        match set_aside::<J, K>(
-            self.alloc,
-            &self.log,
-            self.waits,
-            &self.ahead,
-            &mut self.base,
-            &mut self.records,
-        ) {
-            Ok(()) => {}
-            Err(_) => return Err(CommitError::Memory),
-        }
-        match push_record::<K>(&mut self.records, bytes) {
-            Ok(()) => {}
-            Err(_) => return Err(CommitError::Memory),
-        }
-        self.log.add_try::<C, R>(
-            rt,
-            &self.end,
-            &Tried {
-                change,
-                seat: number,
-            },
-        );
-        self.ahead.snapshot = snapshot;
-        self.ahead.counts[number] = seat.count() + 1;
-        self.waits = true;
-        self.trials = self.trials.saturating_add(1);
-        Ok(self.log.share())
+        self.place(rt, seat, change, bytes, snapshot)
     }
 
     /// The log with all that was tried, for one who waits to know what becomes of it; `None` if
     /// nothing waits.
     pub fn trial(&mut self) -> Option<LogPrefix<J>>
         ensures list { IfSome result (λ p. tried_of p ≡ self.old.entries) }
+        ensures none { IfNone result (self.old.entries ≡ self.old.published) }
         ensures same { self.new ≡ self.old }
     {
         if !self.waits {
@@ -302,6 +290,21 @@ impl<J: Naming, K: Keeper> Tip<J, K> {
         }
         self.trials = self.trials.saturating_add(1);
         Some(self.log.share())
+    }
+
+    /// The receipt of all that is published.
+    pub(crate) fn receipt(&self) -> Receipt<J>
+        ensures list { result ≡ self.now.published }
+        ensures held { AreHeld K.holds J.before result }
+    {
+        Receipt::whole(&self.done)
+    }
+
+    /// The snapshot that the next event is tried on.
+    pub(crate) fn snapshot(&self) -> &Snapshot
+        ensures { result.now ≡ self.now.parts }
+    {
+        &self.ahead.snapshot
     }
 
     /// What became of all that was tried up to a place of the log, for one who waits for it, and

@@ -1,6 +1,6 @@
 use Rattle.std.specs.Arc.{arc_value}
 use Rattle.snapshots.proofs.Tips.{behind_set}
-use Rattle.snapshots.proofs.tip.set_aside.Goals as goal
+use Rattle.snapshots.proofs.waiting.set_aside.Goals as goal
 
 pub returns-clause-behind : goal.returns-clause-behind
 returns-clause-behind g c =
