@@ -8,6 +8,7 @@ use Rattle.std.specs.FinMap.Entries.{put, find, by_order, is_sorted, below_all, 
 use Rattle.std.proofs.lemmas.Cmp.{int_cmp_total}
 use Rattle.labels.proofs.ContentLaws.{or_else, or_else_cond}
 use Rattle.labels.proofs.Times.{both_T, first_T, second_T, T_of}
+use Rattle.labels.proofs.SortedRows.{not_cons}
 use Rattle.series_merge.specs.Merging.{laid_times}
 
 pub less_is : (o : Ordering) → T (is_lt o) → o ≡ Less
@@ -136,7 +137,7 @@ is_sorted-laid_times (s ∷ ss) under h =
     is_sorted-put int_cmp int_cmp_total s.0 s.1 (laid_times ss under)
     (is_sorted-laid_times ss under h)
 
-laid-nil : (over : List (ℤ × ℤ)) → T (is_sorted int_cmp over) → laid_times over [] ≡ over
+pub laid-nil : (over : List (ℤ × ℤ)) → T (is_sorted int_cmp over) → laid_times over [] ≡ over
 laid-nil [] h = refl
 laid-nil (x ∷ xs) h = laid-nothing x xs h ∙ ap (λ ss. x ∷ ss) (laid-nil xs (second_T _ _ h))
 
@@ -171,7 +172,7 @@ laid-after over under x xs front last e f h k less =
     ∙ ap (λ (u : List (ℤ × ℤ)). u ++ x ∷ xs) (sym f) ∙ ap (λ (o : List (ℤ × ℤ)). under ++ o) (sym e)
 
 -- what is laid over samples is found first
-find-laid_times : (t : ℤ) (over under : List (ℤ × ℤ))
+pub find-laid_times : (t : ℤ) (over under : List (ℤ × ℤ))
     → find int_cmp t (laid_times over under) ≡ or_else (find int_cmp t over) (find int_cmp t under)
 find-laid_times t [] under = refl
 find-laid_times t (s ∷ ss) under =
@@ -197,3 +198,43 @@ laid_times-assoc a b c h =
     ∙ or_else_assoc (at t a) (at t b) (at t c)
     ∙ ap (or_else (at t a)) (sym (find-laid_times t b c))
     ∙ sym (find-laid_times t a (laid_times b c)))
+
+-- what is laid over nothing
+pub laid-over_none : (over under : List (ℤ × ℤ)) → length under ≡ 0 → T (is_sorted int_cmp over)
+    → laid_times over under ≡ under ++ over
+laid-over_none over [] none h = laid-nil over h
+laid-over_none over (y ∷ ys) none h = absurd (omega (arith, none))
+
+below-behind : (t : ℤ) (front back : List (ℤ × ℤ)) → T (below_all int_cmp t (front ++ back))
+    → T (below_all int_cmp t back)
+below-behind t [] back h = h
+below-behind t (x ∷ xs) back h = below-behind t xs back (second_T _ _ h)
+
+below-front : (t : ℤ) (front back : List (ℤ × ℤ)) → T (below_all int_cmp t (front ++ back))
+    → T (below_all int_cmp t front)
+below-front t [] back h = tt
+below-front t (x ∷ xs) back h = both_T _ _ (first_T _ _ h) (below-front t xs back (second_T _ _ h))
+
+pub sorted-front : (front back : List (ℤ × ℤ)) → T (is_sorted int_cmp (front ++ back))
+    → T (is_sorted int_cmp front)
+sorted-front [] back h = tt
+sorted-front (x ∷ xs) back h =
+    both_T _ _ (below-front x.0 xs back (first_T _ _ h)) (sorted-front xs back (second_T _ _ h))
+
+-- samples behind which others stand in time order are under them as they stand
+pub laid-append : (over under : List (ℤ × ℤ)) → T (is_sorted int_cmp (under ++ over))
+    → laid_times over under ≡ under ++ over
+laid-append over [] h = laid-nil over h
+laid-append over (y ∷ ys) h =
+    laid-under y over ys (below-behind y.0 ys over (first_T _ _ h))
+    ∙ ap (λ (ss : List (ℤ × ℤ)). y ∷ ss) (laid-append over ys (second_T _ _ h))
+
+pub put_some : (t v : ℤ) (es : List (ℤ × ℤ)) → put int_cmp t v es ≡ [] → ⊥
+put_some t v [] e = not_cons (t, v) [] e
+put_some t v (x ∷ xs) e =
+    elim (int_cmp t x.0)
+    as (λ o. by_order o ((t, v) ∷ x ∷ xs) ((x.0, v) ∷ xs) (x ∷ put int_cmp t v xs) ≡ [] → ⊥) [
+      | Less ↦ λ h. not_cons (t, v) (x ∷ xs) h
+      | Equal ↦ λ h. not_cons (x.0, v) xs h
+      | Greater ↦ λ h. not_cons x (put int_cmp t v xs) h
+    ] e

@@ -1,5 +1,7 @@
 pub mod LaidTimes
-pub mod Joining
-pub mod JoinSteps
+pub mod LaidRows
+pub mod Contents
+pub mod Fronts
 pub mod Runs
-pub mod GatheredRows
+pub mod Least
+pub mod Walks

@@ -1,6 +1,7 @@
 -- Rows in runs of ascending times.
 use Rattle.std.proofs.Common.{◌≡◌, ℕ, zero, suc, ◌+◌, ◌-◌, ◌<◌, ◌≤◌, ℤ, T, List, [], ◌∷◌, ◌++◌, length, take, drop, get_or, refl, sym, ◌∙◌, ap, subst, arith, append_assoc}
 use Rattle.std.specs.Prelude.{◌≢◌}
+use Rattle.std.specs.List.{All}
 use Rattle.std.specs.declared.cmp.Ordering.TheVariants.{Less}
 use Rattle.std.specs.Ordering.{int_cmp, is_lt}
 use Rattle.std.specs.FinMap.Entries.{is_sorted}
@@ -8,14 +9,16 @@ use Rattle.std.proofs.Math.Seq.{drop-cons}
 use Rattle.std.proofs.lemmas.Grind.{take_at_read}
 use Rattle.std.proofs.lemmas.List.{take-append-drop}
 use Rattle.std.proofs.lemmas.List.{append-nil}
-use Rattle.std.proofs.lemmas.List.Elements.{All-nil, All-push}
+use Rattle.std.proofs.lemmas.List.Elements.{All-push, All-append}
 use Rattle.std.proofs.lemmas.Option.{slice_get-get_or, get_or_from_slice_get}
 use Rattle.labels.specs.Labels.{Labels}
 use Rattle.labels.specs.Rows.{Row, points_in, points_of, IsFull}
 use Rattle.labels.proofs.Times.{both_T, first_T, second_T, T_of}
 use Rattle.cover.specs.declared.part_cover.PartAnswer.{PartAnswer}
-use Rattle.series_merge.specs.Merging.{AreRuns, newest_first, row_lists}
-use Rattle.series_merge.proofs.Joining.{points_of-++}
+use Rattle.series_merge.specs.Merging.{AreRuns, ListAlike, newest_first, row_lists}
+use Rattle.series_merge.specs.Walking.{all_rows}
+use Rattle.series_merge.proofs.Contents.{points_of-++, ListAlike-++}
+use Rattle.series_merge.proofs.Fronts.{all_rows-last}
 use Rattle.series_merge.proofs.LaidTimes.{below_later, less_is}
 
 -- a further sample after those that ascend
@@ -87,9 +90,6 @@ runs_pushed all new r are full rises put =
       rise = All-push (λ (x : Row). T (is_sorted int_cmp x.1)) all r are.rise rises;
     })
 
-pub no_runs : AreRuns []
-no_runs = record { full = All-nil IsFull; rise = All-nil (λ (x : Row). T (is_sorted int_cmp x.1)) }
-
 full_take : (n : ℕ) (xs : List (ℤ × ℤ)) → 0 < n → 0 < length xs → take n xs ≢ []
 full_take zero xs some long e = omega (arith, some)
 full_take (suc n) [] some long e = omega (arith, long)
@@ -114,21 +114,48 @@ rows_pushed whole all new rows n r lt at inv put =
     ∙ sym (points_of-++ (take n rows) (r ∷ []))
     ∙ ap points_of (sym more))
 
--- the runs of the rows of one answer more
-pub answer_pushed : (answers : List PartAnswer) (left : ℕ) (a : PartAnswer) (all new : List Row)
+-- the rows of one answer more
+pub answer_pushed : (answers : List PartAnswer) (left : ℕ) (a : PartAnswer)
+    (parts new : List (List Row)) (runs : List Row)
     → 0 < left → left ≤ length answers → a ≡ get_or answers (left - 1) a
-    → points_of all ≡ points_of (newest_first (row_lists (drop left answers)))
-    → points_of new ≡ points_of all ++ points_of a.rows.items
-    → points_of new ≡ points_of (newest_first (row_lists (drop (left - 1) answers)))
-answer_pushed answers zero a all new some within at inv put = absurd (omega (arith, some))
-answer_pushed answers (suc n) a all new some within at inv put =
+    → ListAlike (all_rows parts) (newest_first (row_lists (drop left answers)))
+    → ListAlike runs a.rows.items → new ≡ parts ++ runs ∷ []
+    → ListAlike (all_rows new) (newest_first (row_lists (drop (left - 1) answers)))
+answer_pushed answers zero a parts new runs some within at inv list put = absurd (omega (arith, some))
+answer_pushed answers (suc n) a parts new runs some within at inv list put =
     let place : suc n - 1 ≡ n = omega arith in
+    let older : List Row = newest_first (row_lists (drop (suc n) answers)) in
     let front : drop n answers ≡ a ∷ drop (suc n) answers =
     drop-cons answers n a (omega (arith, within))
     ∙ ap (λ (x : PartAnswer). x ∷ drop (suc n) answers)
     (ap (λ (k : ℕ). get_or answers k a) (sym place) ∙ sym at) in
-    put
-    ∙ ap (λ c. c ++ points_of a.rows.items) inv
-    ∙ sym (points_of-++ (newest_first (row_lists (drop (suc n) answers))) a.rows.items)
-    ∙ ap (λ (xs : List PartAnswer). points_of (newest_first (row_lists xs))) (sym front)
-    ∙ ap (λ (k : ℕ). points_of (newest_first (row_lists (drop k answers)))) (sym place)
+    let whole : older ++ a.rows.items ≡ newest_first (row_lists (drop (suc n - 1) answers)) =
+    ap (λ (xs : List PartAnswer). newest_first (row_lists xs)) (sym front)
+    ∙ ap (λ (k : ℕ). newest_first (row_lists (drop k answers))) (sym place) in
+    let pushed : all_rows new ≡ all_rows parts ++ runs = ap all_rows put ∙ all_rows-last parts runs in
+    subst (ListAlike (all_rows new)) whole
+    (subst (λ (xs : List Row). ListAlike xs (older ++ a.rows.items)) (sym pushed)
+    (ListAlike-++ (all_rows parts) older runs a.rows.items inv list))
+
+pub full_part : (parts new : List (List Row)) (runs : List Row) → new ≡ parts ++ runs ∷ []
+    → All IsFull (all_rows parts) → All IsFull runs → All IsFull (all_rows new)
+full_part parts new runs put full runs_full =
+    subst (All IsFull) (sym (ap all_rows put ∙ all_rows-last parts runs))
+    (All-append IsFull (all_rows parts) runs full runs_full)
+
+-- a row that has samples is put at the end
+pub row_pushed : (all new : List Row) (r : Row) → new ≡ all ++ r ∷ []
+    → points_of new ≡ points_of all ++ points_in r.0 r.1
+row_pushed all new r put =
+    ap points_of put
+    ∙ points_of-++ all (r ∷ [])
+    ∙ ap (λ c. points_of all ++ c) (append-nil (points_in r.0 r.1))
+
+full_row : (ss : List (ℤ × ℤ)) → 0 < length ss → ss ≢ []
+full_row [] some e = omega (arith, some)
+full_row (s ∷ ss) some e = absurd cc
+
+pub full_pushed : (all new : List Row) (r : Row) → All IsFull all → 0 < length r.1
+    → new ≡ all ++ r ∷ [] → All IsFull new
+full_pushed all new r full some put =
+    subst (All IsFull) (sym put) (All-push IsFull all r full (full_row r.1 some))

@@ -1,9 +1,9 @@
 -- What the rows of several answers list together.
-use Rattle.std.specs.Prelude.{ℤ, T, List, [], ◌∷◌, ◌++◌, map, if◌then◌else◌}
+use Rattle.std.specs.Prelude.{◌≡◌, ℤ, T, List, [], ◌∷◌, ◌++◌, map, if◌then◌else◌}
 use Rattle.std.specs.List.{All}
 use Rattle.std.specs.Ordering.{int_cmp}
 use Rattle.std.specs.FinMap.Entries.{put, is_sorted}
-use Rattle.labels.specs.Labels.{same_labels}
+use Rattle.labels.specs.Labels.{Labels, point_cmp, same_labels}
 use Rattle.labels.specs.Contents.{Content}
 use Rattle.labels.specs.Rows.{Row, points_of, IsFull}
 use Rattle.labels.specs.Parts.{laid_over}
@@ -37,12 +37,17 @@ abbrev pub laid_times : List (ℤ × ℤ) → List (ℤ × ℤ) → List (ℤ ×
 laid_times [] under = under
 laid_times (s ∷ ss) under = put int_cmp s.0 s.1 (laid_times ss under)
 
--- a row before rows in label order; it is laid over the first where that has its label set
-abbrev pub join : Row → List Row → List Row
-join r [] = r ∷ []
-join r (m ∷ ms) = if same_labels r.0 m.0 then (r.0, laid_times r.1 m.1) ∷ ms else r ∷ m ∷ ms
+-- the samples of rows laid over each other: of those at one time the first row's stands
+abbrev pub laid_all : List Row → List (ℤ × ℤ)
+laid_all [] = []
+laid_all (r ∷ rs) = laid_times r.1 (laid_all rs)
 
--- rows in label order before others, one row for each label set
-abbrev pub joined_rows : List Row → List Row → List Row
-joined_rows [] rows = rows
-joined_rows (r ∷ rs) rows = join r (joined_rows rs rows)
+-- the samples of rows, those of the last row first
+abbrev pub oldest_first : List Row → List (ℤ × ℤ)
+oldest_first [] = []
+oldest_first (r ∷ rs) = oldest_first rs ++ r.1
+
+-- rows that make the same content over any other
+abbrev pub ListAlike : List Row → List Row → Type 0
+ListAlike xs ys = (c : Content) → T (is_sorted point_cmp c)
+    → laid_over (points_of xs) c ≡ laid_over (points_of ys) c

@@ -20,8 +20,13 @@
 //! It stands on `labels` and `cover`.
 #![tactic(auto)]
 
+mod gathering;
+mod laying;
 mod merging;
 mod one_part;
+mod remaining;
+mod run;
+mod walk;
 
 pub use merging::merge;
 pub use one_part::{MergedRows, merged_rows};

@@ -1,20 +1,15 @@
-use Rattle.std.proofs.Common.{List, sym, subst}
+use Rattle.std.proofs.Common.{[], List, ap, ◌∙◌, subst}
 use Rattle.std.proofs.lemmas.Result.{IfOk-weaker}
-use Rattle.labels.specs.Rows.{Row, AreRows}
-use Rattle.series_merge.specs.Merging.{merged_content}
-use Rattle.series_merge.proofs.GatheredRows.{times_sorted, AreRows-merged}
+use Rattle.labels.specs.Rows.{Row, AreRows, points_of}
+use Rattle.labels.specs.Parts.{laid_over}
+use Rattle.series_merge.specs.Walking.{all_rows}
+use Rattle.series_merge.proofs.Contents.{merged_is}
 use Rattle.series_merge.proofs.merging.merge.Goals as goal
-
-pub join_rows-requires : goal.join_rows-requires
-join_rows-requires c =
-    times_sorted c.in_ok-rows.rows.items c.sort_rows.new.rows.items c.in_ok-rows.ensures.runs
-    c.in_ok-sort_rows.ensures.moved
 
 pub returns : goal.returns
 returns c =
-    let sort = c.in_ok-sort_rows.ensures in
-    IfOk-weaker c.join_rows.result _ _ (λ rows e. subst
-    (λ (xs : List Row). AreRows xs (merged_content c.args.answers.now)) (sym e)
-    (AreRows-merged c.args.answers.now c.in_ok-rows.rows.items c.sort_rows.new.rows.items
-    c.in_ok-rows.ensures.runs c.in_ok-rows.ensures.points sort.moved sort.sorted sort.stable))
-    c.join_rows.ensures
+    let parts : List (List Row) = c.in_ok-parts.parts.items in
+    IfOk-weaker c.walk.result _ _ (λ rows are. subst (AreRows rows.items)
+    (ap (λ (ps : List (List Row)). laid_over (points_of (all_rows ps)) []) c.as_mut_slice.ensures.value
+    ∙ merged_is c.args.answers.now (all_rows parts) c.in_ok-parts.ensures.listed) are)
+    c.walk.ensures
