@@ -1,6 +1,7 @@
 -- What a front of some bytes shows, the bytes show.
 use Rattle.std.proofs.Common.{◌≡◌, ◌≤◌, ◌<◌, ◌+◌, ◌-◌, ◌⊎◌, ℕ, List, [], ◌++◌, length, take, Result, Ok, Err}
-use Rattle.std.proofs.Common.{refl, sym, ap, ◌∙◌, subst, arith, inl, inr, append_assoc, append-nil, ⊤}
+use Rattle.std.proofs.Common.{refl, sym, ap, ◌∙◌, subst, arith, inl, inr, append_assoc, append-nil}
+use Rattle.std.specs.Prelude.{⊤}
 use Rattle.std.proofs.Math.Seq.{take-append_seam, take-append-add}
 use Rattle.httparse.specs.Grammar.{RequestHead, ReadsRequest, HasNoRequest, print_request}
 use Rattle.httparse.specs.Spans.{RequestOverflows}
@@ -28,26 +29,26 @@ head_kept bytes more h rest head = record {
 
 pub framing_kept : (most : ℕ) (bytes more : List ℕ) (f : Framing) → IsFramed most bytes f
     → IsFramed most (bytes ++ more) f
-framing_kept most bytes more (Request h body) (rest, (head, told)) =
-    (rest ++ more, (subst (HasHead (bytes ++ more) h) (append_assoc body rest more)
-    (head_kept bytes more h (body ++ rest) head), told))
-framing_kept most bytes more BadHead (front, (is, others)) =
-    (front, (front_kept front bytes more is, others))
-framing_kept most bytes more LongHead (front, (is, others)) =
-    (front, (front_kept front bytes more is, others))
-framing_kept most bytes more (NoLength h fault) (rest, (head, told)) =
-    (rest ++ more, (head_kept bytes more h rest head, told))
+framing_kept most bytes more (Request h body) (rest, head, told) =
+    (rest ++ more, subst (HasHead (bytes ++ more) h) (append_assoc body rest more)
+    (head_kept bytes more h (body ++ rest) head), told)
+framing_kept most bytes more BadHead (front, is, fits, over) =
+    (front, front_kept front bytes more is, fits, over)
+framing_kept most bytes more LongHead (front, is, long, none, may) =
+    (front, front_kept front bytes more is, long, none, may)
+framing_kept most bytes more (NoLength h fault) (rest, head, told) =
+    (rest ++ more, head_kept bytes more h rest head, told)
 
 -- a whole request as what its bytes show
 pub framing_of : (most : ℕ) (bytes : List ℕ) (p : IsRequest most bytes)
     → IsFramed most bytes (Request p.h p.body)
 framing_of most bytes p =
-    ([], (subst (HasHead bytes p.h) (sym (append-nil p.body)) p.head, p.length_is))
+    ([], subst (HasHead bytes p.h) (sym (append-nil p.body)) p.head, p.length_is)
 
 shown : (most : ℕ) (bytes : List ℕ) → IsAstray most bytes → (f : Framing) × IsFramed most bytes f
 shown most bytes (inl bad) = (BadHead, bad)
 shown most bytes (inr (inl long)) = (LongHead, long)
-shown most bytes (inr (inr (h, (fault, is)))) = (NoLength h fault, is)
+shown most bytes (inr (inr (h, fault, is))) = (NoLength h fault, is)
 
 pub settled : (most : ℕ) (bytes : List ℕ) (end : End) → IsSettled end → Comes most bytes end
     → (f : Framing) × IsFramed most bytes f
@@ -87,18 +88,18 @@ head_within bytes front h rest head (more, same) long none =
 
 pub only_framing : (most : ℕ) (bytes : List ℕ) (f : Framing) (h : RequestHead) (body : List ℕ)
     → IsFramed most bytes (Request h body) → IsFramed most bytes f → f ≡ Request h body
-only_framing most bytes (Request k other) h body (x, (head, told)) (y, (head2, told2)) =
+only_framing most bytes (Request k other) h body (x, head, told) (y, head2, told2) =
     let one = request_unique bytes k h (other ++ y) (body ++ x) head2.reads head.reads in
     let count : length other ≡ length body = ap length_in_result
     (sym told2 ∙ ap (λ j. length_asked most (fields_of j)) one.0 ∙ told) in
     ap (λ j. Request j other) one.0 ∙ ap (Request h) (same_body other body y x one.1 count)
-only_framing most bytes BadHead h body (x, (head, told)) (front, ((rest, same), (fits, over))) =
+only_framing most bytes BadHead h body (x, head, told) (front, (rest, same), fits, over) =
     let many = over rest h (body ++ x) (subst (λ l. ReadsRequest l h (body ++ x)) same head.reads) in
     let few = head.few in
     absurd (omega (arith, many, few))
-only_framing most bytes LongHead h body (x, (head, told)) (front, (is, (long, (none, may)))) =
+only_framing most bytes LongHead h body (x, head, told) (front, is, long, none, may) =
     absurd (head_within bytes front h (body ++ x) head is long none)
-only_framing most bytes (NoLength k fault) h body (x, (head, told)) (y, (head2, told2)) =
+only_framing most bytes (NoLength k fault) h body (x, head, told) (y, head2, told2) =
     let one = request_unique bytes h k (body ++ x) y head.reads head2.reads in
     absurd (subst is_length (sym told ∙ ap (λ j. length_asked most (fields_of j)) one.0 ∙ told2) tt)
 
