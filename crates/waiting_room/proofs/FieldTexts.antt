@@ -25,5 +25,8 @@ length_past E most value error fits e p =
     let parts = and_parts (nat_lt 0 (length value)) _ e in
     let read = parse_digits (numerals_by_value _ tells_all_ascii_digits) 32 value (Err error) p
     parts.1 in
-    rw (e, past_limit most (digits_value 10 value) fits
-    (λ lt. read (ltb-true 0 (length value) parts.0, lt)))
+    rw (
+      e,
+      past_limit most (digits_value 10 value) fits
+          (λ lt. read (ltb-true 0 (length value) parts.0, lt)),
+    )

@@ -29,9 +29,12 @@ head_kept bytes more h rest head = record {
 
 pub framing_kept : (most : ℕ) (bytes more : List ℕ) (f : Framing) → IsFramed most bytes f
     → IsFramed most (bytes ++ more) f
-framing_kept most bytes more (Request h body) (rest, head, told) =
-    (rest ++ more, subst (HasHead (bytes ++ more) h) (append_assoc body rest more)
-    (head_kept bytes more h (body ++ rest) head), told)
+framing_kept most bytes more (Request h body) (rest, head, told) = (
+  rest ++ more,
+  subst (HasHead (bytes ++ more) h) (append_assoc body rest more)
+      (head_kept bytes more h (body ++ rest) head),
+  told,
+)
 framing_kept most bytes more BadHead (front, is, fits, over) =
     (front, front_kept front bytes more is, fits, over)
 framing_kept most bytes more LongHead (front, is, long, none, may) =

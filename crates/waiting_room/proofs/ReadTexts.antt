@@ -104,8 +104,14 @@ begun most come bs all frame h n is fits told same less =
     let there : length (come ++ bs) < frame.end + n =
     subst (λ l. length l < frame.end + n) same less in
     let size = rest_length come bs frame is.within in
-    subst (IsBegun most) (sym same) (inr (h, drop frame.end come ++ bs, n,
-    has_head most come bs frame h is fits, sym is.length_is ∙ told, omega (arith, size, there)))
+    subst (IsBegun most) (sym same) (inr (
+      h,
+      drop frame.end come ++ bs,
+      n,
+      has_head most come bs frame h is fits,
+      sym is.length_is ∙ told,
+      omega (arith, size, there),
+    ))
 
 comes_later : (most : ℕ) (all : List ℕ) (end : End) → 0 < length all → IsBegun most all
     → IsStop all end → Comes most all end

@@ -109,11 +109,7 @@ fn length_in(value: &[u8], most: u32) -> Result<u32, LengthFault>
 }
 
 /// The length of the body: none is told where there is no body.
-fn length_asked(
-    buf: &[u8],
-    headers: &[HeaderSpan],
-    most: u32,
-) -> Result<u32, LengthFault>
+fn length_asked(buf: &[u8], headers: &[HeaderSpan], most: u32) -> Result<u32, LengthFault>
     requires { All (IsHeaderWithin (length buf.now)) headers.now }
     ensures { result ≡ length_asked most (map (header_bytes buf.now) headers.now) }
 {

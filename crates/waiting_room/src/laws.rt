@@ -12,8 +12,7 @@ ghost use Rattle.waiting_room.specs.declared.reading.End.{End};
 pub fn request_law()
     ensures { (most : ℕ) (a b x y : List ℕ) → IsRequest most a → IsRequest most b
         → a ++ x ≡ b ++ y → a ≡ b }
-{
-}
+{}
 
 /// What is handed over as a whole request, or as bytes that show none, shows what the whole input
 /// shows, whatever followed.
@@ -24,5 +23,4 @@ pub fn front_law()
         → IsFramed most (bytes ++ more) f }
     ensures alone { (most : ℕ) (bytes : List ℕ) (f : Framing) (h : RequestHead) (body : List ℕ)
         → IsFramed most bytes (Request h body) → IsFramed most bytes f → f ≡ Request h body }
-{
-}
+{}

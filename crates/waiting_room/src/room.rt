@@ -135,9 +135,7 @@ fn wait_at<L: Budget, M: Meaning, H: Observer, R: Wait + Clock>(
             Ok(Some(stream)) => {
                 gate.enter();
                 observer.begun();
-                attend_stream(
-                    rt, alloc, &stream, gate, &mut money, &line, observer, terms,
-                );
+                attend_stream(rt, alloc, &stream, gate, &mut money, &line, observer, terms);
                 gate.leave();
             }
             Ok(None) => break,
@@ -232,9 +230,7 @@ fn run_waiting<
                 let handle = Builder::new()
                     .stack_size(STACK)
                     .spawn_scoped(scope, move || {
-                        wait_at(
-                            rt, alloc, listener, gate, pool, part, line, observer, terms,
-                        )
+                        wait_at(rt, alloc, listener, gate, pool, part, line, observer, terms)
                     })?;
                 waiting.push(handle)?;
             }
