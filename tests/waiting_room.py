@@ -1,5 +1,5 @@
 #!/usr/bin/env python3
-"""Runs crates/waiting_room in front of two workers that say what came, with no proof, and asks it as slow clients do."""
+"""Proves and builds crates/waiting_room in front of two workers that say what came, and asks it as slow clients do."""
 import os, shutil, socket, subprocess, sys, tempfile, threading, time
 
 here = os.path.dirname(os.path.abspath(__file__))
@@ -150,26 +150,23 @@ def budget():
 
 
 with tempfile.TemporaryDirectory() as folder:
-    skip = shutil.ignore_patterns("out", "must-fail")
-    shutil.copytree(f"{root}/crates/waiting_room", f"{folder}/crates/waiting_room", ignore=skip)
     os.makedirs(f"{folder}/crates/room/src")
+    os.symlink(f"{root}/crates/waiting_room", f"{folder}/crates/waiting_room")
     shutil.copy(f"{here}/waiting_room/main.rt", f"{folder}/crates/room/src/main.rt")
     shutil.copy(f"{root}/HANDLES", folder)
     line = next(x for x in open(f"{root}/crates.txt") if x.startswith("waiting_room:"))
     open(f"{folder}/crates.txt", "w").write(line + "room: waiting_room\n")
     subprocess.run(["git", "init", "-q", folder], check=True)
+    made = subprocess.run(
+        [os.environ.get("RT", "rt"), "run", "--", "0", "0", "1", "1", "1", "1", "1"],
+        cwd=f"{folder}/crates/room", capture_output=True, text=True)
     connections = 2 * REQUESTS + 15 + SILENT + PLACES + 1 + 13
     words = [PORT, connections, PLACES, IDLE, WHOLE, MOST, TOGETHER]
+    if not os.path.exists(f"{folder}/crates/room/out/room"):
+        sys.exit(made.stdout + made.stderr)
     program = subprocess.Popen(
-        [os.environ.get("RT", "rt"), "try", "--", *map(str, words)],
-        cwd=f"{folder}/crates/room", stdout=subprocess.PIPE, stderr=subprocess.STDOUT, text=True)
-    seen = []
-    for line in program.stdout:
-        seen.append(line)
-        if line.startswith("listening"):
-            break
-    else:
-        sys.exit("".join(seen))
+        [f"{folder}/crates/room/out/room", *map(str, words)], stdout=subprocess.PIPE, text=True)
+    check("its first line", program.stdout.readline(), "listening\n")
     run("alone")
     counted = REQUESTS + ends() + silent() + crowd() + budget()
     check("connections", counted, connections)

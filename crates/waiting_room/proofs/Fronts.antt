@@ -1,10 +1,9 @@
 -- What a front of some bytes shows, the bytes show.
-use Rattle.std.proofs.Common.{◌≡◌, ◌≤◌, ◌<◌, ◌+◌, ◌-◌, ◌⊎◌, ℕ, List, [], ◌++◌, length, take, Result, Ok, Err}
-use Rattle.std.proofs.Common.{refl, sym, ap, ◌∙◌, subst, arith, inl, inr, append_assoc, append-nil}
+use Rattle.std.proofs.Common.{◌≡◌, ◌+◌, ◌-◌, ℕ, List, [], ◌++◌, length, take, Result, Ok, Err}
+use Rattle.std.proofs.Common.{sym, ap, ◌∙◌, subst, arith, inl, inr, append_assoc, append-nil}
 use Rattle.std.specs.Prelude.{⊤}
 use Rattle.std.proofs.Math.Seq.{take-append_seam, take-append-add}
 use Rattle.httparse.specs.Grammar.{RequestHead, ReadsRequest, HasNoRequest, print_request}
-use Rattle.httparse.specs.Spans.{RequestOverflows}
 use Rattle.httparse.proofs.GrammarLemmas.{ReadsRequest-append, request_unique}
 use Rattle.waiting_room.specs.declared.frame.LengthFault.{LengthFault}
 use Rattle.waiting_room.specs.declared.reading.End.{End}
@@ -12,7 +11,7 @@ use Rattle.waiting_room.specs.declared.reading.End.TheVariants.{Whole, Astray, C
 use Rattle.waiting_room.specs.declared.reading.End.TheVariants.{Silent, Late, Failed}
 use Rattle.waiting_room.specs.Fields.{fields_of, length_asked}
 use Rattle.waiting_room.specs.Framing.{Framing, Request, BadHead, LongHead, NoLength}
-use Rattle.waiting_room.specs.Framing.{HasHead, IsFrontOf, IsFramed, IsRequest, IsAstray, IsLongHead}
+use Rattle.waiting_room.specs.Framing.{HasHead, IsFrontOf, IsFramed, IsRequest, IsAstray}
 use Rattle.waiting_room.specs.Coming.{Comes, IsSettled}
 
 front_kept : (front bytes more : List ℕ) → IsFrontOf front bytes → IsFrontOf front (bytes ++ more)

@@ -1,5 +1,5 @@
 -- What the parts that were read make together.
-use Rattle.std.proofs.Common.{◌≡◌, ◌≢◌, ◌+◌, ◌-◌, ◌<◌, ◌≤◌, ◌⊎◌, ℕ, List, [], ◌++◌, length, take, drop}
+use Rattle.std.proofs.Common.{◌≡◌, ◌+◌, ◌-◌, ◌<◌, ◌≤◌, ℕ, List, [], ◌++◌, length, take, drop}
 use Rattle.std.proofs.Common.{Option, Ok, Err, refl, sym, ap, ◌∙◌, subst, arith, inl, inr}
 use Rattle.std.proofs.Common.{append_assoc, append-nil, length-append, length-drop, take-append-drop}
 use Rattle.std.proofs.Math.Seq.{take-append-add}
@@ -14,7 +14,7 @@ use Rattle.waiting_room.specs.declared.reading.End.{End}
 use Rattle.waiting_room.specs.declared.reading.End.TheVariants.{Whole, Astray, Closed, CutShort}
 use Rattle.waiting_room.specs.declared.reading.End.TheVariants.{Silent, Late, Failed}
 use Rattle.waiting_room.specs.Fields.{IsHeadIn}
-use Rattle.waiting_room.specs.Framing.{HasHead, IsRequest, IsBegun, IsAstray}
+use Rattle.waiting_room.specs.Framing.{HasHead, IsRequest, IsBegun}
 use Rattle.waiting_room.specs.Coming.{Comes, HeadEnds, IsStop, IsTold, IsHanded}
 
 -- the head's bytes, where it ends

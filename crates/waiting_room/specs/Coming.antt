@@ -6,7 +6,8 @@ use Rattle.waiting_room.specs.declared.source.Missed.TheVariants as missed
 use Rattle.waiting_room.specs.declared.reading.End.{End}
 use Rattle.waiting_room.specs.declared.reading.End.TheVariants.{Whole, Astray, Closed, CutShort}
 use Rattle.waiting_room.specs.declared.reading.End.TheVariants.{Silent, Late, Failed}
-use Rattle.waiting_room.specs.Framing.{IsRequest, IsAstray, IsBegun, IsBadHead, IsLongHead, IsOpenHead}
+use Rattle.waiting_room.specs.Framing.{IsRequest, IsAstray, IsBegun}
+use Rattle.waiting_room.specs.Framing.{IsBadHead, IsLongHead, IsOpenHead}
 
 -- bytes went from the front of the input to the end of the buffer
 abbrev pub IsReadInto : Option (List ℕ) → Option (List ℕ) → List ℕ → List ℕ → Type 0

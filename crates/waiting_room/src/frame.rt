@@ -1,12 +1,12 @@
 //! Where a request ends, by its own head.
 
-ghost use Rattle.std.specs.Prelude.{◌≡◌, true, ℕ, List, map, length, option_map, IfSome, IsSome, All};
+ghost use Rattle.std.specs.Prelude.{◌≡◌, ℕ, List, map, length, option_map, IfSome, IsSome, All};
 ghost use Rattle.std.specs.List.{list_all};
 ghost use Rattle.std.specs.Char.{is_ascii_digit};
 ghost use Rattle.httparse.specs.Grammar.{RequestHead};
 ghost use Rattle.httparse.specs.Spans.{IsHeaderWithin, header_bytes};
-ghost use Rattle.waiting_room.specs.Fields.{is_named, field_values, has_field, is_decimal, length_in, only};
-ghost use Rattle.waiting_room.specs.Fields.{length_asked, IsHeadIn};
+ghost use Rattle.waiting_room.specs.Fields.{is_named, field_values, has_field, is_decimal};
+ghost use Rattle.waiting_room.specs.Fields.{length_in, only, length_asked, IsHeadIn};
 ghost use Rattle.waiting_room.specs.Framing.{BeginsWithHead, Looks};
 
 use httparse::Status;
@@ -108,7 +108,7 @@ fn length_in(value: &[u8], most: u32) -> Result<u32, LengthFault>
     }
 }
 
-/// The length of the body: none is told where there is no body.
+/// The length of the body, 0 if the head tells none.
 fn length_asked(buf: &[u8], headers: &[HeaderSpan], most: u32) -> Result<u32, LengthFault>
     requires { All (IsHeaderWithin (length buf.now)) headers.now }
     ensures { result ≡ length_asked most (map (header_bytes buf.now) headers.now) }

@@ -44,6 +44,11 @@ impl Gate {
         !self.is_shut() && self.asked.fetch_add(1, Ordering::SeqCst) < self.most
     }
 
+    /// One that was admitted did not come.
+    pub(crate) fn miss(&self) {
+        self.asked.fetch_sub(1, Ordering::SeqCst);
+    }
+
     pub(crate) fn enter(&self) {
         self.inside.fetch_add(1, Ordering::SeqCst);
     }

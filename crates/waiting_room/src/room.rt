@@ -58,7 +58,7 @@ pub trait Observer {
 pub struct Ended<W> {
     /// The workers, in their order.
     pub workers: Vec<W>,
-    /// What is left of the budget, in bytes.
+    /// What is left of the budget, in bytes: all of it. None if a thread did not give its part back.
     pub left: Option<u64>,
 }
 
@@ -141,6 +141,7 @@ fn wait_at<L: Budget, M: Meaning, H: Observer, R: Wait + Clock>(
             Ok(None) => break,
             Err(error) => {
                 observer.failed(&error);
+                gate.miss();
                 if is_gone(&error) {
                     break;
                 }

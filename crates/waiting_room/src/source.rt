@@ -23,8 +23,8 @@ pub trait Source {
     /// Why the last read that gave nothing did.
     ghost missed: { Self → Option Missed };
 
-    /// Reads into a buffer, and says how many bytes; none only at the end of the input or where
-    /// the buffer is empty.
+    /// Reads into a buffer, and says how many bytes; none only at the end of the input, or if the
+    /// buffer is empty.
     fn read(&mut self, buf: &mut [u8]) -> Result<usize, Missed>
         ensures bound { IfOk result (λ n. n ≤ length buf.new) }
         ensures bytes { ReadConsumes (input self.old) (input self.new) result buf.new }

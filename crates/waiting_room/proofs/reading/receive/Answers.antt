@@ -1,4 +1,4 @@
-use Rattle.std.proofs.Common.{◌<◌, ◌≤◌, ◌+◌, List, ℕ, length, subst, sym, vec_len}
+use Rattle.std.proofs.Common.{◌<◌, ◌≤◌, ◌+◌, length, subst, sym, vec_len}
 use Rattle.waiting_room.specs.Fields.{IsHeadIn}
 use Rattle.waiting_room.specs.Coming.{HeadEnds, IsTold, IsStop, IsHanded}
 use Rattle.waiting_room.specs.declared.reading.End.TheVariants.{Whole}
