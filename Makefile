@@ -12,6 +12,7 @@ TESTS_OF := file_tests:wire,index_reader,chunk_reader,tombstones,block,block_wri
 	tests/serving.sh:guard \
 	tests/durable/run.py:keeper,event_journal,cut_schedule,folder_lock,data_folder,store_joiner \
 	tests/scraping.sh:server_metrics \
+	tests/waiting_room.py:waiting_room \
 	tests/importing.sh:imported_values,kept_samples,time_cuts,block_folder,block_outputs,open_metrics,metrics_writer,exposition,blocktool \
 	tests/pages-html.py:page_layout,page_style,page_escape,page_text,page_claims,page_marks,page,explain
 # The crate or the script with the tests of a crate, or nothing.

@@ -1,0 +1,5 @@
+pub mod FieldTexts
+pub mod Found
+pub mod HeadTexts
+pub mod ReadTexts
+pub mod Fronts

@@ -1,0 +1,4 @@
+pub mod Fields
+pub mod Framing
+pub mod Coming
+pub mod Attending
