@@ -1,0 +1,13 @@
+pub mod Admitting
+pub mod Fields
+pub mod Left
+pub mod Meaning
+pub mod Names
+pub mod Paths
+pub mod Queries
+pub mod Reading
+pub mod Refusals
+pub mod Replies
+pub mod Series
+pub mod Statuses
+pub mod Writing
