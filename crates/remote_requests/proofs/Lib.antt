@@ -1,1 +1,10 @@
 pub mod NoFloat
+pub mod Lists
+pub mod Tallies
+pub mod SampleTurns
+pub mod RowTurns
+pub mod CountTurns
+pub mod ReadTurns
+pub mod HeadLaws
+pub mod LabelTurns
+pub mod LengthTexts

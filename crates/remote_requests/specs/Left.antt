@@ -41,6 +41,11 @@ abbrev pub first_of_reasons : List LeftOut → Option LeftOut
 first_of_reasons [] = None
 first_of_reasons (why ∷ more) = Some why
 
+-- the first reason, after one more
+abbrev pub first_after : Option LeftOut → LeftOut → Option LeftOut
+first_after None why = Some why
+first_after (Some first) why = Some first
+
 -- one reason so many times
 abbrev pub times : ℕ → LeftOut → List LeftOut
 times zero why = []

@@ -1,8 +1,11 @@
 pub mod Admitting
+pub mod Counts
 pub mod Fields
+pub mod Heads
 pub mod Left
 pub mod Meaning
 pub mod Names
+pub mod NoQueries
 pub mod Paths
 pub mod Queries
 pub mod Reading

@@ -99,11 +99,3 @@ Answers rules now came (Err Lost) = IsLost came.end
 Answers rules now came (Err Memory) = ⊤
 Answers rules now came (Err (Refused refusal)) =
     HasEnded came.end × MeansUnder rules now came.bytes.now (Err refusal)
-
--- the answer is a meaning of bytes that are at hand, unless memory was refused
-abbrev pub Told : (Meaning → Type 0) → Result Asked ReadError → Type 0
-Told Means (Ok asked) = Means (Ok asked)
-Told Means (Err Closed) = ⊥
-Told Means (Err Lost) = ⊥
-Told Means (Err Memory) = ⊤
-Told Means (Err (Refused refusal)) = Means (Err refusal)

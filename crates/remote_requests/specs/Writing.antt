@@ -29,6 +29,14 @@ use Rattle.remote_requests.specs.Series.{has_row, left_of, points_in, are_few, I
 abbrev pub Meaning : Type 0
 Meaning = Result Asked Refusal
 
+-- the answer is a meaning of bytes that are at hand, unless memory was refused
+abbrev pub Told : (Meaning → Type 0) → Result Asked ReadError → Type 0
+Told Means (Ok asked) = Means (Ok asked)
+Told Means (Err Closed) = ⊥
+Told Means (Err Lost) = ⊥
+Told Means (Err Memory) = ⊤
+Told Means (Err (Refused refusal)) = Means (Err refusal)
+
 -- a fault of Snappy as a refusal; a want of memory says nothing of bytes
 abbrev pub packed : {A : Type 0} → Result A SnappyError → Result A Refusal
 packed (Ok x) = Ok x

@@ -1,7 +1,8 @@
 //! What is left out of a write before the store is asked.
 
 ghost use Rattle.std.specs.Prelude.{◌≡◌, ◌<◌, []};
-ghost use Rattle.remote_requests.specs.Left.{Adds, IsTally, counted, left_code, place_of, times};
+ghost use Rattle.remote_requests.specs.Left.{Adds, IsTally, counted, first_after, left_code};
+ghost use Rattle.remote_requests.specs.Left.{place_of, times};
 
 /// Why a sample or a histogram is left out before the store is asked: of several reasons the first
 /// in this order.
@@ -76,6 +77,15 @@ impl LeftOut {
     }
 }
 
+fn first_after(first: Option<LeftOut>, why: LeftOut) -> Option<LeftOut>
+    ensures { result ≡ first_after first why }
+{
+    match first {
+        Some(first) => Some(first),
+        None => Some(why),
+    }
+}
+
 /// How many were left out for each reason, and for which the first.
 #[derive(Clone, Copy, Drop)]
 pub struct Left {
@@ -115,9 +125,7 @@ impl Left {
         if count == 0 {
             return;
         }
-        if self.first.is_none() {
-            self.first = Some(why);
-        }
+        self.first = first_after(self.first, why);
         let place = why.place();
         self.counts[place] = self.counts[place].saturating_add(count);
     }

@@ -4,18 +4,26 @@
 //! what is [`Left`] out of them, queries to be answered, or the version of the program.
 #![tactic(auto)]
 
-mod answer;
+mod answering;
 mod asked;
+mod body;
 mod came;
+mod fields;
+mod head;
+mod label_sets;
 mod left;
 mod path;
+mod reads;
 mod refusal;
 mod reply;
+mod samples;
+mod series;
 mod status;
 
-pub use answer::answer;
+pub use answering::answer;
 pub use asked::{Asked, ReadError, Reading, Received};
 pub use came::{Came, End};
+pub use label_sets::names_metric;
 pub use left::{Left, LeftOut};
 pub use path::Path;
 pub use refusal::{BodyFault, QueryFault, Refusal};
