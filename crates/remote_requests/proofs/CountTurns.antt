@@ -86,7 +86,7 @@ points_many text all counts read is many =
     let not_few : are_few all ≡ false = sym (same_few counts all is) ∙ many in
     rw (read, not_few) refl
 
-told_past : {A B : Type 0} (e : ReadError) (read : Result A Refusal) (f : A → Result B Refusal)
+pub told_past : {A B : Type 0} (e : ReadError) (read : Result A Refusal) (f : A → Result B Refusal)
     → IsTold e read → IsTold e (read >>= f)
 told_past Closed read f p = p
 told_past Lost read f p = p

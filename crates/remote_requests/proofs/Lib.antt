@@ -8,3 +8,6 @@ pub mod ReadTurns
 pub mod HeadLaws
 pub mod LabelTurns
 pub mod LengthTexts
+pub mod WriteLaws
+pub mod QueryLaws
+pub mod HeadFronts

@@ -100,10 +100,13 @@ pub adds_none : (old new : Left) (why : LeftOut) (n : ℕ) → n ≡ 0 → new �
     → Adds old new (times n why)
 adds_none old new why n e same = rw (e, same) (adds_nothing old)
 
-pub adds_at : (old : Left) (why : LeftOut) (n v place : ℕ) → 0 < n → place ≡ place_of why
-    → place < length old.counts → v ≡ min (get_or old.counts place 0 + n) (2 ^ 64 - 1)
-    → Adds old (record { first = first_after old.first why; counts = set old.counts place v })
-    (times n why)
-adds_at old why n v place some at within is =
-    adds_many old _ why n v some (rw at at within) (rw at at is)
-    (ap (λ (p : ℕ). set old.counts p v) at) refl
+pub adds_at : (old : Left) (why : LeftOut) (first : Option LeftOut) (n v place : ℕ) → 0 < n
+    → place ≡ place_of why → place < length old.counts
+    → v ≡ min (get_or old.counts place 0 + n) (2 ^ 64 - 1) → first ≡ first_after old.first why
+    → Adds old (record { first = first; counts = set old.counts place v }) (times n why)
+adds_at old why first n v place some at within is begins =
+    let new : Left = record { first = first; counts = set old.counts place v } in
+    let here : place_of why < length old.counts = omega (arith, at, within) in
+    let value : v ≡ min (get_or old.counts (place_of why) 0 + n) (2 ^ 64 - 1) =
+    is ∙ ap (λ (p : ℕ). min (get_or old.counts p 0 + n) (2 ^ 64 - 1)) at in
+    adds_many old new why n v some here value (ap (λ (p : ℕ). set old.counts p v) at) begins

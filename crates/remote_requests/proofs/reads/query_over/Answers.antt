@@ -1,10 +1,13 @@
-use Rattle.std.proofs.Common.{◌≡◌, true, false, rules, SFits, w64}
+use Rattle.std.proofs.Common.{rules, SFits, w64, ◌∙◌}
 use Rattle.std.proofs.lemmas.Int.{to_z-of_z}
-use Rattle.std.specs.Prelude.{int_lt}
-use Rattle.requests.proofs.SelectorTexts.{no_query_error}
-use Rattle.remote_requests.specs.Queries.{from_of, to_of}
-use Rattle.remote_requests.proofs.ReadTurns.{range_is}
+use Rattle.remote_requests.proofs.ReadTurns.{no_query}
 use Rattle.remote_requests.proofs.reads.query_over.Goals as goal
 
 pub returns-in-Err : goal.returns-in-Err
-returns-in-Err c = ?
+returns-in-Err c =
+    let from_fits : SFits w64 c.from_of-from.result = search rules in
+    let to_fits : SFits w64 c.to_of-to.result = search rules in
+    absurd (no_query c.in-Err.field-0 _ _ _ _ c.args.matchers.items
+    (to_z-of_z w64 _ from_fits ∙ c.from_of-from.ensures)
+    (to_z-of_z w64 _ to_fits ∙ c.to_of-to.ensures) c.if-to-from.false c.requires
+    c.in-Err.ensures.bad_range.0 c.in-Err.ensures.too_many.0)
