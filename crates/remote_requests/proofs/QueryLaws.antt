@@ -1,6 +1,6 @@
 -- What the steps of a read give the whole.
 use Rattle.std.proofs.Common.{◌≡◌, ◌<◌, ◌≤◌, ℕ, List, length, true, false, Result, Ok, Err, refl, inl}
-use Rattle.std.proofs.Common.{inr, arith, lt-ltb, sym, ◌∙◌}
+use Rattle.std.proofs.Common.{inr, arith, lt-ltb, sym, ◌∙◌, subst}
 use Rattle.std.specs.Prelude.{nat_lt}
 use Rattle.std.specs.List.{AllZip}
 use Rattle.snappy.specs.Format.{IsStream}
@@ -73,3 +73,18 @@ from_error text all e = at (request_at text) e
     at : (r : Result (List QueryValue) fields.Refusal) → or_error r ≡ Ok all → r ≡ Ok all
     at (Ok x) same = let here : x ≡ all = cc in rw here refl
     at (Err x) same = absurd (cc)
+
+pub not_spelled_at : (body text t : List ℕ) (e : write_errors.ReadError) (told : ReadError)
+    → t ≡ text → told ≡ misspelled e → packed (text_at 1048576 body) ≡ Ok text
+    → Fails is_memory e (or_error (request_at t)) → Told (ReadMeans body) (Err told)
+not_spelled_at body text t e told same is read p =
+    subst (λ (x : ReadError). Told (ReadMeans body) (Err x)) (sym is)
+    (not_spelled body text e read
+    (subst (λ (u : List ℕ). Fails is_memory e (or_error (request_at u))) same p))
+
+pub too_many_at : (body text t : List ℕ) (all : List QueryValue) → t ≡ text
+    → packed (text_at 1048576 body) ≡ Ok text → or_error (request_at t) ≡ Ok all
+    → 64 < length all → Told (ReadMeans body) (Err (Refused TooMany))
+too_many_at body text t all same read queries many =
+    too_many_queries body text all read (from_error text all
+    (subst (λ (u : List ℕ). or_error (request_at u) ≡ Ok all) same queries)) many

@@ -11,7 +11,13 @@ use Rattle.std.proofs.lemmas.List.Sums.{sum_by-cons}
 use Rattle.labels.specs.Labels.{Labels}
 use Rattle.labels.specs.LabelSets.{IsMadeOf}
 use Rattle.labels.specs.Rows.{Row}
+use Rattle.std.proofs.Common.{Result, Ok, Err, take, get_or}
 use Rattle.remote_write.specs.Format.{SampleValue, SeriesValue}
+use Rattle.remote_write.specs.Reading.{label_seen, sample_seen, series_seen}
+use Rattle.remote_write.specs.declared.label.Label.{Label}
+use Rattle.remote_write.specs.declared.sample.Sample.{Sample}
+use Rattle.remote_write.specs.declared.series.Series.{Series}
+use Rattle.remote_requests.specs.declared.asked.Received.{Received}
 use Rattle.remote_requests.specs.declared.left.Left.{Left}
 use Rattle.remote_requests.specs.declared.left.LeftOut.{LeftOut}
 use Rattle.remote_requests.specs.declared.left.LeftOut.TheVariants as reasons
@@ -19,8 +25,9 @@ use Rattle.remote_requests.specs.Left.{Adds, IsTally, times}
 use Rattle.remote_requests.specs.Series.{time_refused, times_refused, kept_of, samples_refused}
 use Rattle.remote_requests.specs.Series.{reason_before, series_refused, left_of, has_row}
 use Rattle.remote_requests.specs.Series.{labels_refused, label_pairs, points_of, points_in, labels_in}
-use Rattle.remote_requests.specs.Series.{are_few, IsSampleOf, IsRowOf, IsRowIn}
-use Rattle.remote_requests.proofs.Lists.{zip_more, zip_length}
+use Rattle.remote_requests.specs.Series.{are_few, IsSampleOf, IsRowOf, IsRowIn, IsLabelled}
+use Rattle.remote_requests.specs.Writing.{IsReceived}
+use Rattle.remote_requests.proofs.Lists.{zip_more, zip_length, map_turn, map_end}
 use Rattle.remote_requests.proofs.Tallies.{adds_nothing, adds_then, length-times}
 
 -- labels that are none
@@ -134,3 +141,78 @@ told now all old new few none left =
     let points = and_parts (nat_le (length all) 65536) (nat_le (points_in all) 65536) parts.0 in
     let most : points_in all ≤ 65536 = leb-true (points_in all) 65536 points.1 in
     left [] (omega (arith, most, left-length now all)) none
+
+pub row_none : (a now : ℤ) (s : Series) (ls : List Label) (ss : List Sample) (labels : Labels)
+    (kept : List (ℤ × ℤ)) → a ≡ now → ls ≡ s.labels.items → ss ≡ s.samples.items
+    → IsLabelled (label_pairs (map label_seen ls)) (Ok labels)
+    → AllZip IsSampleOf (kept_of a (map sample_seen ss)) kept → length kept ≡ 0
+    → has_row now (series_seen s) ≡ false
+row_none a now s ls ss labels kept same same_labels same_samples labelled each none =
+    let set = subst (λ (l : List Label). IsLabelled (label_pairs (map label_seen l)) (Ok labels))
+    same_labels labelled in
+    let here = subst (λ (z : ℤ). AllZip IsSampleOf (kept_of z (map sample_seen ss)) kept) same each
+    in
+    let all = subst (λ (l : List Sample). AllZip IsSampleOf (kept_of now (map sample_seen l)) kept)
+    same_samples here in
+    no_row_by_samples now (series_seen s) kept set.0 all none
+
+pub row_some : (a now : ℤ) (s : Series) (ls : List Label) (ss : List Sample) (labels : Labels)
+    (kept : List (ℤ × ℤ)) (row : Row) → a ≡ now → ls ≡ s.labels.items → ss ≡ s.samples.items
+    → IsLabelled (label_pairs (map label_seen ls)) (Ok labels)
+    → AllZip IsSampleOf (kept_of a (map sample_seen ss)) kept → 0 < length kept
+    → row ≡ (labels, kept) → IsRowIn now (series_seen s) (Some row)
+row_some a now s ls ss labels kept row same same_labels same_samples labelled each some is =
+    let set = subst (λ (l : List Label). IsLabelled (label_pairs (map label_seen l)) (Ok labels))
+    same_labels labelled in
+    let here = subst (λ (z : ℤ). AllZip IsSampleOf (kept_of z (map sample_seen ss)) kept) same each
+    in
+    let all = subst (λ (l : List Sample). AllZip IsSampleOf (kept_of now (map sample_seen l)) kept)
+    same_samples here in
+    subst (λ (r : Row). IsRowIn now (series_seen s) (Some r)) (sym is)
+    (row_of_both now (series_seen s) labels kept set.0 set.1 all some)
+
+pub row_left : (a now : ℤ) (s : SeriesValue) (old mid new : Left) → a ≡ now
+    → Adds old mid (samples_refused a (labels_refused (label_pairs s.labels)) s.samples)
+    → Adds mid new (times s.histograms reasons.Histogram) → Adds old new (series_refused now s)
+row_left a now s old mid new same samples histograms =
+    let here = subst (λ (z : ℤ). Adds old mid (samples_refused z
+    (labels_refused (label_pairs s.labels)) s.samples)) same samples in
+    adds_then old mid new (samples_refused now (labels_refused (label_pairs s.labels)) s.samples)
+    (times s.histograms reasons.Histogram) here histograms
+
+pub some_turn : (now : ℤ) (xs : List Series) (i : ℕ) (x d : Series) (rows next : List Row)
+    (old mid new : Left) (o : Option Row) (row : Row) → i < length xs → x ≡ get_or xs i d
+    → RowsSoFar now (map series_seen (take i xs)) rows old mid → IsRowIn now (series_seen x) o
+    → o ≡ Some row → next ≡ rows ++ row ∷ []
+    → Adds mid new (series_refused now (series_seen x))
+    → RowsSoFar now (map series_seen (take (i + 1) xs)) next old new
+some_turn now xs i x d rows next old mid new o row lt at so_far is some e left =
+    rw (map_turn series_seen xs i x d lt at, e) (one_row now (map series_seen (take i xs)) rows old
+    mid new (series_seen x) row so_far
+    (subst (λ (r : Option Row). IsRowIn now (series_seen x) r) some is) left)
+
+pub none_turn : (now : ℤ) (xs : List Series) (i : ℕ) (x d : Series) (rows next : List Row)
+    (old mid new : Left) (o : Option Row) → i < length xs → x ≡ get_or xs i d
+    → RowsSoFar now (map series_seen (take i xs)) rows old mid → IsRowIn now (series_seen x) o
+    → o ≡ None → next ≡ rows → Adds mid new (series_refused now (series_seen x))
+    → RowsSoFar now (map series_seen (take (i + 1) xs)) next old new
+none_turn now xs i x d rows next old mid new o lt at so_far is none e left =
+    rw (map_turn series_seen xs i x d lt at, e) (no_row now (map series_seen (take i xs)) rows old
+    mid new (series_seen x) so_far
+    (subst (λ (r : Option Row). IsRowIn now (series_seen x) r) none is) left)
+
+pub all_received : (a now : ℤ) (xs : List Series) (i : ℕ) (received : Received) (none : Left)
+    → a ≡ now → length xs ≤ i → are_few (map series_seen xs) ≡ true
+    → received.of ≡ points_in (map series_seen xs) → IsTally none []
+    → RowsSoFar a (map series_seen (take i xs)) received.rows.items none received.left
+    → IsReceived now (map series_seen xs) received
+all_received a now xs i received none same end few of nothing so_far =
+    let all = subst (λ (seen : List SeriesValue). RowsSoFar a seen received.rows.items none
+    received.left) (map_end series_seen xs i end) so_far in
+    let here = subst (λ (z : ℤ). RowsSoFar z (map series_seen xs) received.rows.items none
+    received.left) same all in
+    record {
+      rows = here.each;
+      left = told now (map series_seen xs) none received.left few nothing here.left;
+      of = of;
+    }

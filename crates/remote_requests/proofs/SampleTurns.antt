@@ -14,7 +14,7 @@ use Rattle.remote_requests.specs.declared.left.LeftOut.{LeftOut}
 use Rattle.remote_requests.specs.Left.{Adds, times}
 use Rattle.remote_requests.specs.Series.{time_refused, times_refused, kept_of, is_kept}
 use Rattle.remote_requests.specs.Series.{reason_before, IsSampleOf}
-use Rattle.remote_requests.proofs.Lists.{zip_more}
+use Rattle.remote_requests.proofs.Lists.{zip_more, map_turn, map_end}
 use Rattle.remote_requests.proofs.Tallies.{adds_then}
 
 reason-append : (why : Option LeftOut) (xs ys : List LeftOut)
@@ -66,3 +66,31 @@ one_left now seen kept old mid new s why so_far some is = record {
       subst (Adds old new) (sym grown) (adds_then old mid new (times_refused now seen)
       (times 1 why) so_far.left is);
 }
+
+pub keep_turn : (now : ℤ) (xs : List Sample) (i : ℕ) (x d : Sample) (kept next : List (ℤ × ℤ))
+    (k : ℤ × ℤ) (old mid new : Left) → i < length xs → x ≡ get_or xs i d
+    → SoFar now (map sample_seen (take i xs)) kept old mid
+    → time_refused now (sample_seen x) ≡ None → IsSampleOf (sample_seen x) k
+    → next ≡ kept ++ k ∷ [] → new ≡ mid
+    → SoFar now (map sample_seen (take (i + 1) xs)) next old new
+keep_turn now xs i x d kept next k old mid new lt at so_far none is e same =
+    rw (map_turn sample_seen xs i x d lt at, e, same) (one_kept now
+    (map sample_seen (take i xs)) kept old mid (sample_seen x) k so_far none is)
+
+pub leave_turn : (now : ℤ) (xs : List Sample) (i : ℕ) (x d : Sample) (kept next : List (ℤ × ℤ))
+    (why : LeftOut) (old mid added new : Left) → i < length xs → x ≡ get_or xs i d
+    → SoFar now (map sample_seen (take i xs)) kept old mid
+    → time_refused now (sample_seen x) ≡ Some why → Adds mid added (times 1 why)
+    → next ≡ kept → new ≡ added
+    → SoFar now (map sample_seen (take (i + 1) xs)) next old new
+leave_turn now xs i x d kept next why old mid added new lt at so_far some is e same =
+    rw (map_turn sample_seen xs i x d lt at, e, same) (one_left now
+    (map sample_seen (take i xs)) kept old mid added (sample_seen x) why so_far some is)
+
+pub all_left : (a now : ℤ) (xs : List Sample) (i : ℕ) (kept : List (ℤ × ℤ)) (old new : Left)
+    → a ≡ now → length xs ≤ i → SoFar a (map sample_seen (take i xs)) kept old new
+    → Adds old new (times_refused now (map sample_seen xs))
+all_left a now xs i kept old new same end so_far =
+    subst (λ (z : ℤ). Adds old new (times_refused z (map sample_seen xs))) same
+    (subst (λ (seen : List SampleValue). Adds old new (times_refused a seen))
+    (map_end sample_seen xs i end) so_far.left)

@@ -11,8 +11,8 @@ use Rattle.remote_requests.proofs.body.counts_of.Goals as goal
 pub returns-in-Ok-None : goal.returns-in-Ok-None
 returns-in-Ok-None c =
     let so_far = c.loop-after.invariant in
-    (so_far.0, from_nothing c.args.text.now ∙ so_far.2 ∙ c.in-Ok-None.ensures.exact so_far.0,
-    so_far.1)
+    let ends = rw c.in-Ok-None.field-0-is at c.in-Ok-None.ensures.exact in
+    (so_far.0, from_nothing c.args.text.now ∙ so_far.2 ∙ ends so_far.0, so_far.1)
 
 pub returns-in-Err : goal.returns-in-Err
 returns-in-Err c =

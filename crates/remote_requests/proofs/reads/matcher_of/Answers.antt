@@ -1,4 +1,5 @@
-use Rattle.std.proofs.Common.{◌≡◌, ◌<◌, ◌∙◌, ℕ, List, true, false, length, sym, subst}
+use Rattle.std.proofs.Common.{◌≡◌, ◌<◌, ◌∙◌, ℕ, List, true, false, length, sym, subst, ap}
+use Rattle.std.proofs.Common.{Err}
 use Rattle.labels.specs.Names.{is_name}
 use Rattle.matchers.specs.Patterns.{IsRefusedPattern}
 use Rattle.remote_read.specs.Reading.{matcher_seen}
@@ -28,17 +29,26 @@ returns-in-Err-BadName c =
     ((c.in-Some.op, sym c.in-Some.ensures),
     both_texts _ _ c.in-Ok.ensures.cases.1 c.in-Ok-from_utf8.ensures.cases.1,
     subst (λ (n : List ℕ). is_name n ≡ false) same
-    (c.in-Err-BadName.ensures.bad_name.0 c.in-Err-BadName.field-0-is))
+    (c.in-Err-BadName.ensures.bad_name.0 (ap Err c.in-Err-BadName.field-0-is)))
 
 pub returns-in-Err-PatternTooLong : goal.returns-in-Err-PatternTooLong
 returns-in-Err-PatternTooLong c =
     let same = c.in_ok-name.ensures.ok ∙ c.in-Ok.ensures.cases.0 in
     let text = c.in_ok-text.ensures.ok ∙ c.in-Ok-from_utf8.ensures.cases.0 in
-    let long = c.in-Err-PatternTooLong.ensures.too_long.0 c.in-Err-PatternTooLong.field-0-is in
+    let long = c.in-Err-PatternTooLong.ensures.too_long.0
+    (ap Err c.in-Err-PatternTooLong.field-0-is) in
     (asks_pattern (matcher_seen c.args.sent.now) c.in-Some.op c.in-Some.ensures long.1
     c.in-Ok.ensures.cases.1 c.in-Ok-from_utf8.ensures.cases.1
     (subst (λ (n : List ℕ). is_name n ≡ true) same long.0),
     subst (λ (t : List ℕ). 256 < length t) text long.2)
 
 pub returns-in-Err-PatternRefused : goal.returns-in-Err-PatternRefused
-returns-in-Err-PatternRefused c = ?
+returns-in-Err-PatternRefused c =
+    let same = c.in_ok-name.ensures.ok ∙ c.in-Ok.ensures.cases.0 in
+    let text = c.in_ok-text.ensures.ok ∙ c.in-Ok-from_utf8.ensures.cases.0 in
+    let is = c.in-Err-PatternRefused.ensures.refused (ap Err c.in-Err-PatternRefused.field-0-is) in
+    (asks_pattern (matcher_seen c.args.sent.now) c.in-Some.op c.in-Some.ensures is.0
+    c.in-Ok.ensures.cases.1 c.in-Ok-from_utf8.ensures.cases.1
+    (subst (λ (n : List ℕ). is_name n ≡ true) same (true_from_ne_false (is_name _)
+    (λ e. bad_name_is_not c e))),
+    subst IsRefusedPattern text is.1)
