@@ -5,11 +5,13 @@ use Rattle.std.proofs.Common.{Err, IsErrOf, IsUtf8, subst}
 use Rattle.std.specs.List.{AllZip}
 use Rattle.std.specs.Prelude.{int_lt, pos, negsuc, ◌&&◌, if◌then◌else◌}
 use Rattle.std.specs.Str.{is_utf8}
-use Rattle.std.proofs.lemmas.Bool.{false_from_ne_true}
+use Rattle.std.proofs.lemmas.Bool.{false_from_ne_true, true_from_ne_false}
 use Rattle.std.proofs.lemmas.Str.{IsUtf8-from_is_utf8, is_utf8-from_IsUtf8}
 use Rattle.labels.specs.Names.{is_name}
 use Rattle.matchers.specs.Patterns.{IsPattern}
 use Rattle.matchers.specs.Satisfies.{takes_pattern}
+use Rattle.matchers.specs.declared.error.MatcherError.{MatcherError}
+use Rattle.matchers.specs.declared.error.MatcherError.TheVariants.{BadName, PatternRefused}
 use Rattle.matchers.specs.declared.error.QueryError.{QueryError}
 use Rattle.matchers.specs.declared.error.QueryError.TheVariants.{BadRange, TooManyMatchers}
 use Rattle.matchers.specs.declared.matcher.Op.{Op}
@@ -145,3 +147,13 @@ asks_pattern sent op kind takes name_text value_text named = record {
   texts = both_texts sent.name sent.value name_text value_text;
   named = named;
 }
+
+differ : (e : MatcherError) → e ≡ PatternRefused → IsErrOf {T = MatcherView} (Err e) BadName → ⊥
+differ e is bad = let same : e ≡ BadName = cc in absurd (cc (is, same))
+
+-- a name that was not refused
+pub named_at : (e : MatcherError) (name : List ℕ) → e ≡ PatternRefused
+    → (is_name name ≡ false → IsErrOf {T = MatcherView} (Err e) BadName) → is_name name ≡ true
+named_at e name is refused =
+    true_from_ne_false (is_name name)
+    (λ f. absurd (differ e is (refused f)))

@@ -1,10 +1,10 @@
 use Rattle.std.proofs.Common.{◌≡◌, ◌<◌, ◌∙◌, ℕ, List, true, false, length, sym, subst, ap}
-use Rattle.std.proofs.Common.{Err}
+use Rattle.std.proofs.Common.{Err, string_bytes}
 use Rattle.labels.specs.Names.{is_name}
 use Rattle.matchers.specs.Patterns.{IsRefusedPattern}
 use Rattle.remote_read.specs.Reading.{matcher_seen}
 use Rattle.remote_requests.proofs.ReadTurns.{name_fault, value_fault, both_texts, matcher_made}
-use Rattle.remote_requests.proofs.ReadTurns.{asks_pattern}
+use Rattle.remote_requests.proofs.ReadTurns.{asks_pattern, named_at}
 use Rattle.remote_requests.proofs.reads.matcher_of.Goals as goal
 
 pub returns-in_default-from_utf8 : goal.returns-in_default-from_utf8
@@ -49,6 +49,7 @@ returns-in-Err-PatternRefused c =
     let is = c.in-Err-PatternRefused.ensures.refused (ap Err c.in-Err-PatternRefused.field-0-is) in
     (asks_pattern (matcher_seen c.args.sent.now) c.in-Some.op c.in-Some.ensures is.0
     c.in-Ok.ensures.cases.1 c.in-Ok-from_utf8.ensures.cases.1
-    (subst (λ (n : List ℕ). is_name n ≡ true) same (true_from_ne_false (is_name _)
-    (λ e. bad_name_is_not c e))),
+    (subst (λ (n : List ℕ). is_name n ≡ true) same (named_at c.in-Err-PatternRefused.field-0
+    (string_bytes c.in_ok-name.name)
+    c.in-Err-PatternRefused.field-0-is c.in-Err-PatternRefused.ensures.bad_name.1)),
     subst IsRefusedPattern text is.1)
