@@ -56,9 +56,11 @@ same_le n have most small e = grind (arith, nat_tests)
 pub same_few : (counts : Counts) (all : List SeriesValue) → AreCounts counts all
     → has_few counts ≡ are_few all
 same_few counts all is =
-    rw (same_le (length all) counts.series 65536 (omega arith) is.series,
-    same_le (points_in all) counts.points 65536 (omega arith) is.points,
-    same_le (labels_in all) counts.labels 1048576 (omega arith) is.labels) refl
+    rw (
+      same_le (length all) counts.series 65536 (omega arith) is.series,
+      same_le (points_in all) counts.points 65536 (omega arith) is.points,
+      same_le (labels_in all) counts.labels 1048576 (omega arith) is.labels,
+    ) refl
 
 -- few counts are exact
 few_exact : (n have : ℕ) → nat_le have 65536 ≡ true → have ≡ min n (2 ^ 64 - 1) → have ≡ n

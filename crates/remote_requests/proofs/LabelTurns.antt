@@ -74,13 +74,14 @@ pairs_turn xs i x d old new name value lt at so_far texts e same_name same_value
     let more = pairs_more xs i x d lt at in
     let pair : (string_bytes name, string_bytes value) ≡ label_pair (label_seen x) = cc in
     let grown : pairs_of new ≡ pairs_of old ++ (string_bytes name, string_bytes value) ∷ [] =
-    rw (e, map-append) in
-    (grown ∙ ap (λ (ps : List (List ℕ × List ℕ)). ps ++ (string_bytes name, string_bytes value)
-    ∷ []) so_far
-    ∙ ap (λ (p : List ℕ × List ℕ). label_pairs (map label_seen (take i xs)) ++ p ∷ []) pair
-    ∙ sym more,
-    rw more (texts_more (label_pairs (map label_seen (take i xs))) (label_pair (label_seen x)) texts
-    (both_texts x.name.now x.value.now text other)))
+    rw (e, map-append) in (
+      grown ∙ ap (λ (ps : List (List ℕ × List ℕ)). ps ++ (string_bytes name, string_bytes value)
+          ∷ []) so_far
+          ∙ ap (λ (p : List ℕ × List ℕ). label_pairs (map label_seen (take i xs)) ++ p ∷ []) pair
+          ∙ sym more,
+      rw more (texts_more (label_pairs (map label_seen (take i xs))) (label_pair (label_seen x)) texts
+          (both_texts x.name.now x.value.now text other)),
+    )
 
 at_refusal : (pairs : List (List ℕ × List ℕ)) → nat_lt 65536 (bytes_in pairs) ≡ false
     → list_all is_text_pair pairs ≡ true
@@ -96,9 +97,11 @@ set_at : (pairs : List (List ℕ × List ℕ)) (set : Labels) (r : Option LabelE
     → (pairs_refused r pairs ≡ (if names_metric set then None else Some reasons.BadMetric))
     × IsMadeOf set pairs
 set_at pairs set (Some e) refused made = absurd (cc)
-set_at pairs set None refused made =
-    (ap (λ (text : List ℕ). if may_name_metric text then None else Some reasons.BadMetric)
-    (sym (made.values (codes "__name__"))), made)
+set_at pairs set None refused made = (
+  ap (λ (text : List ℕ). if may_name_metric text then None else Some reasons.BadMetric)
+      (sym (made.values (codes "__name__"))),
+  made,
+)
 
 -- the set of labels that name a metric or none
 pub set_made : (texts pairs : List (List ℕ × List ℕ)) (set : Labels) → texts ≡ pairs
@@ -110,9 +113,11 @@ set_made texts pairs set same short all refused made metric =
     in
     let m = subst (λ (q : List (List ℕ × List ℕ)). IfNone (refusal_of q) (IsMadeOf set q)) same made
     in
-    let at = set_at pairs set (refusal_of pairs) r m in
-    (at_refusal pairs (sym short) all ∙ at.0
-    ∙ ap (λ (b : Bool). if b then None else Some reasons.BadMetric) (sym metric), at.1)
+    let at = set_at pairs set (refusal_of pairs) r m in (
+      at_refusal pairs (sym short) all ∙ at.0
+          ∙ ap (λ (b : Bool). if b then None else Some reasons.BadMetric) (sym metric),
+      at.1,
+    )
 
 -- of labels that name none
 pub set_unnamed : (texts pairs : List (List ℕ × List ℕ)) (set : Labels) → texts ≡ pairs

@@ -84,8 +84,11 @@ cut_high end false e = e
 pub range_is : (start end : ℤ) → int_lt (to_of end) (from_of start) ≡ false
     → is_query_range (from_of start) (to_of end) ≡ true
 range_is start end e =
-    rw (cut_low start (int_lt start (negsuc 4611686018427387903)) refl, e,
-    cut_high end (int_lt (pos 4611686018427387903) end) refl) refl
+    rw (
+      cut_low start (int_lt start (negsuc 4611686018427387903)) refl,
+      e,
+      cut_high end (int_lt (pos 4611686018427387903) end) refl,
+    ) refl
 
 pub no_query : (e : QueryError) (a b start end : ℤ) (ms : List MatcherView) → a ≡ from_of start
     → b ≡ to_of end → int_lt b a ≡ false → length ms ≤ 16

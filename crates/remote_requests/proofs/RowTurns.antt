@@ -93,8 +93,12 @@ pub no_row : (now : ℤ) (seen : List SeriesValue) (rows : List Row) (old mid ne
 no_row now seen rows old mid new s so_far is left = record {
   each =
       let none : filter (has_row now) (s ∷ []) ≡ [] = rw is refl in
-      rw (filter-append (has_row now) seen (s ∷ []), none, append-nil
-      (filter (has_row now) seen)) so_far.each;
+      rw (
+        filter-append (has_row now) seen (s ∷ []),
+        none,
+        append-nil
+            (filter (has_row now) seen),
+      ) so_far.each;
   left = left_more now seen rows old mid new s so_far left;
 }
 

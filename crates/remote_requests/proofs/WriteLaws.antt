@@ -46,9 +46,11 @@ pub written : (now : ℤ) (body text : List ℕ) (all : List SeriesValue) (of : 
     → request_at text ≡ Ok all → points_at text ≡ Ok of → IsReceived now all received
     → WriteMeans now body (Ok (Write received))
 written now body text all of received stream short request read points is =
-    let back = points_back text all of read points in
-    (all, record { text = text; stream = stream; short = short; request = request; few = back.0 },
-    is)
+    let back = points_back text all of read points in (
+      all,
+      record { text = text; stream = stream; short = short; request = request; few = back.0 },
+      is,
+    )
 
 pub points_both : (a b text : List ℕ) (all : List SeriesValue) (of : ℕ) → a ≡ text → b ≡ text
     → request_at a ≡ Ok all → points_at b ≡ Ok of → (are_few all ≡ true) × (of ≡ points_in all)

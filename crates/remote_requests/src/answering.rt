@@ -57,12 +57,7 @@ fn post_asked(
     }
 }
 
-fn path_asked(
-    alloc: Global,
-    now: i64,
-    head: &Head<'_>,
-    rest: &[u8],
-) -> Result<Asked, ReadError>
+fn path_asked(alloc: Global, now: i64, head: &Head<'_>, rest: &[u8]) -> Result<Asked, ReadError>
     ensures { Told (PathMeans head.now.path head.now.length head.now.form now rest.now) result }
 {
     match head.path {
@@ -95,12 +90,7 @@ fn asked(alloc: Global, rules: &Rules, now: i64, bytes: &[u8]) -> Result<Asked, 
 /// token is asked of writes alone, and where nothing changes the store, writes alone are refused.
 /// It takes memory for the text of the body, at most 16,777,216 bytes, and for what is asked, and
 /// time linear in both but for the patterns of a read.
-pub fn answer(
-    alloc: Global,
-    rules: &Rules,
-    now: i64,
-    came: Came<'_>,
-) -> Result<Asked, ReadError>
+pub fn answer(alloc: Global, rules: &Rules, now: i64, came: Came<'_>) -> Result<Asked, ReadError>
     ensures { Answers rules.now now came.entry result }
 {
     match came.end {

@@ -86,7 +86,10 @@ fn text_pairs(
         let Ok(value) = simdutf8::compat::from_utf8(label.value) else {
             return Ok(None);
         };
-        pairs.push((String::from_str(alloc, name)?, String::from_str(alloc, value)?))?;
+        pairs.push((
+            String::from_str(alloc, name)?,
+            String::from_str(alloc, value)?,
+        ))?;
     }
     Ok(Some(pairs))
 }

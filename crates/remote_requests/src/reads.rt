@@ -88,10 +88,7 @@ fn matcher_of(alloc: Global, sent: &remote_read::Matcher<'_>) -> Result<Matcher,
     }
 }
 
-fn matchers_of(
-    alloc: Global,
-    sent: &[remote_read::Matcher<'_>],
-) -> Result<Vec<Matcher>, NoQuery>
+fn matchers_of(alloc: Global, sent: &[remote_read::Matcher<'_>]) -> Result<Vec<Matcher>, NoQuery>
     ensures { MatchResult result
         (λ v. AllZip IsMatcherOf (map matcher_seen sent.now) v.items)
         (OrMemory (HasMatcherFault (map matcher_seen sent.now))) }
@@ -148,10 +145,7 @@ fn reading_of(alloc: Global, sent: &remote_read::Query<'_>) -> Result<Reading, N
     })
 }
 
-fn readings_of(
-    alloc: Global,
-    sent: &[remote_read::Query<'_>],
-) -> Result<Vec<Reading>, NoQuery>
+fn readings_of(alloc: Global, sent: &[remote_read::Query<'_>]) -> Result<Vec<Reading>, NoQuery>
     ensures { MatchResult result
         (λ v. AllZip IsReadingOf (map query_seen sent.now) v.items)
         (OrMemory (HasQueryFault (map query_seen sent.now))) }

@@ -88,9 +88,11 @@ fn is_up(row: &Row) -> bool {
 fn a_write_is_a_row(rt: HostRuntime) -> Result<(), Fail> {
     let bytes = write_of(rt.alloc(), "", UP)?;
     let asked = asked(rt.alloc(), &Rules::none(), bytes.as_slice())?;
-    assert!(rt; matches!(&asked, Asked::Write(received)
+    assert!(rt;
+        matches!(&asked, Asked::Write(received)
         if received.rows.len() == 1 && is_up(&received.rows[0])
-            && received.left.first().is_none() && received.of == 1));
+            && received.left.first().is_none() && received.of == 1)
+    );
     Ok(())
 }
 
@@ -110,8 +112,10 @@ fn is_cut(reading: &Reading) -> bool {
 fn a_range_is_cut_to_the_times_of_a_store(rt: HostRuntime) -> Result<(), Fail> {
     let bytes = read_of(rt.alloc(), SERIES)?;
     let asked = asked(rt.alloc(), &Rules::none(), bytes.as_slice())?;
-    assert!(rt; matches!(&asked, Asked::Read(readings)
-        if readings.len() == 1 && readings[0].names_alone && is_cut(&readings[0])));
+    assert!(rt;
+        matches!(&asked, Asked::Read(readings)
+        if readings.len() == 1 && readings[0].names_alone && is_cut(&readings[0]))
+    );
     Ok(())
 }
 

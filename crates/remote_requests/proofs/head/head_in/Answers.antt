@@ -14,10 +14,10 @@ returns-in-Never-clause-err c =
 pub returns-after-most-lt-MAX_HEAD-clause-err : goal.returns-after-most-lt-MAX_HEAD-clause-err
 returns-after-most-lt-MAX_HEAD-clause-err c =
     elim c.if-most-lt-MAX_HEAD.branch [
-      then-most-lt-MAX_HEAD w ↦
+      | then-most-lt-MAX_HEAD w ↦
           rw w.result-is (ends_early c.args.bytes.now c.min-most.result c.min-most.ensures
           c.requires w.if-most-lt-MAX_HEAD.true c.in-More.ensures.0)
-    | else-most-lt-MAX_HEAD w ↦
+      | else-most-lt-MAX_HEAD w ↦
           rw w.result-is (too_long c.args.bytes.now c.min-most.result c.min-most.ensures
           w.if-most-lt-MAX_HEAD.false c.in-More.ensures.0 c.in-More.ensures.1)
     ]

@@ -12,9 +12,10 @@ returns-in_default-from_utf8 c =
     ((c.in-Some.op, sym c.in-Some.ensures), name_fault _ _ c.in_default-from_utf8.ensures.cases.0)
 
 pub returns-in_default-from_utf8-2 : goal.returns-in_default-from_utf8-2
-returns-in_default-from_utf8-2 c =
-    ((c.in-Some.op, sym c.in-Some.ensures),
-    value_fault _ _ c.in-Ok.ensures.cases.1 c.in_default-from_utf8-2.ensures.cases.0)
+returns-in_default-from_utf8-2 c = (
+  (c.in-Some.op, sym c.in-Some.ensures),
+  value_fault _ _ c.in-Ok.ensures.cases.1 c.in_default-from_utf8-2.ensures.cases.0,
+)
 
 pub returns-in-Ok-new : goal.returns-in-Ok-new
 returns-in-Ok-new c =
@@ -25,31 +26,34 @@ returns-in-Ok-new c =
 
 pub returns-in-Err-BadName : goal.returns-in-Err-BadName
 returns-in-Err-BadName c =
-    let same = c.in_ok-name.ensures.ok ∙ c.in-Ok.ensures.cases.0 in
-    ((c.in-Some.op, sym c.in-Some.ensures),
-    both_texts _ _ c.in-Ok.ensures.cases.1 c.in-Ok-from_utf8.ensures.cases.1,
-    subst (λ (n : List ℕ). is_name n ≡ false) same
-    (c.in-Err-BadName.ensures.bad_name.0 (ap Err c.in-Err-BadName.field-0-is)))
+    let same = c.in_ok-name.ensures.ok ∙ c.in-Ok.ensures.cases.0 in (
+      (c.in-Some.op, sym c.in-Some.ensures),
+      both_texts _ _ c.in-Ok.ensures.cases.1 c.in-Ok-from_utf8.ensures.cases.1,
+      subst (λ (n : List ℕ). is_name n ≡ false) same
+          (c.in-Err-BadName.ensures.bad_name.0 (ap Err c.in-Err-BadName.field-0-is)),
+    )
 
 pub returns-in-Err-PatternTooLong : goal.returns-in-Err-PatternTooLong
 returns-in-Err-PatternTooLong c =
     let same = c.in_ok-name.ensures.ok ∙ c.in-Ok.ensures.cases.0 in
     let text = c.in_ok-text.ensures.ok ∙ c.in-Ok-from_utf8.ensures.cases.0 in
     let long = c.in-Err-PatternTooLong.ensures.too_long.0
-    (ap Err c.in-Err-PatternTooLong.field-0-is) in
-    (asks_pattern (matcher_seen c.args.sent.now) c.in-Some.op c.in-Some.ensures long.1
-    c.in-Ok.ensures.cases.1 c.in-Ok-from_utf8.ensures.cases.1
-    (subst (λ (n : List ℕ). is_name n ≡ true) same long.0),
-    subst (λ (t : List ℕ). 256 < length t) text long.2)
+    (ap Err c.in-Err-PatternTooLong.field-0-is) in (
+      asks_pattern (matcher_seen c.args.sent.now) c.in-Some.op c.in-Some.ensures long.1
+          c.in-Ok.ensures.cases.1 c.in-Ok-from_utf8.ensures.cases.1
+          (subst (λ (n : List ℕ). is_name n ≡ true) same long.0),
+      subst (λ (t : List ℕ). 256 < length t) text long.2,
+    )
 
 pub returns-in-Err-PatternRefused : goal.returns-in-Err-PatternRefused
 returns-in-Err-PatternRefused c =
     let same = c.in_ok-name.ensures.ok ∙ c.in-Ok.ensures.cases.0 in
     let text = c.in_ok-text.ensures.ok ∙ c.in-Ok-from_utf8.ensures.cases.0 in
-    let is = c.in-Err-PatternRefused.ensures.refused (ap Err c.in-Err-PatternRefused.field-0-is) in
-    (asks_pattern (matcher_seen c.args.sent.now) c.in-Some.op c.in-Some.ensures is.0
-    c.in-Ok.ensures.cases.1 c.in-Ok-from_utf8.ensures.cases.1
-    (subst (λ (n : List ℕ). is_name n ≡ true) same (named_at c.in-Err-PatternRefused.field-0
-    (string_bytes c.in_ok-name.name)
-    c.in-Err-PatternRefused.field-0-is c.in-Err-PatternRefused.ensures.bad_name.1)),
-    subst IsRefusedPattern text is.1)
+    let is = c.in-Err-PatternRefused.ensures.refused (ap Err c.in-Err-PatternRefused.field-0-is) in (
+      asks_pattern (matcher_seen c.args.sent.now) c.in-Some.op c.in-Some.ensures is.0
+          c.in-Ok.ensures.cases.1 c.in-Ok-from_utf8.ensures.cases.1
+          (subst (λ (n : List ℕ). is_name n ≡ true) same (named_at c.in-Err-PatternRefused.field-0
+          (string_bytes c.in_ok-name.name)
+          c.in-Err-PatternRefused.field-0-is c.in-Err-PatternRefused.ensures.bad_name.1)),
+      subst IsRefusedPattern text is.1,
+    )

@@ -7,14 +7,14 @@ use Rattle.remote_requests.proofs.series.received.Goals.{in-Some+in_ok-push, in_
 pub loop-series-preserved : goal.loop-series-preserved
 loop-series-preserved c =
     elim c.match-branch-2.branch [
-      in-Some+in_ok-push w ↦
+      | in-Some+in_ok-push w ↦
           some_turn (to_z w64 (of_z w64 c.args.now)) c.args.all.now c.loop-series.series-index
           c.series-item.result _ c.loop-series.rows.items c.match-branch-2.rows.items
           c.none-left.result c.loop-series.left c.row_of.new.left c.in_ok-row.field-0
           w.in-Some.row c.loop-series-test.true c.series-item.is c.loop-series.invariant
           c.in_ok-row.ensures.row w.in-Some.is (rw w.rows-is w.in_ok-push.ensures.items)
           c.in_ok-row.ensures.left
-    | in_default w ↦
+      | in_default w ↦
           none_turn (to_z w64 (of_z w64 c.args.now)) c.args.all.now c.loop-series.series-index
           c.series-item.result _ c.loop-series.rows.items c.match-branch-2.rows.items
           c.none-left.result c.loop-series.left c.row_of.new.left c.in_ok-row.field-0
