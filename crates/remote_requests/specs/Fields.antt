@@ -59,7 +59,8 @@ is_version (Some value) = bytes_eq (take 4 value) (codes "0.1.")
 
 -- whether there is no field of this name, or one of a version that fits
 abbrev pub fits_version : List ℕ → List (List ℕ × List ℕ) → Bool
-fits_version name fields = not (has_field name fields) || is_version (only (field_values name fields))
+fits_version name fields =
+    not (has_field name fields) || is_version (only (field_values name fields))
 
 -- the field of a path's version
 abbrev pub version_field : Path → List ℕ

@@ -1,5 +1,6 @@
 -- What a series of a write comes to: a row of the store, and what is left out of it.
-use Rattle.std.specs.Prelude.{◌≡◌, ℕ, ◌+◌, ℤ, ◌-ℤ◌, pos, Bool, true, false, not, ◌&&◌, List, [], ◌∷◌, ◌++◌}
+use Rattle.std.specs.Prelude.{◌≡◌, ℕ, ◌+◌, ℤ, ◌-ℤ◌, pos, Bool, true, false, not, ◌&&◌, List, []}
+use Rattle.std.specs.Prelude.{◌∷◌, ◌++◌}
 use Rattle.std.specs.Prelude.{length, map, filter, nat_le, nat_lt, int_lt, Option, None, Some}
 use Rattle.std.specs.Prelude.{is_none, if◌then◌else◌, Result, Ok, Err}
 use Rattle.std.specs.List.{list_all, sum_by, AllZip}
