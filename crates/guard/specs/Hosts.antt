@@ -34,14 +34,14 @@ bytes_of (Some value) = Some value.now
 
 -- claims as values, wherever they lie
 pub record Claimed : Type 0 where
-  pub posts : Bool
+  pub changes : Bool
   pub has_origin : Bool
   pub host : Option (List ℕ)
   pub authorization : Option (List ℕ)
 
 abbrev pub claimed : Claims → Claimed
 claimed claims = record {
-  posts = claims.posts;
+  changes = claims.changes;
   has_origin = claims.has_origin;
   host = bytes_of claims.host;
   authorization = bytes_of claims.authorization;

@@ -19,17 +19,17 @@ has_token (Some token) (Some value) = bears token.bytes.items value
 abbrev pub judgement : Rules → Claimed → Result (Unit {0}) Denial
 judgement rules claims =
     if is_some rules.token && not (is_local claims) then Err Guarded
-    else if rules.read_only && claims.posts then Err ReadOnly
-    else if claims.posts && not (has_token rules.token claims.authorization)
+    else if rules.read_only && claims.changes then Err ReadOnly
+    else if claims.changes && not (has_token rules.token claims.authorization)
     then Err Guarded
     else Ok tt
 
 -- what holds of each request that is admitted: where there is a token, it comes from no page and
--- names this machine; if it is a `POST`, there is one, and it bears the token
+-- names this machine; if it changes the store, that may be done, and it bears the token
 pub record IsAdmitted (rules : Rules) (claims : Claimed) : Type 0 where
   pub own : is_some rules.token ≡ true → is_local claims ≡ true
-  pub can_change : claims.posts ≡ true → rules.read_only ≡ false
-  pub bears_it : claims.posts ≡ true → has_token rules.token claims.authorization ≡ true
+  pub can_change : claims.changes ≡ true → rules.read_only ≡ false
+  pub bears_it : claims.changes ≡ true → has_token rules.token claims.authorization ≡ true
 
 -- no rules
 abbrev pub no_rules : Rules

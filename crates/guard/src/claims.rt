@@ -10,8 +10,9 @@ use crate::token::rest_after;
 /// What the head of a request says of where it comes from.
 #[derive(Clone, Copy, Debug, PartialEq, Eq, Drop)]
 pub struct Claims<'a> {
-    /// Whether its method is `POST`.
-    pub posts: bool,
+    /// Whether it changes the store, as each `POST` of the first port does: what only reads, by
+    /// whatever method, makes no such claim.
+    pub changes: bool,
     /// Whether it has a field `Origin`: a page of a browser sent it.
     pub has_origin: bool,
     /// The value of its only field `Host`.

@@ -10,16 +10,17 @@ use crate::token::{Token, bears};
 /// What is asked of a request beyond its form.
 #[derive(Drop)]
 pub struct Rules {
-    /// There is no `POST`.
+    /// Nothing changes the store.
     pub read_only: bool,
-    /// Each request comes from no page and names this machine, and each `POST` bears this token.
+    /// Each request comes from no page and names this machine, and each that changes the store bears
+    /// this token.
     pub token: Option<Token>,
 }
 
 /// Why a request does not reach the store.
 #[derive(Clone, Copy, Debug, PartialEq, Eq, Drop)]
 pub enum Denial {
-    /// It would change the store, and there is no `POST`.
+    /// It would change the store, which nothing may.
     ReadOnly,
     /// It comes from a page, does not name this machine, or bears no token.
     Guarded,
@@ -48,7 +49,7 @@ impl Rules {
     }
 
     /// Whether a request may reach the store, or the first reason why not: where it comes from,
-    /// then that there is no `POST`, then that it bears no token.
+    /// then that nothing changes the store, then that it bears no token.
     pub fn judge(&self, claims: &Claims<'_>) -> Result<(), Denial>
         ensures is { result ≡ judgement self.now (claimed claims.now) }
         ensures admitted { OnOk result (IsAdmitted self.now (claimed claims.now)) }
@@ -62,10 +63,10 @@ impl Rules {
         if self.token.is_some() && !is_local(claims) {
             return Err(Denial::Guarded);
         }
-        if self.read_only && claims.posts {
+        if self.read_only && claims.changes {
             return Err(Denial::ReadOnly);
         }
-        if claims.posts && !has_token(&self.token, claims.authorization) {
+        if claims.changes && !has_token(&self.token, claims.authorization) {
             return Err(Denial::Guarded);
         }
         Ok(())

@@ -10,6 +10,8 @@ mod kept_doubles;
 #[cfg(test)]
 mod numbers;
 #[cfg(test)]
+mod port_requests;
+#[cfg(test)]
 mod queries;
 #[cfg(test)]
 mod requests;

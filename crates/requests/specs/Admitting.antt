@@ -19,16 +19,16 @@ use Rattle.requests.specs.QueryStrings.{only}
 use Rattle.requests.specs.Reading.{HeadMeans}
 use Rattle.requests.specs.Requests.{Meaning}
 
--- the claims that fields make
+-- the claims that fields make, of a request that changes the store or does not
 abbrev pub claims_among : Bool → List (List ℕ × List ℕ) → Claimed
-claims_among posts fields = record {
-  posts = posts;
+claims_among changes fields = record {
+  changes = changes;
   has_origin = has_field (codes "origin") fields;
   host = only (field_values (codes "host") fields);
   authorization = only (field_values (codes "authorization") fields);
 }
 
--- the claims of a head
+-- the claims of a head: each `POST` changes the store
 abbrev pub claims_of : RequestHead → Claimed
 claims_of h = claims_among (bytes_eq h.method (codes "POST")) (fields_of h)
 

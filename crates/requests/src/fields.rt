@@ -29,7 +29,9 @@ fn is_named(buf: &[u8], header: HeaderSpan, name: &[u8]) -> bool
     header.name.of(buf).eq_ignore_ascii_case(name)
 }
 
-fn only_field<'b>(buf: &'b [u8], headers: &[HeaderSpan], name: &[u8]) -> Option<&'b [u8]>
+/// The value of the only field of a name, in any case of its letters; none if there is no such
+/// field or more than one. The spans are those of a parsed head.
+pub fn only_field<'b>(buf: &'b [u8], headers: &[HeaderSpan], name: &[u8]) -> Option<&'b [u8]>
     requires { All (IsHeaderWithin (length buf.now)) headers.now }
     ensures { option_map (λ v. v.now) result
         ≡ only (field_values name.now (map (header_bytes buf.now) headers.now)) }
@@ -46,7 +48,9 @@ fn only_field<'b>(buf: &'b [u8], headers: &[HeaderSpan], name: &[u8]) -> Option<
     found
 }
 
-fn has_field(buf: &[u8], headers: &[HeaderSpan], name: &[u8]) -> bool
+/// Whether there is a field of a name, in any case of its letters. The spans are those of a parsed
+/// head.
+pub fn has_field(buf: &[u8], headers: &[HeaderSpan], name: &[u8]) -> bool
     requires { All (IsHeaderWithin (length buf.now)) headers.now }
     ensures { result ≡ has_field name.now (map (header_bytes buf.now) headers.now) }
 {
@@ -85,14 +89,14 @@ fn length_in(value: &[u8]) -> Result<usize, Refusal>
     }
 }
 
-/// What a head claims, of its method and its fields.
-fn claims_among<'b>(buf: &'b [u8], posts: bool, headers: &[HeaderSpan]) -> Claims<'b>
+/// What a head claims by its fields, and by whether it changes the store.
+pub fn claims_among<'b>(buf: &'b [u8], changes: bool, headers: &[HeaderSpan]) -> Claims<'b>
     requires { All (IsHeaderWithin (length buf.now)) headers.now }
     ensures { claimed result
-        ≡ claims_among posts (map (header_bytes buf.now) headers.now) }
+        ≡ claims_among changes (map (header_bytes buf.now) headers.now) }
 {
     Claims {
-        posts,
+        changes,
         has_origin: has_field(buf, headers, b"origin"),
         host: only_field(buf, headers, b"host"),
         authorization: only_field(buf, headers, b"authorization"),

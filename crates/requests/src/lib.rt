@@ -82,9 +82,9 @@ mod write;
 
 pub use admit::{read_admitted_into, read_request};
 pub use edge::{Fault, Inlet};
-pub use fields::path_in;
+pub use fields::{claims_among, has_field, only_field, path_in};
 pub use refusal::{Cause, Refusal};
 pub use reply::{append_success_head, done_reply};
 pub use request::{MAX_BATCH, ReadError, Request};
 pub use status::Status;
-pub use target::Path;
+pub use target::{Path, path_text};

@@ -28,7 +28,8 @@ fn mark_in(target: &[u8]) -> Option<usize>
 
 ghost use Rattle.std.specs.Prelude.{◌==◌, position};
 
-pub(crate) fn path_text(target: &[u8]) -> &[u8]
+/// The target up to its first `?`.
+pub fn path_text(target: &[u8]) -> &[u8]
     ensures { result.now ≡ path_text target.now }
 {
     match mark_in(target) {

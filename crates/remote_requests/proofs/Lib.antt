@@ -1,0 +1,13 @@
+pub mod NoFloat
+pub mod Lists
+pub mod Tallies
+pub mod SampleTurns
+pub mod RowTurns
+pub mod CountTurns
+pub mod ReadTurns
+pub mod HeadLaws
+pub mod LabelTurns
+pub mod LengthTexts
+pub mod WriteLaws
+pub mod QueryLaws
+pub mod HeadFronts

@@ -1,0 +1,9 @@
+-- No line of a refusal has a float, so it is known to the byte.
+use Rattle.std.proofs.Common.{◌≡◌, ℕ, List, Option, None, Some, false, refl}
+use Rattle.serde_json.specs.Written.{has_float}
+use Rattle.remote_requests.specs.Replies.{refusal_data}
+
+pub no_float_in_refusal : (code : List ℕ) (cause : Option (List ℕ))
+    → has_float (refusal_data code cause) ≡ false
+no_float_in_refusal code None = refl
+no_float_in_refusal code (Some cause) = refl

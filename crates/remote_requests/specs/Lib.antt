@@ -1,0 +1,16 @@
+pub mod Admitting
+pub mod Counts
+pub mod Fields
+pub mod Heads
+pub mod Left
+pub mod Meaning
+pub mod Names
+pub mod NoQueries
+pub mod Paths
+pub mod Queries
+pub mod Reading
+pub mod Refusals
+pub mod Replies
+pub mod Series
+pub mod Statuses
+pub mod Writing

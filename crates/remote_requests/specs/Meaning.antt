@@ -1,0 +1,101 @@
+-- What the bytes of a connection to the port ask: the request of them, or the first refusal that
+-- they meet.
+use Rattle.std.specs.Prelude.{◌≡◌, ◌<◌, ◌≤◌, ◌⊎◌, ℕ, ℤ, List, [], take, length}
+use Rattle.std.specs.Prelude.{Result, Ok, Err, ⊤}
+use Rattle.guard.specs.declared.rules.Rules.{Rules}
+use Rattle.httparse.specs.Grammar.{RequestHead, ReadsRequest, print_request}
+use Rattle.requests.specs.Fields.{fields_of}
+use Rattle.requests.specs.Heads.{IsBadHead, IsHeadTooLong}
+use Rattle.remote_requests.specs.declared.asked.Asked.{Asked}
+use Rattle.remote_requests.specs.declared.asked.Asked.TheVariants as asks
+use Rattle.remote_requests.specs.declared.asked.ReadError.{ReadError}
+use Rattle.remote_requests.specs.declared.asked.ReadError.TheVariants.{Closed, Lost, Memory}
+use Rattle.remote_requests.specs.declared.asked.ReadError.TheVariants.{Refused}
+use Rattle.remote_requests.specs.declared.came.Came.{Came}
+use Rattle.remote_requests.specs.declared.came.End.{End}
+use Rattle.remote_requests.specs.declared.came.End.TheVariants as ends
+use Rattle.remote_requests.specs.declared.path.Path.{Path}
+use Rattle.remote_requests.specs.declared.path.Path.TheVariants.{Write, Read, BuildInfo}
+use Rattle.remote_requests.specs.declared.refusal.Refusal.{Refusal}
+use Rattle.remote_requests.specs.declared.refusal.Refusal.TheVariants.{BadHead, HeadTooLong}
+use Rattle.remote_requests.specs.declared.refusal.Refusal.TheVariants.{BadLength}
+use Rattle.remote_requests.specs.Admitting.{admission}
+use Rattle.remote_requests.specs.Fields.{form_of, length_asked}
+use Rattle.remote_requests.specs.Paths.{path_asked}
+use Rattle.remote_requests.specs.Reading.{ReadMeans}
+use Rattle.remote_requests.specs.Writing.{Meaning, WriteMeans}
+
+-- what a body asks of a path
+abbrev pub BodyMeans : Path → ℤ → List ℕ → Meaning → Type 0
+BodyMeans Write now body meaning = WriteMeans now body meaning
+BodyMeans Read now body meaning = ReadMeans body meaning
+BodyMeans BuildInfo now body meaning = meaning ≡ Ok asks.BuildInfo
+
+-- the same, where the body is packed and spelled as its path takes it
+abbrev pub FormMeans : Result (Unit {0}) Refusal → Path → ℤ → List ℕ → Meaning → Type 0
+FormMeans (Err refusal) path now body meaning = meaning ≡ Err refusal
+FormMeans (Ok fits) path now body meaning = BodyMeans path now body meaning
+
+-- what follows a head is as long as it says, and asks this; else it is refused
+abbrev pub PostMeans : Path → Result ℕ Refusal → Result (Unit {0}) Refusal → ℤ → List ℕ → Meaning
+    → Type 0
+PostMeans path (Err refusal) form now rest meaning = meaning ≡ Err refusal
+PostMeans path (Ok n) form now rest meaning =
+    ((length rest < n) × (meaning ≡ Err BadLength))
+    ⊎ ((n ≤ length rest) × FormMeans form path now (take n rest) meaning)
+
+-- what a path asks, with the length of its body, its form and what follows the head
+abbrev pub PathMeans : Result Path Refusal → Result ℕ Refusal → Result (Unit {0}) Refusal → ℤ
+    → List ℕ → Meaning → Type 0
+PathMeans (Err refusal) length form now rest meaning = meaning ≡ Err refusal
+PathMeans (Ok BuildInfo) length form now rest meaning = meaning ≡ Ok asks.BuildInfo
+PathMeans (Ok Write) length form now rest meaning = PostMeans Write length form now rest meaning
+PathMeans (Ok Read) length form now rest meaning = PostMeans Read length form now rest meaning
+
+-- what a head asks with what follows it, if it is admitted: path and method first, then the length
+-- of the body, then its form, then the body
+abbrev pub AdmittedMeans : Result (Unit {0}) Refusal → RequestHead → ℤ → List ℕ → Meaning → Type 0
+AdmittedMeans (Err refusal) h now rest meaning = meaning ≡ Err refusal
+AdmittedMeans (Ok admitted) h now rest meaning =
+    PathMeans (path_asked h.method h.target) (length_asked (fields_of h))
+    (form_of (path_asked h.method h.target) (fields_of h)) now rest meaning
+
+-- a head of at most 64 fields and 8,192 bytes, and what it asks with what follows it
+pub record AsksUnder (rules : Rules) (now : ℤ) (input : List ℕ) (meaning : Meaning) : Type 0 where
+  pub h : RequestHead
+  pub rest : List ℕ
+  pub reads : ReadsRequest input h rest
+  pub few : length h.fields ≤ 64
+  pub short : length (print_request h) ≤ 8192
+  pub asks : AdmittedMeans (admission rules h) h now rest meaning
+
+-- what the bytes of a connection mean under rules, at a time of the clock
+abbrev pub MeansUnder : Rules → ℤ → List ℕ → Meaning → Type 0
+MeansUnder rules now input meaning =
+    AsksUnder rules now input meaning
+    ⊎ ((IsBadHead input × (meaning ≡ Err BadHead))
+    ⊎ (IsHeadTooLong input × (meaning ≡ Err HeadTooLong)))
+
+-- nothing more comes of what was read: it is whole, or the client closed
+abbrev pub HasEnded : End → Type 0
+HasEnded ends.Whole = ⊤
+HasEnded ends.Closed = ⊤
+HasEnded ends.Silent = ⊥
+HasEnded ends.Failed = ⊥
+
+-- more may have come, and was not read
+abbrev pub IsLost : End → Type 0
+IsLost ends.Whole = ⊥
+IsLost ends.Closed = ⊥
+IsLost ends.Silent = ⊤
+IsLost ends.Failed = ⊤
+
+-- the answer is a meaning of the bytes that came, unless more were lost or memory was refused
+abbrev pub Answers : Rules → ℤ → Came → Result Asked ReadError → Type 0
+Answers rules now came (Ok asked) =
+    HasEnded came.end × MeansUnder rules now came.bytes.now (Ok asked)
+Answers rules now came (Err Closed) = HasEnded came.end × (came.bytes.now ≡ [])
+Answers rules now came (Err Lost) = IsLost came.end
+Answers rules now came (Err Memory) = ⊤
+Answers rules now came (Err (Refused refusal)) =
+    HasEnded came.end × MeansUnder rules now came.bytes.now (Err refusal)

@@ -1,0 +1,81 @@
+-- The numbers of refusals, their statuses and the numbers behind them.
+use Rattle.std.specs.Prelude.{ℕ, List, Option, None, Some, codes}
+use Rattle.protobuf_fields.specs.Codes as protobuf_codes
+use Rattle.snappy.specs.Codes as snappy_codes
+use Rattle.remote_requests.specs.declared.status.Status.{Status}
+use Rattle.remote_requests.specs.declared.status.Status.TheVariants as status
+use Rattle.remote_requests.specs.declared.refusal.BodyFault.{BodyFault}
+use Rattle.remote_requests.specs.declared.refusal.BodyFault.TheVariants as body
+use Rattle.remote_requests.specs.declared.refusal.QueryFault.{QueryFault}
+use Rattle.remote_requests.specs.declared.refusal.QueryFault.TheVariants as query
+use Rattle.remote_requests.specs.declared.refusal.Refusal.{Refusal}
+use Rattle.remote_requests.specs.declared.refusal.Refusal.TheVariants as refusals
+
+abbrev pub body_fault_code : BodyFault → List ℕ
+body_fault_code (body.Packed fault) = snappy_codes.code_of fault
+body_fault_code (body.Spelled fault) = protobuf_codes.code_of fault
+
+abbrev pub query_fault_code : QueryFault → List ℕ
+query_fault_code query.TooMany = codes "M5"
+query_fault_code query.Kind = codes "M7"
+query_fault_code query.BadText = codes "L4"
+query_fault_code query.BadName = codes "M1"
+query_fault_code query.PatternTooLong = codes "M3"
+query_fault_code query.PatternRefused = codes "M2"
+
+-- the number of a refusal
+abbrev pub code_of : Refusal → List ℕ
+code_of refusals.BadHead = codes "H1"
+code_of refusals.HeadTooLong = codes "H2"
+code_of refusals.Guarded = codes "H12"
+code_of refusals.NoSuchPath = codes "H3"
+code_of refusals.Method = codes "H4"
+code_of refusals.NoLength = codes "R1"
+code_of refusals.BadLength = codes "R2"
+code_of refusals.Encoding = codes "R3"
+code_of refusals.Form = codes "R4"
+code_of (refusals.BadBody fault) = codes "R6"
+code_of refusals.TooMany = codes "R7"
+code_of (refusals.BadQuery fault) = codes "R8"
+code_of refusals.NoMetric = codes "R9"
+code_of refusals.ClockBehind = codes "R10"
+code_of refusals.Unavailable = codes "H10"
+code_of refusals.NotKept = codes "H11"
+
+-- the status of the reply to it
+abbrev pub status_of : Refusal → Status
+status_of refusals.BadHead = status.BadRequest
+status_of refusals.HeadTooLong = status.HeadTooLarge
+status_of refusals.Guarded = status.Forbidden
+status_of refusals.NoSuchPath = status.NotFound
+status_of refusals.Method = status.MethodNotAllowed
+status_of refusals.NoLength = status.LengthRequired
+status_of refusals.BadLength = status.BadRequest
+status_of refusals.Encoding = status.UnsupportedMediaType
+status_of refusals.Form = status.UnsupportedMediaType
+status_of (refusals.BadBody fault) = status.BadRequest
+status_of refusals.TooMany = status.BadRequest
+status_of (refusals.BadQuery fault) = status.BadRequest
+status_of refusals.NoMetric = status.BadRequest
+status_of refusals.ClockBehind = status.ServiceUnavailable
+status_of refusals.Unavailable = status.ServiceUnavailable
+status_of refusals.NotKept = status.ServiceUnavailable
+
+-- the number of the refusal behind this one, if there is one
+abbrev pub cause_of : Refusal → Option (List ℕ)
+cause_of refusals.BadHead = None
+cause_of refusals.HeadTooLong = None
+cause_of refusals.Guarded = None
+cause_of refusals.NoSuchPath = None
+cause_of refusals.Method = None
+cause_of refusals.NoLength = None
+cause_of refusals.BadLength = None
+cause_of refusals.Encoding = None
+cause_of refusals.Form = None
+cause_of (refusals.BadBody fault) = Some (body_fault_code fault)
+cause_of refusals.TooMany = None
+cause_of (refusals.BadQuery fault) = Some (query_fault_code fault)
+cause_of refusals.NoMetric = None
+cause_of refusals.ClockBehind = None
+cause_of refusals.Unavailable = None
+cause_of refusals.NotKept = None

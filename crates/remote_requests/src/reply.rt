@@ -1,0 +1,37 @@
+//! The line that tells of a refusal.
+
+ghost use Rattle.std.specs.Prelude.{◌≡◌, IfOk};
+ghost use Rattle.serde_json.specs.View.{view};
+ghost use Rattle.remote_requests.specs.Refusals.{code_of, cause_of};
+ghost use Rattle.remote_requests.specs.Replies.{refusal_data, refusal_line};
+
+use crate::Refusal;
+use serde_json::{Value, json};
+use std::alloc::{AllocError, Global};
+
+fn refusal_value(alloc: Global, refusal: &Refusal) -> Result<Value, AllocError>
+    ensures { IfOk result
+        (λ v. view v ≡ refusal_data (code_of refusal.now) (cause_of refusal.now)) }
+{
+    let code = refusal.code();
+    match refusal.cause() {
+        Some(cause) => json!(in alloc; {"cause": cause, "refused": code}),
+        None => json!(in alloc; {"refused": code}),
+    }
+}
+
+fn refusal_line(alloc: Global, refusal: &Refusal) -> Result<Vec<u8>, AllocError>
+    ensures { IfOk result (λ line. line.items ≡ refusal_line refusal.now) }
+{
+    refusal_value(alloc, refusal)?.to_vec(alloc)
+}
+
+impl Refusal {
+    /// The line that is the body of the reply: compact JSON, as `{"refused":"R3"}`, and with the
+    /// number behind it `{"cause":"Z5","refused":"R6"}`.
+    pub fn line(&self, alloc: Global) -> Result<Vec<u8>, AllocError>
+        ensures { IfOk result (λ line. line.items ≡ refusal_line self.now) }
+    {
+        refusal_line(alloc, self)
+    }
+}
