@@ -8,11 +8,10 @@ CRATES := $(shell sed -e 's/\#.*//' -e 's/:.*//' -e '/^[[:space:]]*$$/d' crates.
 TESTS_OF := file_tests:wire,index_reader,chunk_reader,tombstones,block,block_writer,xor_reader,doubles,decimal_text,prometheus_block \
 	store_tests:labels,pages,matchers,postings,head,snapshots,cover,block_search,series_merge,answers,selector_cache,requests,query_http,server,commands,querier,journal,event_text \
 	world_tests:history,block_walk,reply_reader,auditor,audit_command,audit_laws,auditor_program,block_rewriter,head_record,store_folder,logged_folder \
-	remote_tests:stored_doubles,varints,snappy,protobuf_fields,remote_write,remote_read,remote_requests \
+	remote_tests:stored_doubles,varints,snappy,protobuf_fields,remote_write,remote_read,remote_requests,remote_rows,remote_http,waiting_room \
 	tests/serving.sh:guard \
 	tests/durable/run.py:keeper,event_journal,cut_schedule,folder_lock,data_folder,store_joiner \
 	tests/scraping.sh:server_metrics \
-	tests/waiting_room.py:waiting_room \
 	tests/importing.sh:imported_values,kept_samples,time_cuts,block_folder,block_outputs,open_metrics,metrics_writer,exposition,blocktool \
 	tests/pages-html.py:page_layout,page_style,page_escape,page_text,page_claims,page_marks,page,explain
 # The crate or the script with the tests of a crate, or nothing.

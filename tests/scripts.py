@@ -51,7 +51,6 @@ ALONE = [
     ),
     ("durable", "querier auditor blocktool", "cc", "tests/durable/run.py"),
     ("allocations", "", "cc rt", "tests/allocations.sh"),
-    ("waiting_room", "", "rt python3", "tests/waiting_room.py"),
 ]
 
 

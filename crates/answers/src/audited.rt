@@ -128,7 +128,7 @@ pub fn answer(
 
 /// The audited answer to a query, one part searched after another, the rows of a part's many
 /// matches made by several threads: that of [`answer`] but for the moves.
-pub(crate) fn answer_in_turn<R: Threads + Sync>(
+pub fn answer_in_turn<R: Threads + Sync>(
     rt: &R,
     alloc: Global,
     snapshot: &Snapshot,

@@ -36,7 +36,7 @@ mod samples;
 mod strings;
 mod told;
 
-pub use audited::{AuditedAnswer, answer, answer_by_workers};
+pub use audited::{AuditedAnswer, answer, answer_by_workers, answer_in_turn};
 pub use block_search::AnsweredPart;
 pub use body_text::{Rooms, answer_text, append_text, body, length_of};
 pub use error::AskError;

@@ -8,12 +8,14 @@
 #[cfg(test)]
 mod kept_doubles;
 #[cfg(test)]
+mod messages;
+#[cfg(test)]
 mod numbers;
 #[cfg(test)]
 mod port_requests;
 #[cfg(test)]
 mod queries;
 #[cfg(test)]
-mod requests;
+mod rows;
 #[cfg(test)]
 mod streams;

@@ -137,9 +137,9 @@ impl<J: Naming, K: Keeper> Tip<J, K> {
         }
     }
 
-    /// Whether the seat may try an event here. `E7` if its number is none of this store's, or its
-    /// count is not the one here, or cannot grow. A list shorter than that of its last receipt
-    /// would be a refusal of memory, and does not occur.
+    /// Whether the seat may try an event here. `E7` where its number is none of this store's, or its
+    /// count is not the one here, or cannot grow. A list shorter than that of its last receipt would
+    /// be a refusal of memory, and does not occur.
     pub(crate) fn meets(&self, seat: &Seat<J>) -> Result<(), CommitError>
         ensures fits { OnOk result (FitsSeat seat.now self.now.counts) }
         ensures met { OnOk result (IsMetBy seat.now self.now.entries) }

@@ -7,4 +7,3 @@ mod first_pages;
 mod heads;
 mod refused_memory;
 mod rows;
-mod sifts;

@@ -1,0 +1,9 @@
+pub mod NoFloat
+pub mod Replies
+pub mod Fillings
+pub mod Sums
+pub mod Publishes
+pub mod Kept
+pub mod Answered
+pub mod Means
+pub mod Served

@@ -1,0 +1,13 @@
+pub mod Text
+pub mod Reply
+pub mod Told
+pub mod Counting
+pub mod Cutting
+pub mod Filling
+pub mod Publishing
+pub mod Workers
+pub mod Writing
+pub mod Reading
+pub mod Answering
+pub mod Fitting
+pub mod Serving
