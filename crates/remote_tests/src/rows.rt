@@ -57,6 +57,9 @@ fn label_sets_alone_and_other_doubles_are_sent(rt: HostRuntime) -> Result<(), Fa
     assert!(rt; text.as_slice() == NAMES);
     text.clear();
     put_answer(alloc, &mut text, rows.as_slice(), false)?;
-    assert!(rt; text.as_slice().ends_with(b"\x09\x00\x00\x00\x00\x00\x00\xf0\xff\x10\x1e"));
+    assert!(rt;
+        text.as_slice()
+            .ends_with(b"\x09\x00\x00\x00\x00\x00\x00\xf0\xff\x10\x1e")
+    );
     Ok(())
 }
