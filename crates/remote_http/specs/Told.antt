@@ -76,7 +76,7 @@ left_data cause counts total =
     object (member (codes "cause") (string cause)
     (member (codes "left") (object (count_members counts))
     (member (codes "of") (number (unsigned total))
-    (member (codes "refused") (string (codes "R5")) no_members))))
+    (member (codes "refused") (string (codes "G5")) no_members))))
 
 abbrev pub status_by : Option (List ℕ) → Status
 status_by None = Done

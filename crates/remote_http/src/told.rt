@@ -85,7 +85,7 @@ fn left_value(
 {
     let left = count_members(alloc, counts)?;
     let left = &left;
-    json!(in alloc; {"cause": cause, "left": left, "of": total, "refused": "R5"})
+    json!(in alloc; {"cause": cause, "left": left, "of": total, "refused": "G5"})
 }
 
 fn left_line(

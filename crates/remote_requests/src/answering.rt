@@ -33,8 +33,8 @@ fn body_asked(alloc: Global, now: i64, path: Path, body: &[u8]) -> Result<Asked,
     }
 }
 
-/// What a body asks of a path that takes one: `R1` or `R2` of its length, `R2` if it ends early,
-/// then `R3` or `R4` of its form.
+/// What a body asks of a path that takes one: `G1` or `G2` of its length, `G2` if it ends early,
+/// then `G3` or `G4` of its form.
 fn post_asked(
     alloc: Global,
     now: i64,

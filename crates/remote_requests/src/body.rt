@@ -23,7 +23,7 @@ const MAX_POINTS: u64 = 65_536;
 
 const MAX_LABELS: u64 = 1_048_576;
 
-/// The text that a body is, compressed; `R6` where it is none of at most so many bytes.
+/// The text that a body is, compressed; `G6` where it is none of at most so many bytes.
 pub fn unpacked(alloc: Global, body: &[u8], most: usize) -> Result<Vec<u8>, ReadError>
     ensures exact { Tells (λ v. v.items) result (packed (text_at most body.now)) }
     ensures found { IfOk result (λ v. IsStream body.now v.items × (length v.items ≤ most)) }
@@ -111,7 +111,7 @@ fn counts_of(alloc: Global, text: &[u8]) -> Result<Counts, ReadError>
 
 ghost use Rattle.remote_requests.specs.Counts.{CountsTold};
 
-/// How many samples and histograms a text has, after it was read to its end: `R6`, then `R7`.
+/// How many samples and histograms a text has, after it was read to its end: `G6`, then `G7`.
 fn points_of(alloc: Global, text: &[u8]) -> Result<u64, ReadError>
     ensures { Tells (λ n. n) result (points_at text.now) }
 {
@@ -136,7 +136,7 @@ fn all_series(alloc: Global, text: &[u8]) -> Result<Vec<Series<'_>>, ReadError>
 
 ghost use Rattle.remote_requests.specs.Writing.{AllSeriesTold};
 
-/// What the body of a write asks: `R6`, then `R7`. It is read to its end before a row is made.
+/// What the body of a write asks: `G6`, then `G7`. It is read to its end before a row is made.
 pub fn write(alloc: Global, now: i64, body: &[u8]) -> Result<Asked, ReadError>
     ensures { Told (WriteMeans now body.now) result }
 {

@@ -28,7 +28,7 @@ fn is_decimal(value: &[u8]) -> bool
     !value.is_empty() && are_digits(value)
 }
 
-/// The length that a value writes: `R1` if it writes none, then `R2`.
+/// The length that a value writes: `G1` if it writes none, then `G2`.
 fn length_in(value: &[u8]) -> Result<usize, Refusal>
     ensures { result ≡ length_told (Some value.now) }
 {
@@ -50,7 +50,7 @@ fn length_in(value: &[u8]) -> Result<usize, Refusal>
     }
 }
 
-/// The length of the body: `R1`, then `R2`.
+/// The length of the body: `G1`, then `G2`.
 pub fn length_asked(buf: &[u8], headers: &[HeaderSpan]) -> Result<usize, Refusal>
     requires { All (IsHeaderWithin (length buf.now)) headers.now }
     ensures { result ≡ length_asked (map (header_bytes buf.now) headers.now) }
@@ -154,8 +154,8 @@ fn form_asked(path: Path, buf: &[u8], headers: &[HeaderSpan]) -> Result<(), Refu
     Ok(())
 }
 
-/// Whether the body is packed and spelled as the path takes it, if there is a path: `R3`, then
-/// `R4`.
+/// Whether the body is packed and spelled as the path takes it, if there is a path: `G3`, then
+/// `G4`.
 pub fn form_of(
     path: Result<Path, Refusal>,
     buf: &[u8],

@@ -15,7 +15,7 @@
 //! ```
 //!
 //! A [`Refusal`] has a number, a status and a line of JSON ([`Refusal::line`]), as
-//! `{"cause":"Z5","refused":"R6"}`. The protocols are remote write 1.0 and remote read of
+//! `{"cause":"Z5","refused":"G6"}`. The protocols are remote write 1.0 and remote read of
 //! Prometheus. Names are those of labels and metrics in Prometheus's data model.
 #![tactic(auto)]
 

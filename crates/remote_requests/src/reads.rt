@@ -157,7 +157,7 @@ fn readings_of(alloc: Global, sent: &[remote_read::Query<'_>]) -> Result<Vec<Rea
     Ok(readings)
 }
 
-/// What the body of a read asks: `R6`, then `R7`, then `R8`.
+/// What the body of a read asks: `G6`, then `G7`, then `G8`.
 pub fn read(alloc: Global, body: &[u8]) -> Result<Asked, ReadError>
     ensures { Told (ReadMeans body.now) result }
 {

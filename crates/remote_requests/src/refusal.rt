@@ -78,26 +78,26 @@ pub enum Refusal {
     NoSuchPath,
     /// `H4`: the path takes another method.
     Method,
-    /// `R1`: there is not exactly one `Content-Length` of decimal digits, or there is a
+    /// `G1`: there is not exactly one `Content-Length` of decimal digits, or there is a
     /// `Transfer-Encoding`.
     NoLength,
-    /// `R2`: the body has more than 16,777,216 bytes, or ends before its length.
+    /// `G2`: the body has more than 16,777,216 bytes, or ends before its length.
     BadLength,
-    /// `R3`: the only `Content-Encoding` is not `snappy`.
+    /// `G3`: the only `Content-Encoding` is not `snappy`.
     Encoding,
-    /// `R4`: the only `Content-Type` is not that of the path, or the version of the protocol does
+    /// `G4`: the only `Content-Type` is not that of the path, or the version of the protocol does
     /// not begin with `0.1.`.
     Form,
-    /// `R6`: the bytes of the body are refused.
+    /// `G6`: the bytes of the body are refused.
     BadBody(BodyFault),
-    /// `R7`: the body has more than 65,536 series, 65,536 samples and histograms, 1,048,576 labels
+    /// `G7`: the body has more than 65,536 series, 65,536 samples and histograms, 1,048,576 labels
     /// or 64 queries.
     TooMany,
-    /// `R8`: a query is refused.
+    /// `G8`: a query is refused.
     BadQuery(QueryFault),
-    /// `R9`: a row of the answer has a `__name__` that names no metric.
+    /// `G9`: a row of the answer has a `__name__` that names no metric.
     NoMetric,
-    /// `R10`: the clock is before the day on which the program was made.
+    /// `G10`: the clock is before the day on which the program was made.
     ClockBehind,
     /// `H10`: the store lends no snapshot.
     Unavailable,
@@ -116,15 +116,15 @@ impl Refusal {
             Refusal::Guarded => "H12",
             Refusal::NoSuchPath => "H3",
             Refusal::Method => "H4",
-            Refusal::NoLength => "R1",
-            Refusal::BadLength => "R2",
-            Refusal::Encoding => "R3",
-            Refusal::Form => "R4",
-            Refusal::BadBody(_) => "R6",
-            Refusal::TooMany => "R7",
-            Refusal::BadQuery(_) => "R8",
-            Refusal::NoMetric => "R9",
-            Refusal::ClockBehind => "R10",
+            Refusal::NoLength => "G1",
+            Refusal::BadLength => "G2",
+            Refusal::Encoding => "G3",
+            Refusal::Form => "G4",
+            Refusal::BadBody(_) => "G6",
+            Refusal::TooMany => "G7",
+            Refusal::BadQuery(_) => "G8",
+            Refusal::NoMetric => "G9",
+            Refusal::ClockBehind => "G10",
             Refusal::Unavailable => "H10",
             Refusal::NotKept => "H11",
         }
@@ -152,7 +152,7 @@ impl Refusal {
         }
     }
 
-    /// The number of the refusal behind `R6` and `R8`.
+    /// The number of the refusal behind `G6` and `G8`.
     pub fn cause(&self) -> Option<&'static str>
         ensures { option_map (λ code. code.now) result ≡ cause_of self.now }
     {

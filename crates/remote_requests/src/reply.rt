@@ -27,8 +27,8 @@ fn refusal_line(alloc: Global, refusal: &Refusal) -> Result<Vec<u8>, AllocError>
 }
 
 impl Refusal {
-    /// The line that is the body of the reply: compact JSON, as `{"refused":"R3"}`, and with the
-    /// number behind it `{"cause":"Z5","refused":"R6"}`.
+    /// The line that is the body of the reply: compact JSON, as `{"refused":"G3"}`, and with the
+    /// number behind it `{"cause":"Z5","refused":"G6"}`.
     pub fn line(&self, alloc: Global) -> Result<Vec<u8>, AllocError>
         ensures { IfOk result (λ line. line.items ≡ refusal_line self.now) }
     {
