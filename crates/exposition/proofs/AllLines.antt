@@ -19,14 +19,14 @@ use Rattle.exposition.specs.declared.error.ReadError.{ReadError}
 use Rattle.exposition.specs.declared.error.ReadError.TheVariants.{Memory, Refused}
 use Rattle.exposition.specs.declared.error.Refusal.{Refusal}
 use Rattle.exposition.specs.declared.series.NoLabels.{NoLabels}
-use Rattle.exposition.specs.declared.text.Fractions.{Fractions}
+use Rattle.exposition.specs.declared.text.Reading.{Reading}
 use Rattle.exposition.specs.Faults.{are_utf8, is_utf8_pair, line_fault}
 use Rattle.exposition.specs.Reading.{Said, AddsLine, AddAll, exemplars_in, has_exemplar, texts_in}
 use Rattle.exposition.specs.Reading.{unsaid}
 use Rattle.exposition.specs.Refusing.{IfRefused, IsFirstWrong, IsFor}
 use Rattle.exposition.specs.Series.{IsNoUtf8}
 
-all_last : (format : Format) (places : ℕ) (f : Fractions) (n : ℕ) (lines : List (List ℕ))
+all_last : (format : Format) (places : ℕ) (f : Reading) (n : ℕ) (lines : List (List ℕ))
     (line : List ℕ) (a b c : Said)
     → AddAll format places f n lines a b → AddsLine format places f (n + length lines) line b c
     → AddAll format places f n (lines ++ line ∷ []) a c
@@ -53,7 +53,7 @@ taken lines n lt =
     ∙ length-take-le n lines (omega (arith, lt))
 
 -- one line more, the first of which has the number 1
-pub all_more : (format : Format) (places : ℕ) (f : Fractions) (lines : List (Bor (List ℕ)))
+pub all_more : (format : Format) (places : ℕ) (f : Reading) (lines : List (Bor (List ℕ)))
     (n number : ℕ) (d : Bor (List ℕ)) (a b c : Said) → n < length lines → number ≡ n + 1
     → AddAll format places f 1 (texts_in (take n lines)) a b
     → AddsLine format places f number (get_or lines n d).now b c
@@ -68,7 +68,7 @@ all_more format places f lines n number d a b c lt is all one =
     (subst (λ (k : ℕ). AddsLine format places f k (get_or lines n d).now b c) same one))
 
 -- a line that is wrong, behind lines that say something
-wrong_here : (format : Format) (places : ℕ) (f : Fractions) (lines : List (Bor (List ℕ)))
+wrong_here : (format : Format) (places : ℕ) (f : Reading) (lines : List (Bor (List ℕ)))
     (n number : ℕ) (d : Bor (List ℕ)) (said : Said) (r : Refusal) → n < length lines → number ≡ n + 1
     → AddAll format places f 1 (texts_in (take n lines)) unsaid said
     → IsFor number (line_fault format places (get_or lines n d).now) r
@@ -93,7 +93,7 @@ one_pair labels n x lt at =
     ((take_at_read labels n x lt).1 ∙ ap (λ (y : Label). take n labels ++ y ∷ []) (sym at))
     ∙ map-append pair_in (take n labels) (x ∷ [])
 
-pub first_wrong : (e : ReadError) (format : Format) (places : ℕ) (f : Fractions)
+pub first_wrong : (e : ReadError) (format : Format) (places : ℕ) (f : Reading)
     (lines : List (Bor (List ℕ))) (n number : ℕ) (d : Bor (List ℕ)) (said : Said) → n < length lines → number ≡ n + 1
     → AddAll format places f 1 (texts_in (take n lines)) unsaid said
     → IfRefused e (IsFor number (line_fault format places (get_or lines n d).now))

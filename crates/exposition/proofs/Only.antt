@@ -11,6 +11,8 @@ use Rattle.std.proofs.Common.{sym, ap, subst, ◌∙◌, arith, inl, inr}
 use Rattle.std.proofs.lemmas.Bool.{cases_Bool}
 use Rattle.std.proofs.lemmas.List.Elements.{recursion_from_All}
 use Rattle.wire.proofs.Steps.{same_value}
+use Rattle.stored_doubles.proofs.Numbers.{one_number}
+use Rattle.double_text.specs.Texts.{double_at}
 use Rattle.labels.specs.Labels.{Labels, IsByName, text_cmp, value_of}
 use Rattle.labels.specs.LabelSets.{IsMadeOf}
 use Rattle.labels.proofs.Texts.{text_total, text_exact, bytes_turn}
@@ -28,10 +30,14 @@ use Rattle.exposition.specs.declared.text.Exposition.{Exposition}
 use Rattle.exposition.specs.declared.text.Fractions.{Fractions}
 use Rattle.exposition.specs.declared.text.Fractions.TheVariants.{Beside, Rounded}
 use Rattle.exposition.specs.declared.text.Left.{Left}
+use Rattle.exposition.specs.declared.text.Reading.{Reading}
+use Rattle.exposition.specs.declared.text.Reading.TheVariants.{Decimals, Doubles}
 use Rattle.exposition.specs.Faults.{line_fault, meaning_fault}
 use Rattle.exposition.specs.Reading.{Said, AddsValue, AddsSample, Adds, AddsLine, AddAll, IsText}
+use Rattle.exposition.specs.Reading.{IsValueAs, fractions_in, place_of}
 use Rattle.exposition.specs.Reading.{IsBeside, IsCutInto, IsPutOver, lines_in, told_in, unsaid}
 use Rattle.exposition.specs.Refusing.{Gives, IfRefused, IsRefused, MissesEnd}
+use Rattle.exposition.specs.Values.{IsKeptFor, text_before}
 use Rattle.exposition.proofs.Endings.{end_of, one_cut}
 
 -- LABEL SETS
@@ -118,28 +124,42 @@ value_once Rounded (Near v) l place old a b p q =
 value_once Beside (Near v) l place old a b p q = beside_once place old a b p q
 value_once f Other l place old a b p q = beside_once place old a b p q
 
-sample_once : (f : Fractions) (n : ℕ) (line : List ℕ) (s : Sampled) (old a b : Said)
+kept_once : (o : Option ℕ) (v w : Value) → IsKeptFor o v → IsKeptFor o w → v ≡ w
+kept_once None v w a b = a ∙ sym b
+kept_once (Some bits) v w a b =
+    a.1 ∙ (ap (λ (z : ℤ). Parts z) (one_number bits a.0 b.0 a.2 b.2 a.3 b.3) ∙ sym b.1)
+
+value_as_once : (r : Reading) (line : List ℕ) (s : Sampled) (v w : Value) → IsValueAs r line s v
+    → IsValueAs r line s w → v ≡ w
+value_as_once (Decimals f) line s v w a b = a ∙ sym b
+value_as_once Doubles line s v w a b =
+    kept_once (double_at (text_before line s.from_value)) v w a b
+
+sample_once : (f : Reading) (n : ℕ) (line : List ℕ) (s : Sampled) (old a b : Said)
     → AddsSample f n line s old a → AddsSample f n line s old b → a ≡ b
 sample_once f n line s old a b p q =
-    value_once f s.value q.labels _ old a b
-    (subst (λ (l : Labels). AddsValue f s.value l _ old a)
-    (made_once p.labels q.labels _ p.made q.made) p.adds)
+    let place = place_of n line s in
+    let same = value_as_once f line s p.value q.value p.is q.is in
+    value_once (fractions_in f) q.value q.labels place old a b
+    (subst (λ (l : Labels). AddsValue (fractions_in f) q.value l place old a)
+    (made_once p.labels q.labels _ p.made q.made)
+    (subst (λ (v : Value). AddsValue (fractions_in f) v p.labels place old a) same p.adds))
     q.adds
 
-adds_once : (f : Fractions) (n : ℕ) (line : List ℕ) (m : Meaning) (old a b : Said)
+adds_once : (f : Reading) (n : ℕ) (line : List ℕ) (m : Meaning) (old a b : Said)
     → Adds f n line m old a → Adds f n line m old b → a ≡ b
 adds_once f n line nothing old a b p q = p ∙ sym q
 adds_once f n line end old a b p q = absurd p
 adds_once f n line (sampled s) old a b p q = sample_once f n line s old a b p q
 
-line_once : (format : Format) (places : ℕ) (f : Fractions) (n : ℕ) (line : List ℕ) (old a b : Said)
+line_once : (format : Format) (places : ℕ) (f : Reading) (n : ℕ) (line : List ℕ) (old a b : Said)
     → AddsLine format places f n line old a → AddsLine format places f n line old b → a ≡ b
 line_once format places f n line old a b p q =
     let same = same_value p.meaning q.meaning (sym p.read ∙ q.read) in
     adds_once f n line q.meaning old a b
     (subst (λ (m : Meaning). Adds f n line m old a) same p.adds) q.adds
 
-all_once : (format : Format) (places : ℕ) (f : Fractions) (n : ℕ) (lines : List (List ℕ))
+all_once : (format : Format) (places : ℕ) (f : Reading) (n : ℕ) (lines : List (List ℕ))
     (old a b : Said) → AddAll format places f n lines old a → AddAll format places f n lines old b → a ≡ b
 all_once format places f n [] old a b p q = p ∙ sym q
 all_once format places f n (line ∷ lines) old a b p q =
@@ -147,19 +167,19 @@ all_once format places f n (line ∷ lines) old a b p q =
     all_once format places f (n + 1) lines q.0 a b
     (subst (λ (x : Said). AddAll format places f (n + 1) lines x a) same p.2) q.2
 
-no_fault : (f : Fractions) (n : ℕ) (line : List ℕ) (m : Meaning) (old new : Said)
+no_fault : (f : Reading) (n : ℕ) (line : List ℕ) (m : Meaning) (old new : Said)
     → Adds f n line m old new → meaning_fault line (Ok m) ≡ None
 no_fault f n line nothing old new p = refl
 no_fault f n line end old new p = absurd p
 no_fault f n line (sampled s) old new p = p.faultless
 
-line_faultless : (format : Format) (places : ℕ) (f : Fractions) (n : ℕ) (line : List ℕ)
+line_faultless : (format : Format) (places : ℕ) (f : Reading) (n : ℕ) (line : List ℕ)
     (old new : Said) → AddsLine format places f n line old new → line_fault format places line ≡ None
 line_faultless format places f n line old new p =
     ap (meaning_fault line) p.read ∙ no_fault f n line p.meaning old new p.adds
 
 -- a line among those that say something has no fault
-among : (format : Format) (places : ℕ) (f : Fractions) (n : ℕ) (before : List (List ℕ))
+among : (format : Format) (places : ℕ) (f : Reading) (n : ℕ) (before : List (List ℕ))
     (line : List ℕ) (after : List (List ℕ)) (old new : Said)
     → AddAll format places f n (before ++ line ∷ after) old new
     → line_fault format places line ≡ None
@@ -177,7 +197,7 @@ not_endless Prometheus all lines r p cut = p
 no_place : {A : Type 0} (x : A) (o : Option A) → o ≡ Some x → o ≡ None → ⊥
 no_place x o e f = absurd (let g : Some x ≡ None = sym e ∙ f in cc)
 
-not_refused : (format : Format) (places : ℕ) (f : Fractions) (text : List ℕ) (said : Said)
+not_refused : (format : Format) (places : ℕ) (f : Reading) (text : List ℕ) (said : Said)
     (r : Refusal) → IsText format places f text said → IsRefused format places f text r → ⊥
 not_refused format places f text said r is (inl p) =
     not_endless format (lines_in text) is.lines r p is.cut
@@ -188,14 +208,14 @@ not_refused format places f text said r is (inr p) =
     (among format places f 1 wrong.before wrong.line wrong.after unsaid said
     (subst (λ (ls : List (List ℕ)). AddAll format places f 1 ls unsaid said) same is.says))
 
-text_once : (format : Format) (places : ℕ) (f : Fractions) (text : List ℕ) (a b : Said)
+text_once : (format : Format) (places : ℕ) (f : Reading) (text : List ℕ) (a b : Said)
     → IsText format places f text a → IsText format places f text b → a ≡ b
 text_once format places f text a b p q =
     let same = one_cut format (lines_in text) p.lines q.lines p.cut q.cut in
     all_once format places f 1 q.lines unsaid a b
     (subst (λ (ls : List (List ℕ)). AddAll format places f 1 ls unsaid a) same p.says) q.says
 
-pub only_in : (format : Format) (places : ℕ) (f : Fractions) (text : List ℕ)
+pub only_in : (format : Format) (places : ℕ) (f : Reading) (text : List ℕ)
     (r : Result Exposition ReadError) (said : Said) → IfOk r (λ e. IsText format places f text (told_in e))
     → IfErr r (λ e. IfRefused e (IsRefused format places f text))
     → IsText format places f text said → Gives told_in r (Ok said)

@@ -4,3 +4,4 @@ pub mod Refusing
 pub mod Rows
 pub mod Runs
 pub mod Series
+pub mod Values

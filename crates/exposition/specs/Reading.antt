@@ -4,6 +4,7 @@ use Rattle.std.specs.Prelude.{codes, Bool, false, filter, length, None, Result, 
 use Rattle.std.specs.Borrow.{Bor}
 use Rattle.std.specs.List.{slice_split}
 use Rattle.std.specs.FinMap.Entries.{put}
+use Rattle.double_text.specs.Texts.{double_at}
 use Rattle.labels.specs.Contents.{Content}
 use Rattle.labels.specs.Labels.{Labels, point_cmp}
 use Rattle.labels.specs.LabelSets.{IsMadeOf}
@@ -19,8 +20,11 @@ use Rattle.exposition.specs.declared.text.Fractions.{Fractions}
 use Rattle.exposition.specs.declared.text.Fractions.TheVariants.{Beside, Rounded}
 use Rattle.exposition.specs.declared.text.Gathered.{Gathered}
 use Rattle.exposition.specs.declared.text.Left.{Left}
+use Rattle.exposition.specs.declared.text.Reading.{Reading}
+use Rattle.exposition.specs.declared.text.Reading.TheVariants.{Decimals, Doubles}
 use Rattle.exposition.specs.Faults.{column_of, pairs_of_sample, sample_fault}
 use Rattle.exposition.specs.Runs.{content_of, count_of}
+use Rattle.exposition.specs.Values.{IsKeptFor, text_before}
 
 -- what lines say: the samples that have a number of parts, of which the later stands; how many such
 -- lines there are; the other samples with their places, in their order; and the places of those
@@ -82,32 +86,45 @@ place_of number line s = record {
   column = column_of line s.from_value;
 }
 
+-- the value of a sample as it is asked for: its decimal as it was read; or what is kept for the
+-- double nearest to the number that its text writes
+abbrev pub IsValueAs : Reading → List ℕ → Sampled → Value → Type 0
+IsValueAs (Decimals fractions) line s value = value ≡ s.value
+IsValueAs Doubles line s value = IsKeptFor (double_at (text_before line s.from_value)) value
+
+-- what becomes of fractions, of which there are none among doubles
+abbrev pub fractions_in : Reading → Fractions
+fractions_in (Decimals fractions) = fractions
+fractions_in Doubles = Beside
+
 -- the line of a sample: its labels are those of the line and the name of the metric
-pub record AddsSample (fractions : Fractions) (number : ℕ) (line : List ℕ) (s : Sampled)
+pub record AddsSample (reading : Reading) (number : ℕ) (line : List ℕ) (s : Sampled)
     (old new : Said) : Type 0 where
   pub faultless : sample_fault line s ≡ None
   pub labels : Labels
   pub made : IsMadeOf labels (pairs_of_sample s)
-  pub adds : AddsValue fractions s.value labels (place_of number line s) old new
+  pub value : Value
+  pub is : IsValueAs reading line s value
+  pub adds : AddsValue (fractions_in reading) value labels (place_of number line s) old new
 
-abbrev pub Adds : Fractions → ℕ → List ℕ → Meaning → Said → Said → Type 0
-Adds fractions number line nothing old new = new ≡ old
-Adds fractions number line end old new = ⊥
-Adds fractions number line (sampled s) old new = AddsSample fractions number line s old new
+abbrev pub Adds : Reading → ℕ → List ℕ → Meaning → Said → Said → Type 0
+Adds reading number line nothing old new = new ≡ old
+Adds reading number line end old new = ⊥
+Adds reading number line (sampled s) old new = AddsSample reading number line s old new
 
 -- what the line with this number adds to what those before it say
-pub record AddsLine (format : Format) (places : ℕ) (fractions : Fractions) (number : ℕ)
+pub record AddsLine (format : Format) (places : ℕ) (reading : Reading) (number : ℕ)
     (line : List ℕ) (old new : Said) : Type 0 where
   pub meaning : Meaning
   pub read : line_at format places line ≡ Ok meaning
-  pub adds : Adds fractions number line meaning old new
+  pub adds : Adds reading number line meaning old new
 
 -- what lines add, one after the other, the first of which has this number
-abbrev pub AddAll : Format → ℕ → Fractions → ℕ → List (List ℕ) → Said → Said → Type 0
-AddAll format places fractions number [] old new = new ≡ old
-AddAll format places fractions number (line ∷ lines) old new =
-    (mid : Said) × AddsLine format places fractions number line old mid
-    × AddAll format places fractions (number + 1) lines mid new
+abbrev pub AddAll : Format → ℕ → Reading → ℕ → List (List ℕ) → Said → Said → Type 0
+AddAll format places reading number [] old new = new ≡ old
+AddAll format places reading number (line ∷ lines) old new =
+    (mid : Said) × AddsLine format places reading number line old mid
+    × AddAll format places reading (number + 1) lines mid new
 
 -- what no line says
 abbrev pub unsaid : Said
@@ -135,11 +152,11 @@ pub record IsCutInto (format : Format) (all lines : List (List ℕ)) : Type 0 wh
   pub ends : IsEnd format ending
 
 -- the text is lines that say this, and its end
-pub record IsText (format : Format) (places : ℕ) (fractions : Fractions) (text : List ℕ)
+pub record IsText (format : Format) (places : ℕ) (reading : Reading) (text : List ℕ)
     (said : Said) : Type 0 where
   pub lines : List (List ℕ)
   pub cut : IsCutInto format (lines_in text) lines
-  pub says : AddAll format places fractions 1 lines unsaid said
+  pub says : AddAll format places reading 1 lines unsaid said
 
 -- whether an exemplar stands behind the sample of what a line says
 abbrev pub is_exemplar : Meaning → Bool

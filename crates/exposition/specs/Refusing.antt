@@ -9,7 +9,7 @@ use Rattle.exposition.specs.declared.error.Cause.TheVariants.{End}
 use Rattle.exposition.specs.declared.error.ReadError.{ReadError}
 use Rattle.exposition.specs.declared.error.ReadError.TheVariants.{Memory, Refused}
 use Rattle.exposition.specs.declared.error.Refusal.{Refusal}
-use Rattle.exposition.specs.declared.text.Fractions.{Fractions}
+use Rattle.exposition.specs.declared.text.Reading.{Reading}
 use Rattle.exposition.specs.Faults.{line_fault}
 use Rattle.exposition.specs.Reading.{Said, AddAll, IsCutInto, eof, lines_in, unsaid}
 
@@ -32,14 +32,14 @@ abbrev pub IsFor : ℕ → Option (ℕ × Cause) → Refusal → Type 0
 IsFor number fault r = (r.line ≡ number) × (fault ≡ Some (r.column, r.cause))
 
 -- the first line that is wrong: those before it say something, and it has the fault
-pub record IsFirstWrong (format : Format) (places : ℕ) (fractions : Fractions)
+pub record IsFirstWrong (format : Format) (places : ℕ) (reading : Reading)
     (lines : List (List ℕ)) (r : Refusal) : Type 0 where
   pub before : List (List ℕ)
   pub line : List ℕ
   pub after : List (List ℕ)
   pub parts : lines ≡ before ++ line ∷ after
   pub said : Said
-  pub says : AddAll format places fractions 1 before unsaid said
+  pub says : AddAll format places reading 1 before unsaid said
   pub wrong : IsFor (length before + 1) (line_fault format places line) r
 
 -- the lines without an empty one at their end
@@ -61,11 +61,11 @@ MissesEnd OpenMetrics all r = (front : List (List ℕ)) × AreBefore all front �
 MissesEnd Prometheus all r = ⊥
 
 -- lines before the end, one of which is wrong
-abbrev pub HasWrong : Format → ℕ → Fractions → List (List ℕ) → Refusal → Type 0
-HasWrong format places fractions all r = (lines : List (List ℕ)) × IsCutInto format all lines
-    × IsFirstWrong format places fractions lines r
+abbrev pub HasWrong : Format → ℕ → Reading → List (List ℕ) → Refusal → Type 0
+HasWrong format places reading all r = (lines : List (List ℕ)) × IsCutInto format all lines
+    × IsFirstWrong format places reading lines r
 
 -- a text is refused: its end is missing, or else its first line that is wrong is told
-abbrev pub IsRefused : Format → ℕ → Fractions → List ℕ → Refusal → Type 0
-IsRefused format places fractions text r =
-    MissesEnd format (lines_in text) r ⊎ HasWrong format places fractions (lines_in text) r
+abbrev pub IsRefused : Format → ℕ → Reading → List ℕ → Refusal → Type 0
+IsRefused format places reading text r =
+    MissesEnd format (lines_in text) r ⊎ HasWrong format places reading (lines_in text) r

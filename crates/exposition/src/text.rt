@@ -7,6 +7,7 @@ ghost use Rattle.exposition.specs.Faults.{pairs_of_sample, sample_fault};
 ghost use Rattle.exposition.specs.Reading.{Adds, AddAll, AddsLine, AddsNear, AddsSample};
 ghost use Rattle.exposition.specs.Reading.{AddsValue, IsText, HasExemplars};
 ghost use Rattle.exposition.specs.Reading.{exemplars_in, has_exemplar, is_exemplar};
+ghost use Rattle.exposition.specs.Reading.{IsValueAs, fractions_in};
 ghost use Rattle.exposition.specs.Reading.{Said, place_of, said_in, texts_in, told_in, unsaid};
 ghost use Rattle.exposition.specs.Refusing.{Gives, IfRefused, IsFirstWrong, IsFor, IsRefused};
 ghost use Rattle.exposition.specs.Runs.{AreRising};
@@ -17,6 +18,7 @@ use crate::error::{Cause, ReadError};
 use crate::lines::{Numbered, column_at, lines_of, refused};
 use crate::runs::Runs;
 use crate::series::{NoLabels, label_set};
+use crate::values::double_in;
 use labels::{LabelSet, Row, Sample, is_time};
 use open_metrics::{Fault, Format, Line, SampleLine, Value, read_line};
 use std::alloc::{AllocError, Global};
@@ -28,6 +30,16 @@ pub enum Fractions {
     Beside,
     /// They stand in the rows as the nearest number of parts, of two the even one.
     Rounded,
+}
+
+/// What the values of a text are read as.
+#[derive(Clone, Copy, Debug, PartialEq, Eq, Drop)]
+pub enum Reading {
+    /// Decimals, in parts of which a power of ten make one; and what becomes of the fractions of
+    /// these.
+    Decimals(Fractions),
+    /// The doubles nearest to them, each of which is kept as the number for it.
+    Doubles,
 }
 
 /// The time of a sample whose value is not kept as it is written, and where its value stands.
@@ -62,6 +74,25 @@ struct Gathered {
     runs: Runs,
     others: Vec<Left>,
     rounded: Vec<Left>,
+}
+
+fn fractions_in(reading: Reading) -> Fractions
+    ensures { result ≡ fractions_in reading }
+{
+    match reading {
+        Reading::Decimals(fractions) => fractions,
+        Reading::Doubles => Fractions::Beside,
+    }
+}
+
+// The value of a sample, as it is asked for.
+fn value_as(reading: Reading, at: Numbered<'_>, sample: &SampleLine<'_>) -> Value
+    ensures { IsValueAs reading at.entry.line.now (sample_in sample.now) result }
+{
+    match reading {
+        Reading::Decimals(_) => sample.value,
+        Reading::Doubles => double_in(at.line, sample.from_value),
+    }
 }
 
 fn left_in(at: Numbered<'_>, sample: &SampleLine<'_>) -> Left
@@ -150,31 +181,39 @@ fn add_value(
 
 fn add_sample(
     alloc: Global,
-    fractions: Fractions,
+    reading: Reading,
     gathered: &mut Gathered,
     sample: &SampleLine<'_>,
     at: Numbered<'_>,
 ) -> Result<(), ReadError>
-    ensures adds { OnOk result (AddsSample fractions at.entry.number at.entry.line.now
+    ensures adds { OnOk result (AddsSample reading at.entry.number at.entry.line.now
         (sample_in sample.now) (said_in gathered.old) (said_in gathered.new)) }
     ensures wrong { IfErr result (λ e. IfRefused e
         (IsFor at.entry.number (sample_fault at.entry.line.now (sample_in sample.now)))) }
 {
     let labels = labels_of(alloc, at, sample)?;
     let place = left_in(at, sample);
-    add_value(alloc, fractions, gathered, &labels, sample.value, place)?;
+    let value = value_as(reading, at, sample);
+    add_value(
+        alloc,
+        fractions_in(reading),
+        gathered,
+        &labels,
+        value,
+        place,
+    )?;
     Ok(())
 }
 
 // Adds what a line says, and tells whether an exemplar stands behind it.
 fn add_read(
     alloc: Global,
-    fractions: Fractions,
+    reading: Reading,
     gathered: &mut Gathered,
     read: Line<'_>,
     at: Numbered<'_>,
 ) -> Result<bool, ReadError>
-    ensures adds { OnOk result (Adds fractions at.entry.number at.entry.line.now
+    ensures adds { OnOk result (Adds reading at.entry.number at.entry.line.now
         (meaning_in read.entry) (said_in gathered.old) (said_in gathered.new)) }
     ensures told { IfOk result (λ has. has ≡ is_exemplar (meaning_in read.entry)) }
     ensures wrong { IfErr result (λ e. IfRefused e
@@ -184,7 +223,7 @@ fn add_read(
         Line::Nothing => Ok(false),
         Line::End => Err(refused(at.number, 1, Cause::End)),
         Line::Sample(sample) => {
-            add_sample(alloc, fractions, gathered, &sample, at)?;
+            add_sample(alloc, reading, gathered, &sample, at)?;
             Ok(sample.exemplar)
         }
     }
@@ -215,19 +254,19 @@ fn add_line(
     alloc: Global,
     format: Format,
     places: u32,
-    fractions: Fractions,
+    reading: Reading,
     gathered: &mut Gathered,
     at: Numbered<'_>,
 ) -> Result<bool, ReadError>
     requires { places ≤ 9 }
-    ensures adds { OnOk result (AddsLine format places fractions at.entry.number
+    ensures adds { OnOk result (AddsLine format places reading at.entry.number
         at.entry.line.now (said_in gathered.old) (said_in gathered.new)) }
     ensures told { IfOk result (λ has. has ≡ has_exemplar format places at.entry.line.now) }
     ensures wrong { IfErr result (λ e. IfRefused e
         (IsFor at.entry.number (line_fault format places at.entry.line.now))) }
 {
     let read = line_of(alloc, format, places, at)?;
-    let has = add_read(alloc, fractions, gathered, read, at)?;
+    let has = add_read(alloc, reading, gathered, read, at)?;
     Ok(has)
 }
 
@@ -236,16 +275,16 @@ fn gather(
     alloc: Global,
     format: Format,
     places: u32,
-    fractions: Fractions,
+    reading: Reading,
     lines: &[&[u8]],
 ) -> Result<(Gathered, u64), ReadError>
     requires { places ≤ 9 }
     ensures adds { IfOk result (λ g.
-        AddAll format places fractions 1 (texts_in lines.now) unsaid (said_in g.0)) }
+        AddAll format places reading 1 (texts_in lines.now) unsaid (said_in g.0)) }
     ensures counted { IfOk result
         (λ g. g.1 ≡ exemplars_in format places (texts_in lines.now)) }
     ensures wrong { IfErr result (λ e. IfRefused e
-        (IsFirstWrong format places fractions (texts_in lines.now))) }
+        (IsFirstWrong format places reading (texts_in lines.now))) }
 {
     let mut gathered = Gathered {
         runs: Runs::new(alloc),
@@ -256,7 +295,7 @@ fn gather(
     let mut number = 1u64;
     for line in lines {
         let at = Numbered { number, line };
-        let has = add_line(alloc, format, places, fractions, &mut gathered, at)?;
+        let has = add_line(alloc, format, places, reading, &mut gathered, at)?;
         exemplars += u64::from(has);
         number += 1;
     }
@@ -268,18 +307,18 @@ fn read_lines(
     alloc: Global,
     format: Format,
     places: u32,
-    fractions: Fractions,
+    reading: Reading,
     text: &[u8],
 ) -> Result<Exposition, ReadError>
     requires { places ≤ 9 }
-    ensures found { IfOk result (λ e. IsText format places fractions text.now (told_in e)) }
+    ensures found { IfOk result (λ e. IsText format places reading text.now (told_in e)) }
     ensures rise { IfOk result (λ e. AreRising e.rows.items) }
     ensures exemplars { IfOk result (λ e. HasExemplars format places text.now e.exemplars) }
     ensures refused { IfErr result
-        (λ e. IfRefused e (IsRefused format places fractions text.now)) }
+        (λ e. IfRefused e (IsRefused format places reading text.now)) }
 {
     let lines = lines_of(alloc, format, text)?;
-    let (gathered, exemplars) = gather(alloc, format, places, fractions, lines.as_slice())?;
+    let (gathered, exemplars) = gather(alloc, format, places, reading, lines.as_slice())?;
     let Gathered {
         runs,
         others,
@@ -293,8 +332,9 @@ fn read_lines(
     })
 }
 
-/// The samples of a text in rows; values are counted in parts of which 10^places make one, and
-/// fractions of these are rounded, or told beside the rows.
+/// The samples of a text in rows. Values are read as decimals, in parts of which 10^places make
+/// one, and fractions of these are rounded, or told beside the rows; or as doubles, each the nearest
+/// to what the text writes.
 ///
 /// A text of OpenMetrics without its end is refused, and then the first line that is wrong. It
 /// takes time in proportion to the text.
@@ -302,21 +342,21 @@ pub fn read_text(
     alloc: Global,
     format: Format,
     places: u32,
-    fractions: Fractions,
+    reading: Reading,
     text: &[u8],
 ) -> Result<Exposition, ReadError>
     requires { places ≤ 9 }
     // Line by line, the text says the samples that the rows hold and the others, and no more.
-    ensures found { IfOk result (λ e. IsText format places fractions text.now (told_in e)) }
+    ensures found { IfOk result (λ e. IsText format places reading text.now (told_in e)) }
     ensures rise { IfOk result (λ e. AreRising e.rows.items) }
     // The lines with an exemplar are counted.
     ensures exemplars { IfOk result (λ e. HasExemplars format places text.now e.exemplars) }
     // The end that is missing is told, or the first line that is wrong: its number, where, and why.
     ensures refused { IfErr result
-        (λ e. IfRefused e (IsRefused format places fractions text.now)) }
+        (λ e. IfRefused e (IsRefused format places reading text.now)) }
     // A text that says something gives it, unless memory runs out.
-    ensures only { (said : Said) → IsText format places fractions text.now said
+    ensures only { (said : Said) → IsText format places reading text.now said
         → Gives told_in result (Ok said) }
 {
-    read_lines(alloc, format, places, fractions, text)
+    read_lines(alloc, format, places, reading, text)
 }

@@ -25,7 +25,9 @@ use Rattle.metrics_writer.proofs.Grouping.{grouped_permuted}
 use Rattle.open_metrics.specs.declared.comments.Format.TheVariants.{OpenMetrics}
 use Rattle.open_metrics.specs.Lines.{sampled}
 use Rattle.open_metrics.proofs.Whole.{line_again as read_again}
+use Rattle.open_metrics.specs.declared.numbers.Value.TheVariants.{Parts}
 use Rattle.exposition.specs.declared.text.Fractions.{Fractions}
+use Rattle.exposition.specs.declared.text.Reading.TheVariants.{Decimals}
 use Rattle.exposition.specs.Reading.{Said, AddAll, IsText, eof, lines_in, unsaid}
 use Rattle.exposition.specs.Rows.{put_each}
 use Rattle.exposition.proofs.Only.{same_said}
@@ -68,13 +70,13 @@ record Added (places : ℕ) (f : Fractions) (text : List ℕ) (old new : Said) :
   lines : List (List ℕ)
   text_is : text ≡ joined lines
   are : AreLines lines
-  adds : (n : ℕ) → AddAll OpenMetrics places f n lines old new
+  adds : (n : ℕ) → AddAll OpenMetrics places (Decimals f) n lines old new
 
 adds_both : (places : ℕ) (f : Fractions) (n : ℕ) (xs ys : List (List ℕ)) (a b c : Said)
-    → AddAll OpenMetrics places f n xs a b → ((m : ℕ) → AddAll OpenMetrics places f m ys b c)
-    → AddAll OpenMetrics places f n (xs ++ ys) a c
+    → AddAll OpenMetrics places (Decimals f) n xs a b → ((m : ℕ) → AddAll OpenMetrics places (Decimals f) m ys b c)
+    → AddAll OpenMetrics places (Decimals f) n (xs ++ ys) a c
 adds_both places f n [] ys a b c p q =
-    subst (λ (x : Said). AddAll OpenMetrics places f n ys x c) p (q n)
+    subst (λ (x : Said). AddAll OpenMetrics places (Decimals f) n ys x c) p (q n)
 adds_both places f n (x ∷ xs) ys a b c p q =
     (p.0, p.1, adds_both places f (n + 1) xs ys p.0 b c p.2 q)
 
@@ -144,6 +146,8 @@ sample_added places f row s old is written =
                 rw (no_pairs_fault row.0 is.label_set is.metric is.utf8, written.time) refl;
             labels = row.0;
             made = (pairs_are row.0 is.label_set is.metric).made;
+            value = Parts s.1;
+            is = refl;
             adds = ((refl, refl, refl), refl);
           };
         },
@@ -196,7 +200,7 @@ all_grouped rows all =
     (All-from_recursion IsWritable rows all))
 
 pub texts_again : (places : ℕ) (f : Fractions) (rows : List Row) → AllByRecursion IsWritable rows
-    → IsText OpenMetrics places f (text_of places rows) (said_of rows)
+    → IsText OpenMetrics places (Decimals f) (text_of places rows) (said_of rows)
 texts_again places f rows all =
     let all_added = rows_added places f (grouped rows) unsaid (all_grouped rows all) in
     let is =
@@ -211,7 +215,7 @@ texts_again places f rows all =
             ∙ split_again all_added.lines (codes "# EOF\n") all_added.are;
         ends = inr refl;
       };
-      says = subst (λ (x : Said). AddAll OpenMetrics places f 1 all_added.lines unsaid x) is
+      says = subst (λ (x : Said). AddAll OpenMetrics places (Decimals f) 1 all_added.lines unsaid x) is
           (all_added.adds 1);
     }
 

@@ -27,6 +27,7 @@ use Rattle.open_metrics.specs.Lines.{Sampled, Meaning, nothing, end, sampled}
 use Rattle.open_metrics.proofs.Whole.{line_takes}
 use Rattle.exposition.specs.declared.error.Cause.{Cause}
 use Rattle.exposition.specs.declared.text.Fractions.{Fractions}
+use Rattle.exposition.specs.declared.text.Reading.TheVariants.{Decimals}
 use Rattle.exposition.specs.declared.text.Fractions.TheVariants.{Beside, Rounded}
 use Rattle.exposition.specs.declared.text.Left.{Left}
 use Rattle.exposition.specs.Faults.{are_utf8, is_utf8_pair, or_time, pairs_fault, pairs_of_sample}
@@ -124,7 +125,7 @@ no_fault line s None h =
     ]
 
 sample_fits : (f : Fractions) (n : ℕ) (line : List ℕ) (s : Sampled) (old new : Said)
-    → IsName Metric s.name → (a : AddsSample f n line s old new) → (v : ℤ)
+    → IsName Metric s.name → (a : AddsSample (Decimals f) n line s old new) → (v : ℤ)
     → unsigned_abs v < 2 ^ 63 → Fits ((a.labels, s.time), v)
 sample_fits f n line s old new is a v small =
     let pairs = pairs_of_sample s in
@@ -150,17 +151,17 @@ value_holds f Other l place old new fits small a holds = subst Holds (sym a.0) h
 
 meaning_holds : (format : Format) (places : ℕ) (f : Fractions) (n : ℕ) (line : List ℕ)
     (m : Meaning) (old new : Said) → IfSampled m (IsSample format places line)
-    → Adds f n line m old new → Holds old.content → Holds new.content
+    → Adds (Decimals f) n line m old new → Holds old.content → Holds new.content
 meaning_holds format places f n line nothing old new is a holds =
     subst (λ (x : Said). Holds x.content) (sym a) holds
 meaning_holds format places f n line end old new is a holds = absurd a
 meaning_holds format places f n line (sampled s) old new is a holds =
-    value_holds f s.value a.labels (place_of n line s) old new
+    value_holds f a.value a.labels (place_of n line s) old new
     (sample_fits f n line s old new is.name_is a)
-    (number_small is.value places s.value is.value_is) a.adds holds
+    (subst IsSmall (sym a.is) (number_small is.value places s.value is.value_is)) a.adds holds
 
 all_hold : (format : Format) (places : ℕ) (f : Fractions) (n : ℕ) (lines : List (List ℕ))
-    (old new : Said) → AddAll format places f n lines old new → Holds old.content
+    (old new : Said) → AddAll format places (Decimals f) n lines old new → Holds old.content
     → Holds new.content
 all_hold format places f n [] old new a holds =
     subst (λ (x : Said). Holds x.content) (sym a) holds
@@ -170,7 +171,7 @@ all_hold format places f n (line ∷ lines) old new a holds =
     (line_takes format places line a.1.meaning a.1.read) a.1.adds holds)
 
 text_holds : (format : Format) (places : ℕ) (f : Fractions) (text : List ℕ) (said : Said)
-    → IsText format places f text said → Holds said.content
+    → IsText format places (Decimals f) text said → Holds said.content
 text_holds format places f text said is =
     all_hold format places f 1 is.lines unsaid said is.says (record { fit = tt; rise = tt })
 
@@ -211,16 +212,16 @@ metrics_all (row ∷ rows) all =
     and_from (is_of_metric row) (list_all is_of_metric rows) all.0.metric (metrics_all rows all.1)
 
 pub written_again : (format : Format) (places : ℕ) (f : Fractions) (text : List ℕ) (said : Said)
-    (rows : List Row) → IsText format places f text said → AreRows rows said.content
+    (rows : List Row) → IsText format places (Decimals f) text said → AreRows rows said.content
     → (list_all is_of_metric rows ≡ true)
-    × IsText OpenMetrics places f (text_of places rows)
+    × IsText OpenMetrics places (Decimals f) (text_of places rows)
     (record { content = said.content; count = count_of rows; others = []; rounded = [] })
 written_again format places f text said rows is are =
     let holds = text_holds format places f text said is in
     let fit = subst AllFit (sym are.points) holds.fit in
     let all = rows_fit rows are.full fit in (
       metrics_all rows all,
-      subst (λ (c : Content). IsText OpenMetrics places f (text_of places rows)
+      subst (λ (c : Content). IsText OpenMetrics places (Decimals f) (text_of places rows)
           (record { content = c; count = count_of rows; others = []; rounded = [] }))
           (all_said rows said.content holds.rise are.points) (texts_again places f rows all),
     )

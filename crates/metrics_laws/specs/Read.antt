@@ -17,6 +17,7 @@ use Rattle.open_metrics.specs.declared.comments.Format.{Format}
 use Rattle.open_metrics.specs.declared.comments.Format.TheVariants.{OpenMetrics}
 use Rattle.open_metrics.specs.declared.numbers.Value.TheVariants.{Parts}
 use Rattle.exposition.specs.declared.text.Fractions.{Fractions}
+use Rattle.exposition.specs.declared.text.Reading.TheVariants.{Decimals}
 use Rattle.exposition.specs.Faults.{are_utf8}
 use Rattle.exposition.specs.Reading.{Said, IsCutInto, IsText, lines_in}
 use Rattle.exposition.specs.Rows.{put_each}
@@ -62,7 +63,7 @@ said_of rows = record {
 abbrev pub AreReadAgain : Type 0
 AreReadAgain = (places : ℕ) (fractions : Fractions) (rows : List Row) → places ≤ 9
     → AllByRecursion IsWritable rows
-    → IsText OpenMetrics places fractions (text_of places rows) (said_of rows)
+    → IsText OpenMetrics places (Decimals fractions) (text_of places rows) (said_of rows)
 
 -- each line spells its sample
 abbrev pub AreSpelled : ℕ → List (List ℕ) → List Sampled → Type 0
@@ -101,8 +102,8 @@ AreAllSaid = (rows : List Row) (c : Content) → T (is_sorted point_cmp c) → A
 -- written for them says the same samples
 abbrev pub AreWrittenAgain : Type 0
 AreWrittenAgain = (format : Format) (places : ℕ) (fractions : Fractions) (text : List ℕ)
-    (said : Said) (rows : List Row) → IsText format places fractions text said
+    (said : Said) (rows : List Row) → IsText format places (Decimals fractions) text said
     → AreRows rows said.content
     → (list_all is_of_metric rows ≡ true)
-    × IsText OpenMetrics places fractions (text_of places rows)
+    × IsText OpenMetrics places (Decimals fractions) (text_of places rows)
     (record { content = said.content; count = count_of rows; others = []; rounded = [] })

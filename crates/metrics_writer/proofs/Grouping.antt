@@ -272,7 +272,7 @@ names_up rows up = ascend_grouped [] rows up
 abbrev pub left_of : List ℕ → List (List ℕ) → List Row → List Row
 left_of m ms rows = if list_any (bytes_eq m) ms then [] else of_metric m rows
 
-abbrev with_metric : List (List ℕ) → List ℕ → List (List ℕ)
+abbrev pub with_metric : List (List ℕ) → List ℕ → List (List ℕ)
 with_metric ms m = if list_any (bytes_eq m) ms then ms else ms ++ m ∷ []
 
 any_other : (m h : List ℕ) (ms : List (List ℕ)) → bytes_eq m h ≡ false
@@ -287,7 +287,7 @@ any_other m h (x ∷ xs) apart =
       | inr e ↦ rw e (ap (λ (b : Bool). bytes_eq m x || b) (any_other m h xs apart))
     ]
 
-metrics_more : (rows : List Row) (row : Row)
+pub metrics_more : (rows : List Row) (row : Row)
     → metrics_of (rows ++ row ∷ []) ≡ with_metric (metrics_of rows) (metric_of row.0)
 metrics_more [] row = refl
 metrics_more (r ∷ rs) row =

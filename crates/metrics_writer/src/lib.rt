@@ -4,7 +4,8 @@
 //! `__name__`, the other labels stand in braces in the order of their names, values are decimals
 //! with as many digits as were asked for, times are seconds with three digits. The rows stand in
 //! their order, but those of one metric together, as OpenMetrics has it. The last line is `# EOF`.
-//! Rows of which one has no `__name__` that names a metric are refused.
+//! Rows of which one has no `__name__` that names a metric are refused. [`write_doubles`] writes
+//! rows whose values stand for doubles, which are written as Prometheus prints them.
 //!
 //! ```
 //! let pairs = [("__name__", "up"), ("job", "a")];
@@ -17,13 +18,15 @@
 //! assert_eq!(rt; text.as_slice(), b"up{job=\"a\"} 1 1700000000.250\n# EOF\n");
 //! ```
 //!
-//! It stands on `labels`, on `doubles` for powers of ten, and on `itoa` for digits. The format is
-//! OpenMetrics 1.0.
+//! It stands on `labels`, on `doubles` for powers of ten, on `stored_doubles` and `double_text` for
+//! doubles, and on `itoa` for digits. The format is OpenMetrics 1.0.
 #![tactic(auto)]
 
+mod double_rows;
 mod groups;
 mod numbers;
 mod rows;
 mod series;
 
+pub use double_rows::write_doubles;
 pub use rows::{WriteError, write_text};

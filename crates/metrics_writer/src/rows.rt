@@ -46,8 +46,8 @@ impl<T: Drop> From<AllocFailed<T>> for WriteError {
     }
 }
 
-// Appends a space and a number.
-fn append_field(out: &mut Vec<u8>, places: u32, n: i64) -> Result<(), AllocError>
+/// Appends a space and a number.
+pub fn append_field(out: &mut Vec<u8>, places: u32, n: i64) -> Result<(), AllocError>
     requires { places ≤ 9 }
     ensures { OnOk result (out.new.items ≡ out.old.items ++ (32 ∷ number_text places n)) }
 {
@@ -179,7 +179,8 @@ fn append_grouped(
     append_groups(alloc, out, places, groups, rows)
 }
 
-fn are_of_metrics(rows: &[Row]) -> bool
+/// Whether each row names a metric.
+pub fn are_of_metrics(rows: &[Row]) -> bool
     ensures { result ≡ list_all is_of_metric rows.now }
 {
     rows.iter().all(|row| names_metric(row.labels()))

@@ -11,7 +11,7 @@ loop-line-preserved c =
     record {
       number = omega (arith, l.invariant.number);
       adds =
-          all_more c.args.format c.args.places c.args.fractions c.args.lines.now l.line-index
+          all_more c.args.format c.args.places c.args.reading c.args.lines.now l.line-index
           l.number _ unsaid (said_in l.gathered) (said_in c.add_line.new.gathered)
           c.loop-line-test.true l.invariant.number l.invariant.adds c.in_ok-has.ensures.adds;
       few = exemplars_few has _ l.line-index l.exemplars c.from-exemplars.ensures l.invariant.few;
@@ -26,5 +26,5 @@ returns-in_err-has-clause-wrong c =
     let p = err_from_is_err_and c.from_residual.result c.from_residual.ensures.1 in
     let l = c.loop-line in
     rw (p.1, p.2) (first_wrong c.in_err-has.field-0.0 c.args.format c.args.places
-    c.args.fractions c.args.lines.now l.line-index l.number _ (said_in l.gathered) c.loop-line-test.true
+    c.args.reading c.args.lines.now l.line-index l.number _ (said_in l.gathered) c.loop-line-test.true
     l.invariant.number l.invariant.adds c.in_err-has.ensures.wrong)
