@@ -1,1 +1,2 @@
+pub mod AllDoubles
 pub mod Fates

@@ -4,7 +4,7 @@ use Rattle.std.specs.Prelude.{◌&&◌, int_le}
 use Rattle.index_reader.specs.declared.chunk.Chunk.{Chunk}
 use Rattle.labels.specs.Contents.{in_range}
 use Rattle.tombstones.specs.Covering.{covered}
-use Rattle.imported_values.specs.Values.{IsVerdict}
+use Rattle.imported_values.specs.Forms.{IsVerdictIn}
 use Rattle.imported_values.specs.declared.policy.Reason.{Reason}
 use Rattle.imported_values.specs.declared.policy.Reason.TheVariants as reason
 use Rattle.imported_values.specs.declared.policy.Verdict.{Verdict}
@@ -36,7 +36,7 @@ abbrev pub IsFate : Asked → Sample → Fate → Type 0
 IsFate asked s Outside = is_asked asked s.0 ≡ false
 IsFate asked s Deleted = (is_asked asked s.0 ≡ true) × (is_deleted asked s.0 ≡ true)
 IsFate asked s (Judged verdict) = (is_asked asked s.0 ≡ true) × (is_deleted asked s.0 ≡ false)
-    × IsVerdict asked.policy s.1 verdict
+    × IsVerdictIn asked.form s.1 verdict
 
 -- a fate for each of some samples
 abbrev pub AreFates : Asked → List Sample → List Fate → Type 0

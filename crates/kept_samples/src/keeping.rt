@@ -4,7 +4,7 @@ ghost use Rattle.std.specs.Prelude.{◌≡◌, ◌++◌, OnOk, IfErr};
 ghost use Rattle.kept_samples.specs.Keeping.{kept_one, told, IsRefused, IsRefusalOf};
 ghost use Rattle.kept_samples.specs.Keeping.{Keeps, IsFirstRefusal};
 
-use imported_values::{Policy, Reason, Verdict, judge};
+use imported_values::{Form, Reason, Verdict, judge_in};
 use index_reader::Chunk;
 use labels::{Sample, SeriesRef};
 use std::alloc::{AllocError, AllocFailed};
@@ -120,8 +120,8 @@ pub enum Fate {
 /// What is asked of the samples of a series.
 #[derive(Clone, Copy, Drop)]
 pub struct Asked<'a> {
-    /// How values are kept.
-    pub policy: Policy,
+    /// What values are kept as.
+    pub form: Form,
     /// The times that are kept.
     pub times: Times,
     /// What is deleted.
@@ -143,13 +143,13 @@ impl<'a> Asked<'a> {
         if self.tombstones.deleted(self.reference, t) {
             return Fate::Deleted;
         }
-        Fate::Judged(judge(self.policy, float.bits()))
+        Fate::Judged(judge_in(self.form, float.bits()))
     }
 }
 
 /// Appends the samples of a series that are kept: those of the range that no deletion deletes and
-/// whose values the policy keeps. Each sample is told in one count of the tally. The first value
-/// that the policy refuses is answered.
+/// whose values the form keeps. Each sample is told in one count of the tally. The first value that
+/// the form refuses is answered.
 pub fn keep_samples(
     kept: &mut Vec<Sample>,
     tally: &mut Tally,

@@ -16,6 +16,9 @@ use Rattle.index_reader.specs.Indexes.{Series}
 use Rattle.wire.proofs.Steps.{same_value}
 use Rattle.xor_reader.specs.Grammar.{Sample}
 use Rattle.doubles.specs.Double.{stale_marker}
+use Rattle.stored_doubles.proofs.Numbers.{one_number}
+use Rattle.imported_values.specs.declared.form.Form.{Form}
+use Rattle.imported_values.specs.declared.form.Form.TheVariants.{Parts, Doubles}
 use Rattle.imported_values.specs.declared.policy.Policy.{Policy}
 use Rattle.imported_values.specs.declared.policy.Reason.TheVariants as reason
 use Rattle.imported_values.specs.declared.policy.Rest.{Rest}
@@ -24,6 +27,7 @@ use Rattle.imported_values.specs.declared.policy.Stale.{Stale}
 use Rattle.imported_values.specs.declared.policy.Stale.TheVariants as stale
 use Rattle.imported_values.specs.declared.policy.Verdict.{Verdict}
 use Rattle.imported_values.specs.declared.policy.Verdict.TheVariants.{Kept, Rounded, Left, Refused}
+use Rattle.imported_values.specs.Forms.{IsVerdictIn}
 use Rattle.imported_values.specs.Values.{IsExact, IsVerdict, IsVerdictOfRest, verdict_of_stale}
 use Rattle.kept_samples.specs.declared.keeping.Asked.{Asked}
 use Rattle.kept_samples.specs.declared.keeping.Fate.{Fate}
@@ -79,6 +83,16 @@ one_verdict p bits t (Refused r) (Rounded y) a b =
 one_verdict p bits t (Refused r) (Left q) a b = refl
 one_verdict p bits t (Refused r) (Refused q) a b = refl
 
+-- the same in each form
+one_verdict_in : (f : Form) (bits : ℕ) (t : ℤ) (v w : Verdict) → IsVerdictIn f bits v
+    → IsVerdictIn f bits w
+    → kept_one t (Judged v) ≡ kept_one t (Judged w)
+one_verdict_in (Parts p) bits t v w a b = one_verdict p bits t v w a b
+one_verdict_in Doubles bits t v w a b =
+    let same : Kept a.number ≡ Kept b.number =
+    ap (λ (z : ℤ). Kept z) (one_number bits a.number b.number a.fits b.fits a.stored b.stored) in
+    ap (λ (z : Verdict). kept_one t (Judged z)) (a.kept ∙ (same ∙ sym b.kept))
+
 out_low : (a b t : ℤ) → int_lt t a ≡ true → in_range a b t ≡ false
 out_low a b t h = and_left (not (int_lt t a)) (not (int_lt b t)) (ap not h)
 
@@ -97,7 +111,7 @@ range_too a b c d t low high h =
 
 -- the same is asked, of a range and of a wider one
 pub record IsNarrower (narrow wide : Asked) : Type 0 where
-  pub policy : narrow.policy ≡ wide.policy
+  pub form : narrow.form ≡ wide.form
   pub deletions : narrow.tombstones.now ≡ wide.tombstones.now
   pub reference : narrow.reference ≡ wide.reference
   pub from : wide.times.from ≤ℤ narrow.times.from
@@ -126,8 +140,8 @@ module _ (narrow wide : Asked) (n : IsNarrower narrow wide) where
   same_kept s (Judged v) Deleted has a b =
       absurd (differ (is_deleted wide s.0) (sym (deleted_too s.0) ∙ b.1) a.1)
   same_kept s (Judged v) (Judged w) has a b =
-      one_verdict wide.policy s.1 s.0 w v
-      (subst (λ (p : Policy). IsVerdict p s.1 w) n.policy b.2) a.2
+      one_verdict_in wide.form s.1 s.0 w v
+      (subst (λ (f : Form). IsVerdictIn f s.1 w) n.form b.2) a.2
 
   -- of another sample nothing is kept
   none_kept : (s : Sample) (g : Fate) → is_asked narrow s.0 ≡ false → IsFate narrow s g
@@ -309,7 +323,7 @@ module _ (reads : Segments) (alike : AreReadAlike reads) (narrow wide : Asked)
 asked_narrower : (s : Series) (narrow wide : Wanted) (an aw : Asked) → IsPartOf narrow wide
     → IsAskedOf narrow s an → IsAskedOf wide s aw → IsNarrower an aw
 asked_narrower s narrow wide an aw p a b = record {
-  policy = a.policy ∙ (p.policy ∙ sym b.policy);
+  form = a.form ∙ (p.form ∙ sym b.form);
   deletions = a.deletions ∙ (p.deletions ∙ sym b.deletions);
   reference = a.reference ∙ sym b.reference;
   from =

@@ -13,7 +13,7 @@ AreReadAlike reads = (number : ℕ) (a b : List ℕ) → reads number a → read
 
 -- the same is wanted of a block, in a part of a range
 pub record IsPartOf (narrow wide : Wanted) : Type 0 where
-  pub policy : narrow.policy ≡ wide.policy
+  pub form : narrow.form ≡ wide.form
   pub deletions : narrow.tombstones.now ≡ wide.tombstones.now
   pub from : wide.times.from ≤ℤ narrow.times.from
   pub to : narrow.times.to ≤ℤ wide.times.to

@@ -15,7 +15,7 @@ use Rattle.prometheus_block.specs.Series.{Segments, AreSamplesIn}
 
 -- what is asked of the samples of a series is what is wanted of its block
 pub record IsAskedOf (wanted : Wanted) (s : Series) (asked : Asked) : Type 0 where
-  pub policy : asked.policy ≡ wanted.policy
+  pub form : asked.form ≡ wanted.form
   pub times : asked.times ≡ wanted.times
   pub deletions : asked.tombstones.now ≡ wanted.tombstones.now
   pub reference : asked.reference ≡ s.reference

@@ -8,7 +8,7 @@ ghost use Rattle.prometheus_block.specs.Rows.{AreRowsOf, IsRowAfter, ArePlaced, 
 use crate::error::SourceError;
 use crate::segments::{Held, ReadSegments};
 use crate::series::read_series;
-use imported_values::Policy;
+use imported_values::Form;
 use index_reader::Index;
 use kept_samples::{Asked, KeepError, Tally, Times, keep_samples};
 use labels::{Row, Sample};
@@ -49,14 +49,14 @@ pub struct Wanted<'a> {
     pub index: &'a Index,
     /// Its deletions.
     pub tombstones: &'a Tombstones,
-    /// How values are kept.
-    pub policy: Policy,
+    /// What values are kept as.
+    pub form: Form,
     /// The times that are kept.
     pub times: Times,
 }
 
 /// The rows of a block: for each series of its index in their order, those of its samples in the
-/// range that no deletion deletes and whose values the policy keeps; a series without one has no
+/// range that no deletion deletes and whose values the form keeps; a series without one has no
 /// row. Each sample of the chunks that meet the range is told in one count of the tally. Label sets
 /// are made once all samples are read and no segment is held any more.
 pub fn read_rows<S: ReadSegments>(
@@ -123,7 +123,7 @@ fn keep_series<S: ReadSegments>(
 {
     let floats = read_series(alloc, files, held, wanted.index.chunks_at(at), wanted.times)?;
     let asked = Asked {
-        policy: wanted.policy,
+        form: wanted.form,
         times: wanted.times,
         tombstones: wanted.tombstones,
         reference: wanted.index.reference_at(at),

@@ -12,7 +12,7 @@ returns-then-has_none-clause-found g c = λ s e.
     (at_series (λ (x : Series). x.chunks) series c.args.at _ s c.chunks_at.ensures e)
     c.in_ok-floats.ensures.found
     (record {
-      policy = refl;
+      form = refl;
       times = refl;
       deletions = refl;
       reference =
@@ -31,7 +31,7 @@ returns-clause-found g c = λ s e.
     (at_series (λ (x : Series). x.chunks) series c.args.at _ s c.chunks_at.ensures e)
     c.in_ok-floats.ensures.found
     (record {
-      policy = refl;
+      form = refl;
       times = refl;
       deletions = refl;
       reference =
