@@ -1,3 +1,4 @@
 pub mod Blocks
+pub mod Meanings
 pub mod Steps
 pub mod Trees

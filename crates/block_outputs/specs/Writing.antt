@@ -6,7 +6,9 @@ use Rattle.block.specs.Metas.{range_said}
 use Rattle.block.specs.Ranges.{IsRange, covers}
 use Rattle.block_folder.specs.declared.folder.Place.{Place}
 use Rattle.block_folder.specs.declared.folder.Files.{Files}
+use Rattle.block_folder.specs.declared.values.Values.{Values}
 use Rattle.block_folder.specs.Blocks.{IsPlace, WritesWhole}
+use Rattle.block_folder.specs.Meanings.{values_said}
 use Rattle.block_folder.specs.Steps.{Did, whole}
 use Rattle.block_writer.specs.SpellRows.{AreWithin, SpellRows}
 
@@ -27,11 +29,11 @@ is_within range row = nat_le (length row.1) 1048576 && are_inside range row.1
 abbrev pub are_within : ℤ × ℤ → List Row → Bool
 are_within range rows = nat_le (length rows) 1048576 && list_all (is_within range) rows
 
--- a block is written in a directory, so that no crash leaves a half of it: its meta says a range, and
--- by the grammar of blocks its other files are a block of this range with exactly these rows, which
--- are no more than a block may have
+-- a block is written in a directory, so that no crash leaves a half of it: its meta says a range
+-- and what the values mean, and by the grammar of blocks its other files are a block of this range
+-- with exactly these rows, which are no more than a block may have
 pub record WritesBlock {D : Type 0} (did : D → List Did → Type 0) (into : List ℕ)
-    (rows : List Row) (old new : D) : Type 0 where
+    (values : Values) (rows : List Row) (old new : D) : Type 0 where
   pub place : Place
   pub parent : place.parent.now ≡ into
   pub is_place : IsPlace place
@@ -40,6 +42,7 @@ pub record WritesBlock {D : Type 0} (did : D → List Did → Type 0) (into : Li
   pub within : AreWithin range rows
   pub files : Files
   pub said : range_said files.meta.now ≡ Some range
+  pub meaning : values_said files.meta.now ≡ Some values
   pub spelled : SpellRows range files.index.now (whole files.chunks.now) files.tombstones.now rows
   pub written : WritesWhole did place files old new
 
@@ -48,6 +51,7 @@ abbrev pub IsStill : {D : Type 0} → (D → List Did → Type 0) → D → D �
 IsStill did old new = (log : List Did) → did old log → did new log
 
 -- a block of rows is written in a directory; nothing is called for no row
-abbrev pub Writes : {D : Type 0} → (D → List Did → Type 0) → List ℕ → List Row → D → D → Type 0
-Writes did into rows old new =
-    ((rows ≡ []) × IsStill did old new) ⊎ WritesBlock did into rows old new
+abbrev pub Writes : {D : Type 0} → (D → List Did → Type 0) → List ℕ → Values → List Row → D → D
+    → Type 0
+Writes did into values rows old new =
+    ((rows ≡ []) × IsStill did old new) ⊎ WritesBlock did into values rows old new

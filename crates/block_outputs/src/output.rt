@@ -5,6 +5,7 @@ ghost use Rattle.std.specs.Prelude.{string_bytes};
 ghost use Rattle.std.specs.List.{list_all};
 ghost use Rattle.block.specs.Metas.{range_said};
 ghost use Rattle.block_folder.specs.Blocks.{IsPlace};
+ghost use Rattle.block_folder.specs.Meanings.{values_said};
 ghost use Rattle.block_writer.specs.SpellRows.{AreWithin};
 ghost use Rattle.block_outputs.specs.Writing.{samples_in, are_inside, is_within, are_within};
 ghost use Rattle.block_outputs.specs.Writing.{Writes, WritesBlock};
@@ -12,7 +13,7 @@ ghost use Rattle.block_outputs.specs.Writing.{Writes, WritesBlock};
 use crate::error::OutputError;
 use crate::naming::{output_name, unfinished_name};
 use block::Range;
-use block_folder::{Disk, Files, Place, meta_text, write_block};
+use block_folder::{Disk, Files, Place, Values, meta_text, write_block};
 use block_writer::{PartRows, write_pieces};
 use labels::{Row, Sample};
 use std::alloc::{AllocError, Global};
@@ -108,15 +109,22 @@ fn range_for(first: i64, last: i64, rows: &[Row]) -> Result<Range, OutputError>
     Ok(range)
 }
 
-fn meta_for(alloc: Global, range: Range, extent: Extent, digits: u32) -> Result<String, OutputError>
-    ensures { IfOk result (λ text. range_said (string_bytes text) ≡ Some range) }
+fn meta_for(
+    alloc: Global,
+    range: Range,
+    extent: Extent,
+    digits: u32,
+    values: Values,
+) -> Result<String, OutputError>
+    ensures range { IfOk result (λ text. range_said (string_bytes text) ≡ Some range) }
+    ensures values { IfOk result (λ text. values_said (string_bytes text) ≡ Some values) }
 {
     let Extent {
         series,
         samples,
         ..
     } = extent;
-    match meta_text(alloc, range, series, samples, digits)? {
+    match meta_text(alloc, range, series, samples, digits, values)? {
         Some(text) => Ok(text),
         None => Err(OutputError::TooLarge),
     }
@@ -136,6 +144,7 @@ fn write_in<D: Disk>(
     disk: &mut D,
     names: &Names<'_>,
     range: Range,
+    values: Values,
     meta: &str,
     rows: PartRows,
 ) -> Result<(), OutputError>
@@ -146,8 +155,9 @@ fn write_in<D: Disk>(
     }) }
     requires within { AreWithin range rows }
     requires said { range_said meta.now ≡ Some range }
+    requires meaning { values_said meta.now ≡ Some values }
     ensures { OnOk result
-        (WritesBlock D.did names.now.into.now rows disk.old disk.new) }
+        (WritesBlock D.did names.now.into.now values rows disk.old disk.new) }
 {
     // For the proof alone: the call says that the range begins below its end.
     let _ = range.min();
@@ -168,16 +178,17 @@ fn write_in<D: Disk>(
 }
 
 /// Writes rows as the block `INTO/NNNN` of this number, and gives its name and what it has; where
-/// there is no row nothing is written. Values are said to have so many digits after the point.
-/// `TooLarge` where the rows are more than a block may have, or the last time is the greatest of
-/// all; `Disk` where a call of the disk fails, after which no further is made. The rows are let go
-/// while their chunks are written.
+/// there is no row nothing is written. Its `meta.json` says how many digits after the point the
+/// values have, and what they mean. `TooLarge` where the rows are more than a block may have, or
+/// the last time is the greatest of all; `Disk` where a call of the disk fails, after which no
+/// further is made. The rows are let go while their chunks are written.
 pub fn write_output<D: Disk>(
     alloc: Global,
     disk: &mut D,
     into: &str,
     number: usize,
     digits: u32,
+    values: Values,
     rows: PartRows,
 ) -> Result<Option<Output>, OutputError>
     // Nothing is told of no rows alone.
@@ -185,7 +196,7 @@ pub fn write_output<D: Disk>(
     // A block of exactly the rows is written, which are no more than a block may have: at whatever
     // moment the machine stops, its directory has all of it or is not there. For no row nothing is
     // called.
-    ensures written { OnOk result (Writes D.did into.now rows disk.old disk.new) }
+    ensures written { OnOk result (Writes D.did into.now values rows disk.old disk.new) }
 {
     if rows.rows().is_empty() {
         return Ok(None);
@@ -200,7 +211,7 @@ pub fn write_output<D: Disk>(
         last,
     };
     let range = range_for(first, last, rows.rows())?;
-    let meta = meta_for(alloc, range, extent, digits)?;
+    let meta = meta_for(alloc, range, extent, digits, values)?;
     let name = output_name(alloc, into, number)?;
     let unfinished = unfinished_name(alloc, into, number)?;
     let names = Names {
@@ -208,6 +219,6 @@ pub fn write_output<D: Disk>(
         block: name.as_str(),
         unfinished: unfinished.as_str(),
     };
-    write_in(alloc, disk, &names, range, meta.as_str(), rows)?;
+    write_in(alloc, disk, &names, range, values, meta.as_str(), rows)?;
     Ok(Some(Output { name, extent }))
 }

@@ -4,6 +4,7 @@ ghost use Rattle.std.specs.Prelude.{◌≡◌, ◌⊎◌, ℤ, [], Some, false, 
 ghost use Rattle.labels.specs.Parts.{rows_in};
 ghost use Rattle.block.specs.Metas.{range_said};
 ghost use Rattle.block.specs.Ranges.{IsRange};
+ghost use Rattle.block_folder.specs.Meanings.{values_said};
 ghost use Rattle.block_writer.specs.declared.error.WriteError.TheVariants.{Limit as TooLong};
 ghost use Rattle.block_writer.specs.SpellRows.{AreWithin, SpellRows};
 ghost use Rattle.block_writer.specs.Written.{IsFileTooLong};
@@ -14,7 +15,7 @@ use crate::error::RewriteError;
 use crate::few::are_few;
 use crate::rows::full_rows;
 use block::{Block, Range};
-use block_folder::meta_text;
+use block_folder::{Values, meta_text};
 use block_writer::{BlockBytes, PartRows, WriteError, write};
 use std::alloc::Global;
 
@@ -31,11 +32,18 @@ pub struct Rewritten {
     pub tombstones: Vec<u8>,
 }
 
-fn meta_of(alloc: Global, range: Range, series: usize, samples: u64) -> Result<String, RewriteError>
+fn meta_of(
+    alloc: Global,
+    range: Range,
+    series: usize,
+    samples: u64,
+    values: Values,
+) -> Result<String, RewriteError>
     ensures said { IfOk result (λ text. range_said (string_bytes text) ≡ Some range) }
+    ensures values { IfOk result (λ text. values_said (string_bytes text) ≡ Some values) }
     ensures limit { IsErrOf result RewriteError.Limit → ⊥ }
 {
-    match meta_text(alloc, range, series, samples, 0)? {
+    match meta_text(alloc, range, series, samples, 0, values)? {
         Some(text) => Ok(text),
         None => Err(RewriteError::Meta),
     }
@@ -60,17 +68,19 @@ fn files_of(
     alloc: Global,
     range: Range,
     samples: u64,
+    values: Values,
     rows: &PartRows,
 ) -> Result<Rewritten, RewriteError>
     requires ranged { IsRange range }
     requires within { AreWithin range rows.now }
     ensures said { IfOk result (λ files. range_said (string_bytes files.meta) ≡ Some range) }
+    ensures values { IfOk result (λ files. values_said (string_bytes files.meta) ≡ Some values) }
     ensures spelled { IfOk result (λ files. SpellRows range files.index.items files.chunks.items
         files.tombstones.items rows.now) }
     ensures undeleted { IfOk result (λ files. IsTombstones files.tombstones.items []) }
     ensures limit { IsErrOf result RewriteError.Limit → IsFileTooLong rows.now TooLong }
 {
-    let meta = meta_of(alloc, range, rows.rows().len(), samples)?;
+    let meta = meta_of(alloc, range, rows.rows().len(), samples, values)?;
     let BlockBytes {
         index,
         chunks,
@@ -86,13 +96,15 @@ fn files_of(
 
 /// The files of a block that covers the same times and has exactly the rows of this one that have a
 /// sample, so that nothing of it is deleted. Its `meta.json` says that values have no digits after
-/// the point.
+/// the point, and what they mean.
 ///
 /// It takes memory in proportion to the samples of the block.
-pub fn rewrite(alloc: Global, block: &Block) -> Result<Rewritten, RewriteError>
+pub fn rewrite(alloc: Global, block: &Block, values: Values) -> Result<Rewritten, RewriteError>
     // They say the range of the block.
     ensures said { IfOk result (λ files.
         range_said (string_bytes files.meta) ≡ Some block.now.range) }
+    // They say this meaning of the values.
+    ensures values { IfOk result (λ files. values_said (string_bytes files.meta) ≡ Some values) }
     // By the grammar of blocks, they are a block of this range with exactly these rows.
     ensures spelled { IfOk result (λ files. SpellRows block.now.range files.index.items
         files.chunks.items files.tombstones.items (full_rows (rows_in block.now.part))) }
@@ -111,5 +123,5 @@ pub fn rewrite(alloc: Global, block: &Block) -> Result<Rewritten, RewriteError>
         return Err(RewriteError::Limit);
     }
     let rows = PartRows::new(rows).unwrap();
-    files_of(alloc, range, block.sample_count(), &rows)
+    files_of(alloc, range, block.sample_count(), values, &rows)
 }
