@@ -29,7 +29,8 @@ abbrev refusal : RefusedHead → Result (Saved × ℕ) RefusedHead
 refusal r = Err r
 
 abbrev with_count : Opening → ℕ → Opening
-with_count o k = record { floor = o.floor; places = o.places; count = k }
+with_count o k =
+    record { values = o.values; floor = o.floor; places = o.places; count = k }
 
 length_take : (n : ℕ) (xs : List (List ℕ)) → n ≤ length xs → length (take n xs) ≡ n
 length_take zero xs le = refl
@@ -43,8 +44,12 @@ long : (others : List (List ℕ)) (o : Opening) → nat_lt (length others) o.cou
     → o.count ≤ length others
 long others o h = grind (arith, nat_tests)
 
-abbrev saved_ok : Opening → List HeadSeries → ℕ → Result (Saved × ℕ) RefusedHead
-saved_ok o hs k = Ok (record { floor = o.floor; places = o.places; head = hs }, k)
+abbrev pub saved_of : Opening → List HeadSeries → Saved
+saved_of o hs =
+    record { values = o.values; floor = o.floor; places = o.places; head = hs }
+
+abbrev pub saved_ok : Opening → List HeadSeries → ℕ → Result (Saved × ℕ) RefusedHead
+saved_ok o hs k = Ok (saved_of o hs, k)
 
 pub first_refused : (first : List ℕ) (others : List (List ℕ)) (f : TextError)
     → Fails text.is_memory f (opening_of first)
@@ -82,7 +87,7 @@ series_refused others own o r enough is h =
 pub all_read : (others own : List (List ℕ)) (o : Opening) (hs : List HeadSeries) (count : ℕ)
     → nat_lt (length others) o.count ≡ false → own ≡ take o.count others
     → each_series 1 own ≡ Ok hs → count ≡ length own + 1
-    → with_series o others ≡ Ok (record { floor = o.floor; places = o.places; head = hs }, count)
+    → with_series o others ≡ saved_ok o hs count
 unfolding with_series
 all_read others own o hs count enough is each counted =
     let here : each_series 1 (take o.count others) ≡ Ok hs =
@@ -176,9 +181,9 @@ pub begins : (first : List ℕ) (others own : List (List ℕ)) (o : Opening) (co
     (head : List HeadSeries) → SpellsOpening first o
     → nat_lt (length others) o.count ≡ false → own ≡ take o.count others → SpellEach own head
     → count ≡ length own + 1
-    → Begins (first ∷ others) (record { floor = o.floor; places = o.places; head = head }) count
+    → Begins (first ∷ others) (saved_of o head) count
 begins first others own o count head s enough is each counted =
-    let saved : Saved = record { floor = o.floor; places = o.places; head = head } in
+    let saved = saved_of o head in
     let m : length own ≡ o.count =
     ap length is ∙ length_take o.count others (long others o enough) in
     let n : length head ≡ o.count =

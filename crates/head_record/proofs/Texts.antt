@@ -1,7 +1,8 @@
 -- What is read is the one text of its value, and each text is read.
-use Rattle.std.proofs.Common.{◌≡◌, ℕ, eqb, List, [], ◌∷◌, ◌++◌, Result, Ok, Err, refl, sym, ap}
+use Rattle.std.proofs.Common.{◌≡◌, ℕ, Bool, true, false, eqb, List, [], ◌∷◌, ◌++◌, Result, Ok, Err}
+use Rattle.std.proofs.Common.{refl, sym, ap}
 use Rattle.std.proofs.Common.{subst, ◌∙◌, append_assoc}
-use Rattle.std.specs.Prelude.{IfOk}
+use Rattle.std.specs.Prelude.{IfOk, if◌then◌else◌}
 use Rattle.std.proofs.lemmas.Bool.{eqb-true}
 use Rattle.std.proofs.lemmas.List.{append-nil}
 use Rattle.wire.specs.Spelling.{uvarint, varint, IsBytes}
@@ -10,6 +11,8 @@ use Rattle.wire.specs.Outcome.{or_refused}
 use Rattle.wire.proofs.Laws.{uvarint_takes, uvarint_again}
 use Rattle.wire.proofs.Signed.{varint_takes, varint_again}
 use Rattle.wire.proofs.Steps.{bind_ok, refused_ok, passed, same_value, rest_fits}
+use Rattle.block_folder.specs.declared.values.Values.{Values}
+use Rattle.block_folder.specs.declared.values.Values.TheVariants.{Whole, Doubles}
 use Rattle.head.specs.Heads.{HeadSeries}
 use Rattle.event_text.specs.declared.error.TextError.{TextError}
 use Rattle.event_text.specs.declared.error.TextError.TheVariants.{Kind, Field}
@@ -22,8 +25,8 @@ use Rattle.event_text.proofs.Texts.{many_again, many_takes, sample_again, sample
 use Rattle.head_record.specs.declared.parts.OpeningParts.{OpeningParts}
 use Rattle.head_record.specs.Reading.{ended, opening_at, opening_of, opening_whole, place_at}
 use Rattle.head_record.specs.Reading.{series_at, series_of, series_whole}
-use Rattle.head_record.specs.Spelling.{Opening, opening_content, opening_text, place_text}
-use Rattle.head_record.specs.Spelling.{series_content, series_text}
+use Rattle.head_record.specs.Spelling.{Opening, opening_content, opening_kind, opening_text}
+use Rattle.head_record.specs.Spelling.{place_text, series_content, series_text}
 use Rattle.head_record.specs.Spelling.{IsOpening, IsPlace, IsSeries, SpellsOpening, SpellsSeries}
 use Rattle.head_record.specs.Views.{opening_in}
 
@@ -56,9 +59,21 @@ place_again p rest h =
     let two = uvarint_again p.1 rest h.tombstones in
     ap place_at (append_assoc (uvarint p.0) (uvarint p.1) rest) ∙ rw (one, two) refl
 
-opening_takes : EachTakes opening_at opening_text IsOpening
+-- what is read of an opening after its kind has the meaning that the kind says
+opening_means : (values : Values) (bytes : List ℕ) (x : Opening × List ℕ)
+    → opening_at values bytes ≡ Ok x → x.0.values ≡ values
+unfolding opening_at
+opening_means values bytes x h =
+    let f = bind_ok (or_refused Field (varint_at bytes)) _ x h in
+    let p = bind_ok (many_at place_at f.0.1) _ x f.2 in
+    let n = bind_ok (or_refused Field (uvarint_at p.0.1)) _ x p.2 in
+    let made : Opening × List ℕ =
+    (record { values = values; floor = f.0.0; places = p.0.0; count = n.0.0 }, n.0.1) in
+    sym (ap (λ (y : Opening × List ℕ). y.0.values) (same_value made x n.2))
+
+opening_takes : (values : Values) → EachTakes (opening_at values) opening_text IsOpening
 unfolding opening_at opening_text
-opening_takes bytes x fits h =
+opening_takes values bytes x fits h =
     let f = bind_ok (or_refused Field (varint_at bytes)) _ x h in
     let p = bind_ok (many_at place_at f.0.1) _ x f.2 in
     let n = bind_ok (or_refused Field (uvarint_at p.0.1)) _ x p.2 in
@@ -68,7 +83,7 @@ opening_takes bytes x fits h =
     let three = uvarint_takes p.0.1 n.0.0 n.0.1 two.behind
     (refused_ok Field (uvarint_at p.0.1) n.0 n.1) in
     let made : Opening × List ℕ =
-    (record { floor = f.0.0; places = p.0.0; count = n.0.0 }, n.0.1) in
+    (record { values = values; floor = f.0.0; places = p.0.0; count = n.0.0 }, n.0.1) in
     let places = many_text place_text p.0.0 in
     subst (Takes opening_text IsOpening bytes) (same_value made x n.2) (record {
       front = one.0 ∙ joined (varint f.0.0) (places ++ uvarint n.0.0) f.0.1 n.0.1
@@ -77,7 +92,8 @@ opening_takes bytes x fits h =
       behind = rest_fits p.0.1 (uvarint n.0.0) n.0.1 two.behind three.0;
     })
 
-opening_again : EachAgain opening_at opening_text IsOpening
+opening_again : (o : Opening) (rest : List ℕ) → IsOpening o
+    → opening_at o.values (opening_text o ++ rest) ≡ Ok (o, rest)
 unfolding opening_at opening_text
 opening_again o rest h =
     let places = many_text place_text o.places in
@@ -85,7 +101,7 @@ opening_again o rest h =
     let two = many_again place_at place_text IsPlace place_again o.places (uvarint o.count ++ rest)
     h.places in
     let three = uvarint_again o.count rest h.count in
-    ap opening_at (parted (varint o.floor) places (uvarint o.count) rest)
+    ap (opening_at o.values) (parted (varint o.floor) places (uvarint o.count) rest)
     ∙ rw (one, two, three) refl
 
 series_takes : EachTakes series_at series_text IsSeries
@@ -149,28 +165,57 @@ content_is kind k content bytes text rest is e front nothing =
     ∙ ap (λ (y : List ℕ). kind ∷ y)
     (front ∙ (ap (λ (y : List ℕ). text ++ y) nothing ∙ append-nil text)))
 
-opening_found : (content : List ℕ) (o : Opening) → IsBytes content
-    → opening_of content ≡ Ok o → SpellsOpening content o
-unfolding opening_of opening_whole
-opening_found content o fits h =
-    let k = bind_ok (or_refused Kind (byte_at content)) _ o h in
-    let p = passed (eqb k.0.0 16) Kind (opening_whole k.0.1) o k.2 in
-    let x = bind_ok (opening_at k.0.1) _ o p.1 in
+-- the opening of a meaning, behind the kind that says it
+whole_found : (values : Values) (kind : ℕ) (content bytes : List ℕ) (o : Opening)
+    → IsBytes content → content ≡ kind ∷ bytes → kind ≡ opening_kind values
+    → opening_whole values bytes ≡ Ok o → SpellsOpening content o
+unfolding opening_whole
+whole_found values kind content bytes o fits front is h =
+    let x = bind_ok (opening_at values bytes) _ o h in
     let e = end_takes x.0.0 o x.0.1 x.2 in
-    let front = byte_takes content k.0 (refused_ok Kind (byte_at content) k.0 k.1) in
-    let one = opening_takes k.0.1 x.0 (rest_fits content (k.0.0 ∷ []) k.0.1 fits front) x.1 in
+    let one = opening_takes values bytes x.0 (rest_fits content (kind ∷ []) bytes fits front) x.1 in
+    let said : kind ≡ opening_kind x.0.0.values =
+    is ∙ ap opening_kind (sym (opening_means values bytes x.0 x.1)) in
     subst (SpellsOpening content) e.same (record {
-      text = content_is 16 k.0.0 content k.0.1 (opening_text x.0.0) x.0.1 front
-          (eqb-true k.0.0 16 p.0) one.front e.nothing;
+      text = content_is (opening_kind x.0.0.values) kind content bytes (opening_text x.0.0) x.0.1
+          front said one.front e.nothing;
       fits = one.fits;
     })
 
-pub opening_read : (o : Opening) → IsOpening o → opening_of (opening_content o) ≡ Ok o
-unfolding opening_of opening_whole
-opening_read o h =
-    let one : opening_at (opening_text o) ≡ Ok (o, []) =
-    ap opening_at (sym (append-nil (opening_text o))) ∙ opening_again o [] h in
+opening_found : (content : List ℕ) (o : Opening) → IsBytes content
+    → opening_of content ≡ Ok o → SpellsOpening content o
+unfolding opening_of
+opening_found content o fits h =
+    let k = bind_ok (or_refused Kind (byte_at content)) _ o h in
+    let front = byte_takes content k.0 (refused_ok Kind (byte_at content) k.0 k.1) in
+    by_kind (eqb k.0.0 16) (eqb k.0.0 18) (opening_whole Whole k.0.1) (opening_whole Doubles k.0.1)
+    o (SpellsOpening content o)
+    (λ is read. whole_found Whole k.0.0 content k.0.1 o fits front (eqb-true k.0.0 16 is) read)
+    (λ is read. whole_found Doubles k.0.0 content k.0.1 o fits front (eqb-true k.0.0 18 is) read)
+    k.2
+  where
+    by_kind : (a b : Bool) (one two : Result Opening TextError) (o : Opening) (X : Type 0)
+        → (a ≡ true → one ≡ Ok o → X) → (b ≡ true → two ≡ Ok o → X)
+        → (if a then one else if b then two else Err Kind) ≡ Ok o → X
+    by_kind true b one two o X first second h = first refl h
+    by_kind false true one two o X first second h = second refl h
+    by_kind false false one two o X first second h = absurd cc
+
+whole_read : (o : Opening) → IsOpening o → opening_whole o.values (opening_text o) ≡ Ok o
+unfolding opening_whole
+whole_read o h =
+    let one : opening_at o.values (opening_text o) ≡ Ok (o, []) =
+    ap (opening_at o.values) (sym (append-nil (opening_text o))) ∙ opening_again o [] h in
     rw one refl
+
+read_by_kind : (values : Values) (bytes : List ℕ)
+    → opening_of (opening_kind values ∷ bytes) ≡ opening_whole values bytes
+unfolding opening_of
+read_by_kind Whole bytes = refl
+read_by_kind Doubles bytes = refl
+
+pub opening_read : (o : Opening) → IsOpening o → opening_of (opening_content o) ≡ Ok o
+opening_read o h = read_by_kind o.values (opening_text o) ∙ whole_read o h
 
 series_found : (content : List ℕ) (h : HeadSeries) → IsBytes content
     → series_of content ≡ Ok h → SpellsSeries content h

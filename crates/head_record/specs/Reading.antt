@@ -3,6 +3,8 @@ use Rattle.std.specs.Prelude.{ℕ, List, [], ◌∷◌, length, take, Result, Ok
 use Rattle.std.specs.Prelude.{if◌then◌else◌}
 use Rattle.wire.specs.Reading.{byte_at, uvarint_at, varint_at}
 use Rattle.wire.specs.Outcome.{◌>>=◌, or_refused}
+use Rattle.block_folder.specs.declared.values.Values.{Values}
+use Rattle.block_folder.specs.declared.values.Values.TheVariants.{Whole, Doubles}
 use Rattle.head.specs.Heads.{HeadSeries}
 use Rattle.event_text.specs.declared.error.TextError.{TextError}
 use Rattle.event_text.specs.declared.error.TextError.TheVariants.{Kind, Field, Rest}
@@ -17,12 +19,13 @@ place_at bytes = do
   tombstones ← or_refused Field (uvarint_at folder.1)
   Ok ((folder.0, tombstones.0), tombstones.1)
 
-unfoldable pub opening_at : List ℕ → Result (Opening × List ℕ) TextError
-opening_at bytes = do
+-- what an opening says behind its kind, which says what the values mean
+unfoldable pub opening_at : Values → List ℕ → Result (Opening × List ℕ) TextError
+opening_at values bytes = do
   floor ← or_refused Field (varint_at bytes)
   places ← many_at place_at floor.1
   count ← or_refused Field (uvarint_at places.1)
-  Ok (record { floor = floor.0; places = places.0; count = count.0 }, count.1)
+  Ok (record { values = values; floor = floor.0; places = places.0; count = count.0 }, count.1)
 
 unfoldable pub series_at : List ℕ → Result (HeadSeries × List ℕ) TextError
 series_at bytes = do
@@ -37,9 +40,9 @@ ended a [] = Ok a
 ended a (b ∷ rest) = Err Rest
 
 -- all of the bytes after a kind
-unfoldable pub opening_whole : List ℕ → Result Opening TextError
-opening_whole bytes = do
-  x ← opening_at bytes
+unfoldable pub opening_whole : Values → List ℕ → Result Opening TextError
+opening_whole values bytes = do
+  x ← opening_at values bytes
   ended x.0 x.1
 
 unfoldable pub series_whole : List ℕ → Result HeadSeries TextError
@@ -47,11 +50,18 @@ series_whole bytes = do
   x ← series_at bytes
   ended x.0 x.1
 
+-- an opening whose kind says what the values mean
+abbrev pub opening_by : ℕ → List ℕ → Result Opening TextError
+opening_by kind bytes =
+    if kind == 16 then opening_whole Whole bytes
+    else if kind == 18 then opening_whole Doubles bytes
+    else Err Kind
+
 -- a content begins by its kind
 unfoldable pub opening_of : List ℕ → Result Opening TextError
 opening_of content = do
   kind ← or_refused Kind (byte_at content)
-  if kind.0 == 16 then opening_whole kind.1 else Err Kind
+  opening_by kind.0 kind.1
 
 unfoldable pub series_of : List ℕ → Result HeadSeries TextError
 series_of content = do
@@ -78,7 +88,7 @@ with_series o contents =
     then Err (record { at = length contents + 1; error = Kind })
     else (do
       hs ← each_series 1 (take o.count contents)
-      Ok (record { floor = o.floor; places = o.places; head = hs }, o.count + 1))
+      Ok (record { values = o.values; floor = o.floor; places = o.places; head = hs }, o.count + 1))
 
 -- what the first contents of a journal save, and how many they are
 unfoldable pub head_of : List (List ℕ) → Result (Saved × ℕ) RefusedHead

@@ -3,6 +3,8 @@ use Rattle.std.specs.Prelude.{◌≡◌, ◌<◌, ◌^◌, ℕ, ℤ, List, ◌�
 use Rattle.std.specs.List.{AllByRecursion}
 use Rattle.wire.specs.Spelling.{uvarint, varint, zigzag}
 use Rattle.labels.specs.LabelSets.{IsLabelSet}
+use Rattle.block_folder.specs.declared.values.Values.{Values}
+use Rattle.block_folder.specs.declared.values.Values.TheVariants.{Whole, Doubles}
 use Rattle.head.specs.Heads.{HeadSeries}
 use Rattle.event_text.specs.Spelling.{labels_text, many_text, sample_text}
 use Rattle.event_text.specs.Spelling.{AreMany, IsPair, IsSample}
@@ -13,6 +15,8 @@ place_text p = uvarint p.0 ++ uvarint p.1
 
 -- what the first content says
 pub record Opening : Type 0 where
+  -- what the values mean: the kind says it
+  pub values : Values
   pub floor : ℤ
   pub places : List Place
   -- how many series follow, each a content
@@ -24,21 +28,28 @@ opening_text o = varint o.floor ++ (many_text place_text o.places ++ uvarint o.c
 unfoldable pub series_text : HeadSeries → List ℕ
 series_text h = labels_text h.labels ++ (sample_text h.newest ++ many_text sample_text h.samples)
 
--- the kinds of the two contents, beside those of events, 1 to 3
-abbrev pub opening_kind : ℕ
-opening_kind = 16
+-- the kinds of the two contents, beside those of events, 1 to 3; the first has one for each meaning
+-- of the values
+abbrev pub opening_kind : Values → ℕ
+opening_kind Whole = 16
+opening_kind Doubles = 18
 
 abbrev pub series_kind : ℕ
 series_kind = 17
 
 abbrev pub opening_content : Opening → List ℕ
-opening_content o = opening_kind ∷ opening_text o
+opening_content o = opening_kind o.values ∷ opening_text o
 
 abbrev pub series_content : HeadSeries → List ℕ
 series_content h = series_kind ∷ series_text h
 
 abbrev pub opening_of_saved : Saved → Opening
-opening_of_saved s = record { floor = s.floor; places = s.places; count = length s.head }
+opening_of_saved s = record {
+  values = s.values;
+  floor = s.floor;
+  places = s.places;
+  count = length s.head;
+}
 
 -- the contents that a journal begins with
 abbrev pub head_texts : Saved → List (List ℕ)

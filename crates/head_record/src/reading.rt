@@ -19,6 +19,7 @@ ghost use Rattle.head_record.specs.Views.{opening_in};
 use crate::error::RefusedHead;
 use crate::parts::OpeningParts;
 use crate::saved::{BlockPlace, HeadRecord};
+use block_folder::Values;
 use event_text::{TextError, labels_of, sample_of, samples_of};
 use head::SavedSeries;
 use labels::Sample;
@@ -49,8 +50,12 @@ fn places_of(alloc: Global, bytes: &[u8], count: u64) -> Result<(Vec<BlockPlace>
 }
 
 #[tactic(auto, unfolding(crate::specs::Reading::opening_at, event_text::specs::Reading::many_at))]
-fn opening_at(alloc: Global, bytes: &[u8]) -> Result<(OpeningParts, &[u8]), TextError>
-    ensures { Gives (λ x. (opening_in x.0, x.1.now)) result (opening_at bytes.now) }
+fn opening_at(
+    alloc: Global,
+    values: Values,
+    bytes: &[u8],
+) -> Result<(OpeningParts, &[u8]), TextError>
+    ensures { Gives (λ x. (opening_in x.0, x.1.now)) result (opening_at values bytes.now) }
 {
     let mut cut = Cut::new(bytes);
     let floor = cut.varint().or(Err(TextError::Field))?;
@@ -59,6 +64,7 @@ fn opening_at(alloc: Global, bytes: &[u8]) -> Result<(OpeningParts, &[u8]), Text
     let mut cut = Cut::new(rest);
     let count = cut.uvarint().or(Err(TextError::Field))?;
     let opening = OpeningParts {
+        values,
         floor,
         places,
         count,
@@ -67,10 +73,10 @@ fn opening_at(alloc: Global, bytes: &[u8]) -> Result<(OpeningParts, &[u8]), Text
 }
 
 #[tactic(auto, unfolding(crate::specs::Reading::opening_whole))]
-fn opening_whole(alloc: Global, bytes: &[u8]) -> Result<OpeningParts, TextError>
-    ensures { Gives opening_in result (opening_whole bytes.now) }
+fn opening_whole(alloc: Global, values: Values, bytes: &[u8]) -> Result<OpeningParts, TextError>
+    ensures { Gives opening_in result (opening_whole values bytes.now) }
 {
-    let (opening, rest) = opening_at(alloc, bytes)?;
+    let (opening, rest) = opening_at(alloc, values, bytes)?;
     if rest.len() > 0 {
         return Err(TextError::Rest);
     }
@@ -84,7 +90,8 @@ fn opening_of(alloc: Global, content: &[u8]) -> Result<OpeningParts, TextError>
     let mut cut = Cut::new(content);
     let kind = cut.u8().or(Err(TextError::Kind))?;
     match kind {
-        16 => opening_whole(alloc, cut.rest()),
+        16 => opening_whole(alloc, Values::Whole, cut.rest()),
+        18 => opening_whole(alloc, Values::Doubles, cut.rest()),
         _ => Err(TextError::Kind),
     }
 }
@@ -217,7 +224,7 @@ fn with_series(
     match each_series(alloc, own) {
         Ok(series) => {
             let count = own.len() + 1;
-            let head = HeadRecord::new(opening.floor, opening.places, series);
+            let head = HeadRecord::new(opening.values, opening.floor, opening.places, series);
             Ok((head, count))
         }
         Err(refused) => Err(refused),

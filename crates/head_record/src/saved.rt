@@ -2,6 +2,7 @@
 
 ghost use Rattle.std.specs.Prelude.{◌≡◌};
 
+use block_folder::Values;
 use head::SavedSeries;
 use std::marker::Model;
 
@@ -45,10 +46,11 @@ impl BlockPlace {
     }
 }
 
-/// What a journal begins with: a floor, where the blocks lie, and the series of the head in order
-/// of creation.
+/// What a journal begins with: what the values mean, a floor, where the blocks lie, and the series
+/// of the head in order of creation.
 #[derive(Drop)]
 pub struct HeadRecord {
+    values: Values,
     floor: i64,
     places: Vec<BlockPlace>,
     series: Vec<SavedSeries>,
@@ -59,21 +61,43 @@ impl Model for HeadRecord {
 
     ghost Value = { Saved };
 
-    ghost view = { λ h.
-        record { floor = h.floor; places = h.places.items; head = h.series.items } };
+    ghost view = { λ h. record {
+      values = h.values;
+      floor = h.floor;
+      places = h.places.items;
+      head = h.series.items;
+    } };
 }
 
 impl HeadRecord {
-    /// What is saved of a snapshot with this floor, blocks at these places and these series.
-    pub fn new(floor: i64, places: Vec<BlockPlace>, series: Vec<SavedSeries>) -> HeadRecord
-        ensures { result
-            ≡ record { floor = floor; places = places.items; head = series.items } }
+    /// What is saved of a snapshot whose values mean this, with this floor, blocks at these places
+    /// and these series.
+    pub fn new(
+        values: Values,
+        floor: i64,
+        places: Vec<BlockPlace>,
+        series: Vec<SavedSeries>,
+    ) -> HeadRecord
+        ensures { result ≡ record {
+          values = values;
+          floor = floor;
+          places = places.items;
+          head = series.items;
+        } }
     {
         HeadRecord {
+            values,
             floor,
             places,
             series,
         }
+    }
+
+    /// What the values mean.
+    pub fn values(&self) -> Values
+        ensures { result ≡ self.now.values }
+    {
+        self.values
     }
 
     /// The floor, in milliseconds.

@@ -2,12 +2,14 @@
 
 ghost use Rattle.std.specs.Prelude.{◌≡◌, ◌++◌, OnOk, IfOk};
 ghost use Rattle.event_text.specs.Spelling.{many_text, AreMany};
-ghost use Rattle.head_record.specs.Spelling.{head_texts, opening_content, opening_of_saved};
+ghost use Rattle.head_record.specs.Spelling.{head_texts, opening_content, opening_kind};
+ghost use Rattle.head_record.specs.Spelling.{opening_of_saved};
 ghost use Rattle.head_record.specs.Spelling.{place_text, series_content};
 ghost use Rattle.head_record.specs.Spelling.{IsOpening, IsPlace, IsSaved, IsSeries};
 ghost use Rattle.journal.specs.Contents.{contents_in};
 
 use crate::saved::{BlockPlace, HeadRecord};
+use block_folder::Values;
 use event_text::{put_count, put_each_sample, put_labels, put_sample};
 use head::SavedSeries;
 use std::alloc::{AllocError, Global};
@@ -33,13 +35,23 @@ fn put_places(out: &mut Vec<u8>, places: &[BlockPlace]) -> Result<(), AllocError
     Ok(())
 }
 
+/// The kind of the first content, by what the values mean.
+fn opening_kind(values: Values) -> u8
+    ensures { result ≡ opening_kind values }
+{
+    match values {
+        Values::Whole => 16,
+        Values::Doubles => 18,
+    }
+}
+
 #[tactic(auto, unfolding(crate::specs::Spelling::opening_text))]
 fn put_opening(out: &mut Vec<u8>, head: &HeadRecord) -> Result<(), AllocError>
     ensures text { OnOk result (out.new.items
         ≡ out.old.items ++ opening_content (opening_of_saved head.now)) }
     ensures spelled { OnOk result (IsOpening (opening_of_saved head.now)) }
 {
-    put_u8(out, 16)?;
+    put_u8(out, opening_kind(head.values()))?;
     put_varint(out, head.floor())?;
     put_places(out, head.places())?;
     put_count(out, head.series().len())
@@ -56,8 +68,8 @@ fn put_series(out: &mut Vec<u8>, series: &SavedSeries) -> Result<(), AllocError>
     put_each_sample(out, series.samples())
 }
 
-/// The contents that a journal of this head begins with: one for the floor and the blocks, and one
-/// for each series.
+/// The contents that a journal of this head begins with: one for the meaning of the values, the
+/// floor and the blocks, and one for each series.
 pub fn head_contents(alloc: Global, head: &HeadRecord) -> Result<Vec<Vec<u8>>, AllocError>
     ensures texts { IfOk result (λ contents. contents_in contents.items ≡ head_texts head.now) }
     ensures spelled { IfOk result (λ contents. IsSaved head.now) }

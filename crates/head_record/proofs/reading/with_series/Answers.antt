@@ -4,7 +4,7 @@ use Rattle.head_record.specs.Outcome.{Begins}
 use Rattle.head_record.specs.Reading.{with_series}
 use Rattle.head_record.specs.Saved.{Saved}
 use Rattle.head_record.specs.Views.{opening_in}
-use Rattle.head_record.proofs.Contents.{all_read, begins, series_refused, too_few}
+use Rattle.head_record.proofs.Contents.{all_read, begins, saved_of, series_refused, too_few}
 use Rattle.head_record.proofs.Loops.{sized}
 use Rattle.head_record.proofs.reading.with_series.Goals as goal
 
@@ -23,8 +23,7 @@ pub returns-in-Ok-clause-exact : goal.returns-in-Ok-clause-exact
 returns-in-Ok-clause-exact c =
     let n = length c.own_contents-own.result.now + 1 in
     let o = opening_in c.args.opening in
-    let saved : Saved =
-    record { floor = o.floor; places = o.places; head = c.in-Ok.series.items } in
+    let saved = saved_of o c.in-Ok.series.items in
     let made : c.new-head.result ≡ saved = search rules in
     subst (λ (x : Saved). with_series (opening_in c.args.opening) (contents_in c.args.others.now)
     ≡ Ok (x, n)) (sym made)
@@ -37,8 +36,7 @@ pub returns-in-Ok-clause-found : goal.returns-in-Ok-clause-found
 returns-in-Ok-clause-found c first s =
     let n = length c.own_contents-own.result.now + 1 in
     let o = opening_in c.args.opening in
-    let saved : Saved =
-    record { floor = o.floor; places = o.places; head = c.in-Ok.series.items } in
+    let saved = saved_of o c.in-Ok.series.items in
     let made : c.new-head.result ≡ saved = search rules in
     subst (λ (x : Saved). Begins (first ∷ contents_in c.args.others.now) x n)
     (sym made)
