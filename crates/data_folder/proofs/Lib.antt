@@ -1,3 +1,4 @@
+pub mod Foreign
 pub mod Moments
 pub mod Rolls
 pub mod Sweeps

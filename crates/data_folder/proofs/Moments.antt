@@ -127,6 +127,12 @@ module _ {F : Type 0} (shows : F → List ℕ → Option (List ℕ) → Type 0)
     durable = λ name n a b durable. second.durable name n a b (first.durable name n a a durable);
   }
 
+  pub nothing_changed : (from to : List ℕ) (f : F) → KeepsOthers shows kept from to f f
+  nothing_changed from to f = record {
+    same = λ name x a b shown. shown;
+    durable = λ name n a b durable. durable;
+  }
+
   pub first_kept : (from to : List ℕ) (old new : F) → KeepsOthers shows kept from from old new
       → KeepsOthers shows kept from to old new
   first_kept from to old new first = record {

@@ -1,53 +1,58 @@
 -- What a sweep leaves.
 use Rattle.std.proofs.Common.{◌≡◌, ◌≢◌, ℕ, Bool, true, false, List, [], ◌∷◌, ◌++◌}
 use Rattle.std.proofs.Common.{Option, Some, length, refl, sym, subst, ap, ◌∙◌}
+use Rattle.std.proofs.Common.{◌⊎◌, inl, inr, ⊎_elim}
 use Rattle.std.specs.Prelude.{◌||◌}
 use Rattle.std.specs.Str.{bytes_eq}
 use Rattle.std.proofs.lemmas.List.Folds.{list_any-append}
 use Rattle.std.proofs.lemmas.Slice.Eq.{bytes_eq-Decides}
 use Rattle.journal.specs.Records.{file_of}
 use Rattle.data_folder.specs.Folders.{Elapses, KeepsAll, KeepsOthers, Left, LeavesAll}
-use Rattle.data_folder.specs.Folders.{LeavesOnly, LeavesOthers, MayLeaveOf}
+use Rattle.data_folder.specs.Folders.{HasFile, LeavesOnly, LeavesOthers, MayLeaveOf}
 use Rattle.data_folder.specs.JournalFile.{journal_name}
 use Rattle.data_folder.specs.Rolls.{Keeps}
 use Rattle.data_folder.specs.States.{AreThere, HasFiles, HasStore, Named}
-use Rattle.data_folder.specs.Sweeping.{AreAmong, KeepsStore, is_among, is_kept}
+use Rattle.data_folder.specs.Sweeping.{AreAmong, AreKept, KeepsStore, is_among, is_kept, is_top}
 use Rattle.data_folder.proofs.Moments.{goes_on, joined, started}
 use Rattle.data_folder.proofs.Rolls.{journal_whole, whole_left}
-
-or_left : (a b : Bool) → (a || b) ≡ false → a ≡ false
-or_left true b h = h
-or_left false b h = refl
-
-or_right : (a b : Bool) → (a || b) ≡ false → b ≡ false
-or_right true b h = absurd cc
-or_right false b h = h
 
 not_both : {A : Type 0} (b : Bool) → b ≡ true → b ≡ false → A
 not_both true t f = absurd cc
 not_both false t f = absurd cc
 
--- a name that is not kept is not the journal's, nor that of a file that is kept
+or_one : (a b : Bool) → a ≡ true → (a || b) ≡ true
+or_one a b h = ap (λ (x : Bool). x || b) h
+
+or_cases : (a b : Bool) → (a || b) ≡ true → (a ≡ true) ⊎ (b ≡ true)
+or_cases true b h = inl refl
+or_cases false b h = inr h
+
+or_two : (a b : Bool) → b ≡ true → (a || b) ≡ true
+or_two true b h = refl
+or_two false b h = h
+
+-- a name that is not kept is none that is kept
+
+not_kept : (names : List (List ℕ)) (name other : List ℕ) → is_kept names name ≡ false
+    → is_kept names other ≡ true → other ≢ name
+not_kept names name other apart kept is =
+    not_both (is_kept names name) (subst (λ (x : List ℕ). is_kept names x ≡ true) is kept) apart
 
 pub not_journal : (names : List (List ℕ)) (name : List ℕ) → is_kept names name ≡ false
     → journal_name ≢ name
-not_journal names name apart is =
-    let same : bytes_eq name journal_name ≡ true =
-    (bytes_eq-Decides name journal_name).1 (sym is) in
-    not_both (bytes_eq name journal_name) same
-    (or_left (bytes_eq name journal_name) (is_among names name) apart)
+not_journal names name apart = not_kept names name journal_name apart refl
 
 not_file : (names : List (List ℕ)) (name : List ℕ) (file : Named)
     → is_kept names name ≡ false → is_among names file.0 ≡ true → file.0 ≢ name
-not_file names name file apart among is =
-    not_both (is_among names name)
-    (subst (λ (x : List ℕ). is_among names x ≡ true) is among)
-    (or_right (bytes_eq name journal_name) (is_among names name) apart)
+not_file names name file apart among =
+    not_kept names name file.0 apart (or_two (is_top file.0) (is_among names file.0) among)
+
+not_top : (names : List (List ℕ)) (name other : List ℕ) → is_kept names name ≡ false
+    → is_top other ≡ true → other ≢ name
+not_top names name other apart top =
+    not_kept names name other apart (or_one (is_top other) (is_among names other) top)
 
 -- a name among these is among more of them
-
-or_one : (a b : Bool) → a ≡ true → (a || b) ≡ true
-or_one a b h = ap (λ (x : Bool). x || b) h
 
 one_more : (names more : List (List ℕ)) (name : List ℕ) → is_among names name ≡ true
     → is_among (names ++ more) name ≡ true
@@ -60,6 +65,21 @@ among_more : (names more : List (List ℕ)) (files : List Named) → AreAmong na
 among_more names more [] among = tt
 among_more names more (file ∷ files) among =
     (one_more names more file.0 among.0, among_more names more files among.1)
+
+-- so is one that is kept
+
+or_either : (a b c : Bool) → (b ≡ true → c ≡ true) → (a || b) ≡ true → (a || c) ≡ true
+or_either true b c f h = refl
+or_either false b c f h = f h
+
+kept_more : (names more : List (List ℕ)) (files : List Named) → AreKept names files
+    → AreKept (names ++ more) files
+kept_more names more [] k = tt
+kept_more names more (file ∷ files) k = (
+  or_either (is_top file.0) (is_among names file.0) (is_among (names ++ more) file.0)
+      (one_more names more file.0) k.0,
+  kept_more names more files k.1,
+)
 
 module _ {F : Type 0} (shows : F → List ℕ → Option (List ℕ) → Type 0)
     (kept : F → List ℕ → ℕ → Type 0) (sound : F → Bool) where
@@ -102,6 +122,19 @@ module _ {F : Type 0} (shows : F → List ℕ → Option (List ℕ) → Type 0)
         files_left name names old P left files apart l among.1 there.1,
       )
 
+  kept_left : (name : List ℕ) (names : List (List ℕ)) (old : F) (P : Left → Type 0) (left : Left)
+      (files : List Named) → is_kept names name ≡ false
+      → LeavesOthers shows kept name name old P left → AreKept names files
+      → AreThere shows kept files old → HasFiles files left
+  kept_left name names old P left [] apart l k there = tt
+  kept_left name names old P left (file ∷ files) apart l k there =
+      let away = not_kept names name file.0 apart k.0 in (
+        whole_left file.1 (left file.0)
+            (l.others file.0 (Some file.1) (length file.1) away away there.0.shown
+            there.0.durable),
+        kept_left name names old P left files apart l k.1 there.1,
+      )
+
 module _ {F : Type 0} (shows : F → List ℕ → Option (List ℕ) → Type 0)
     (kept : F → List ℕ → ℕ → Type 0) (sound : F → Bool) (moment : F → ℕ)
     (left_since : F → ℕ → Left → Type 0)
@@ -128,6 +161,11 @@ module _ {F : Type 0} (shows : F → List ℕ → Option (List ℕ) → Type 0)
             h.file.shown h.file.durable had));
       })
 
+  files_rest : (f : F) (files : List Named) → AreThere shows kept files f
+      → LeavesOnly moment left_since f f (HasFiles files)
+  files_rest f files there =
+      started moment left_since f (HasFiles files) (λ left had. files_now f left files had there)
+
   -- where nothing was removed
   pub nothing_removed : (names : List (List ℕ)) (f : F)
       → KeepsStore shows kept sound moment left_since names f f
@@ -135,6 +173,9 @@ module _ {F : Type 0} (shows : F → List ℕ → Option (List ℕ) → Type 0)
     journal = λ contents len h. h;
     files = λ files among there. there;
     any_moment = λ contents files len h among there. at_rest f contents files len h there;
+    top = λ name x top shown. shown;
+    top_durable = λ name n top durable. durable;
+    left = λ files k there. files_rest f files there;
   }
 
   -- one file was written or removed, or was not
@@ -159,6 +200,14 @@ module _ {F : Type 0} (shows : F → List ℕ → Option (List ℕ) → Type 0)
                   (l.others journal_name (Some (file_of contents)) (length (file_of contents)) away
                   away h.file.shown h.file.durable));
             });
+        top = λ other x top shown.
+            let far = not_top names name other apart top in k.same other x far far shown;
+        top_durable = λ other n top durable.
+            let far = not_top names name other apart top in k.durable other n far far durable;
+        left = λ files among there.
+            goes_on moment left_since old old new (HasFiles files)
+            (LeavesOthers shows kept name name old P) (files_rest old files there) time
+            (λ left l. kept_left shows kept sound name names old P left files apart l among there);
       }
 
   all_stay : (files : List Named) (old new : F) → KeepsAll shows kept old new
@@ -208,6 +257,11 @@ module _ {F : Type 0} (shows : F → List ℕ → Option (List ℕ) → Type 0)
               (l journal_name (Some (file_of contents)) (length (file_of contents)) h.file.shown
               h.file.durable));
         });
+    top = λ name x top shown. k.same name x shown;
+    top_durable = λ name n top durable. k.durable name n durable;
+    left = λ files among there.
+        goes_on moment left_since old old new (HasFiles files) (LeavesAll shows kept old)
+        (files_rest old files there) time (λ left l. all_left files old left l there);
   }
 
   -- what keeps the files of more names keeps those of fewer
@@ -219,7 +273,31 @@ module _ {F : Type 0} (shows : F → List ℕ → Option (List ℕ) → Type 0)
     files = λ files among there. k.files files (among_more names more files among) there;
     any_moment = λ contents files len h among there.
         k.any_moment contents files len h (among_more names more files among) there;
+    top = k.top;
+    top_durable = k.top_durable;
+    left = λ files among there. k.left files (kept_more names more files among) there;
   }
+
+  one_there : (names : List (List ℕ)) (old new : F) (file : Named)
+      → KeepsStore shows kept sound moment left_since names old new
+      → is_kept names file.0 ≡ true → HasFile shows kept file.0 file.1 old
+      → HasFile shows kept file.0 file.1 new
+  one_there names old new file k among has =
+      ⊎_elim (λ top. record {
+        shown = k.top file.0 (Some file.1) top has.shown;
+        durable = k.top_durable file.0 (length file.1) top has.durable;
+      })
+      (λ own. (k.files (file ∷ []) (own, tt) (has, tt)).0)
+      (or_cases (is_top file.0) (is_among names file.0) among)
+
+  kept_there : (names : List (List ℕ)) (old new : F)
+      → KeepsStore shows kept sound moment left_since names old new → (files : List Named)
+      → AreKept names files → AreThere shows kept files old → AreThere shows kept files new
+  kept_there names old new k [] among there = tt
+  kept_there names old new k (file ∷ files) among there = (
+    one_there names old new file k among.0 there.0,
+    kept_there names old new k files among.1 there.1,
+  )
 
   -- one call after another
   pub then_kept : (names : List (List ℕ)) (old mid new : F)
@@ -234,4 +312,10 @@ module _ {F : Type 0} (shows : F → List ℕ → Option (List ℕ) → Type 0)
         (first.any_moment contents files len h among there)
         (second.any_moment contents files len (first.journal contents len h) among
         (first.files files among there));
+    top = λ name x top shown. second.top name x top (first.top name x top shown);
+    top_durable = λ name n top durable.
+        second.top_durable name n top (first.top_durable name n top durable);
+    left = λ files among there.
+        joined moment left_since old mid new (HasFiles files) (first.left files among there)
+        (second.left files among (kept_there names old mid first files among there));
   }

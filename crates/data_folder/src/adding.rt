@@ -1,7 +1,7 @@
 //! Files that come beside the journal.
 
 ghost use Rattle.std.specs.Prelude.{◌≡◌, ℕ, List, true, false, OnOk, OnErr};
-ghost use Rattle.data_folder.specs.Folders.{HasFile};
+ghost use Rattle.data_folder.specs.Folders.{HasFile, KeepsAll, KeepsOthers};
 ghost use Rattle.data_folder.specs.Sweeping.{KeepsStore, is_kept};
 
 use crate::folder::Folder;
@@ -16,6 +16,7 @@ pub fn add<F: Folder>(folder: &mut F, name: &str, bytes: &[u8]) -> Result<(), Me
     ensures failed { OnErr result (F.failed folder.new ≡ true) }
     ensures kept { (names : List (List ℕ)) → is_kept names name.now ≡ false
         → KeepsStore F.shows F.kept F.sound F.moment F.left_since names folder.old folder.new }
+    ensures others { KeepsOthers F.shows F.kept name.now name.now folder.old folder.new }
 {
     folder.write(name, bytes)
 }
@@ -27,6 +28,7 @@ pub fn add_folder<F: Folder>(folder: &mut F, name: &str) -> Result<(), MediumErr
     ensures failed { OnErr result (F.failed folder.new ≡ true) }
     ensures kept { (names : List (List ℕ))
         → KeepsStore F.shows F.kept F.sound F.moment F.left_since names folder.old folder.new }
+    ensures all { KeepsAll F.shows F.kept folder.old folder.new }
 {
     folder.make(name)
 }

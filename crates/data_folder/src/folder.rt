@@ -5,6 +5,7 @@ ghost use Rattle.std.specs.Prelude.{length, take, min, OnOk, OnErr, IfOk};
 ghost use Rattle.data_folder.specs.Folders.{Elapses, HasFile, IsFound, IsOneOf, KeepsAll};
 ghost use Rattle.data_folder.specs.Folders.{KeepsOthers, Left, LeavesAll, LeavesOthers, MayGrow};
 ghost use Rattle.data_folder.specs.Folders.{MayLeaveOf};
+ghost use Rattle.data_folder.specs.Sweeping.{names_in};
 
 use journal::MediumError;
 use std::alloc::Global;
@@ -17,6 +18,9 @@ use std::alloc::Global;
 pub trait Folder {
     /// This is what the name has, or that it has nothing.
     ghost shows: { Self → List ℕ → Option (List ℕ) → Type 0 };
+
+    /// These names stand in the folder of this name, in this order; none if it is not there.
+    ghost lists: { Self → List ℕ → List (List ℕ) → Type 0 };
 
     /// Each crash leaves at least so many bytes of it.
     ghost kept: { Self → List ℕ → ℕ → Type 0 };
@@ -146,6 +150,7 @@ pub trait Folder {
     /// Nothing is said of what they are.
     fn names(&mut self, alloc: Global, folder: &str) -> Result<Vec<String>, MediumError>
         requires { sound self.old ≡ true }
+        ensures listed { IfOk result (λ names. lists self.new folder.now (names_in names.items)) }
         ensures all { KeepsAll shows kept self.old self.new }
         ensures sound { sound self.new ≡ true }
         ensures failed { OnErr result (failed self.new ≡ true) }

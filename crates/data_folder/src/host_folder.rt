@@ -235,6 +235,8 @@ impl<'a, R: Files<File = File> + AllocGlobal + Clone + Drop> Folder for HostFold
 
     ghost shows = { λ f name x. Unit {0} };
 
+    ghost lists = { λ f folder names. Unit {0} };
+
     ghost kept = { λ f name n. Unit {0} };
 
     ghost sound = { λ f. not f.lost };

@@ -4,8 +4,8 @@ ghost use Rattle.std.specs.Prelude.{◌≡◌, ℕ, List, None, true, false, Err
 ghost use Rattle.std.specs.Prelude.{IsErrOf, MatchResult};
 ghost use Rattle.std.specs.List.{AllByRecursion};
 ghost use Rattle.journal.specs.Group.{IsJournalText};
-ghost use Rattle.data_folder.specs.Folders.{LeavesOnly};
-ghost use Rattle.data_folder.specs.JournalFile.{journal_name};
+ghost use Rattle.data_folder.specs.Folders.{KeepsOthers, LeavesOnly};
+ghost use Rattle.data_folder.specs.JournalFile.{journal_name, next_name};
 ghost use Rattle.data_folder.specs.Rolls.{Keeps};
 ghost use Rattle.data_folder.specs.States.{AreThere, IsApart, IsNoneOrNew, IsOldOrNew, Named};
 
@@ -52,6 +52,8 @@ pub fn roll<F: Folder + Drop>(
     ensures files { (files : List Named) → AllByRecursion IsApart files
         → AreThere F.shows F.kept files journal.old.medium.folder
         → AreThere F.shows F.kept files journal.new.medium.folder }
+    ensures others { KeepsOthers F.shows F.kept next_name journal_name
+        journal.old.medium.folder journal.new.medium.folder }
     // A crash at any moment of the call leaves the journal as it was or the new one, whole, and all
     // other files.
     ensures any_moment { (old new : List (List ℕ)) (files : List Named)
@@ -97,6 +99,10 @@ pub fn begin<F: Folder + Drop>(
     ensures any_moment { (new : List (List ℕ)) → IsJournalText new text.now → MatchResult result
         (λ j. LeavesOnly F.moment F.left_since folder j.medium.folder (IsNoneOrNew new))
         (λ e. LeavesOnly F.moment F.left_since folder e.1 (IsNoneOrNew new)) }
+    // All other files stay.
+    ensures others { MatchResult result
+        (λ j. KeepsOthers F.shows F.kept next_name journal_name folder j.medium.folder)
+        (λ e. KeepsOthers F.shows F.kept next_name journal_name folder e.1) }
 {
     let mut folder = folder;
     match folder.write(NEXT, text) {

@@ -334,6 +334,8 @@ impl Folder for LoggedFolder {
 
     ghost shows = { λ f name x. logged_shows f name x };
 
+    ghost lists = { λ f folder names. Unit {0} };
+
     ghost kept = { λ f name n. logged_kept f name n };
 
     ghost sound = { λ f. logged_sound f };

@@ -1,5 +1,6 @@
 use Rattle.data_folder.specs.Folders.{Left}
 use Rattle.data_folder.specs.JournalFile.{journal_name, next_name}
+use Rattle.data_folder.proofs.Moments.{both_kept, first_kept, nothing_changed}
 use Rattle.data_folder.proofs.Rolls.{after_replace, after_write, resting, still_there}
 use Rattle.data_folder.proofs.rolling.roll.Goals as goal
 
@@ -57,3 +58,26 @@ returns-in-Ok-replace-clause-any_moment g c old new files h t apart there =
     j.medium.folder c.write.new.self c.replace.new.self old new c.args.text.now files j.len
     (λ (left : Left). Unit {0}) c.write.ensures.time c.write.ensures.others c.write.ensures.sound
     c.in-Ok.ensures.written c.replace.ensures.time h t apart there
+
+pub returns-then-journal-clause-others : goal.returns-then-journal-clause-others
+returns-then-journal-clause-others g c =
+    let f = g.F.Folder in
+    nothing_changed f.shows f.kept next_name journal_name c.args.journal.now.medium.folder
+
+pub returns-in-Err-clause-others : goal.returns-in-Err-clause-others
+returns-in-Err-clause-others g c =
+    let f = g.F.Folder in
+    first_kept f.shows f.kept next_name journal_name c.args.journal.now.medium.folder
+    c.write.new.self c.write.ensures.others
+
+pub returns-in-Err-replace-clause-others : goal.returns-in-Err-replace-clause-others
+returns-in-Err-replace-clause-others g c =
+    let f = g.F.Folder in
+    both_kept f.shows f.kept next_name journal_name c.args.journal.now.medium.folder
+    c.write.new.self c.replace.new.self c.write.ensures.others c.replace.ensures.others
+
+pub returns-in-Ok-replace-clause-others : goal.returns-in-Ok-replace-clause-others
+returns-in-Ok-replace-clause-others g c =
+    let f = g.F.Folder in
+    both_kept f.shows f.kept next_name journal_name c.args.journal.now.medium.folder
+    c.write.new.self c.replace.new.self c.write.ensures.others c.replace.ensures.others
