@@ -19,6 +19,7 @@ ghost use Rattle.keeper.specs.Finding.{AreAllAndSome, IsOfAll};
 ghost use Rattle.start_laws.specs.Starts.{HasLeft};
 ghost use Rattle.store_folder.specs.Holding.{AreAt, StandsForThese};
 ghost use Rattle.store_folder.specs.Journals.{IsJournalOf};
+ghost use Rattle.store_folder.specs.Origins.{Origin};
 ghost use Rattle.store_folder.specs.States.{FindsOne, IsState, StandsFor, StartsWith};
 
 use data_folder::Folder;
@@ -26,17 +27,18 @@ use data_folder::Folder;
 /// A start finds the world of the events for which there stands what a crash left.
 pub fn finds_one()
     // It is the world of these events.
-    ensures all { (first w : World) (events : List Event) (left : Left)
-        → StandsFor first events left → IsOfAll first events w
+    ensures all { (first : Origin) (w : World) (events : List Event) (left : Left)
+        → StandsFor first events left → IsOfAll first.world events w
         → FindsOne (λ (v : World). v ≡ w) left }
     // While more were being kept, that of these and of the first few of the others.
-    ensures few { (first w : World) (events more : List Event) (left : Left)
+    ensures few { (first : Origin) (w : World) (events more : List Event) (left : Left)
         → StandsForThese first (AreAllAndSome events more) left
-        → IsOfAll first (events ++ more) w
-        → FindsOne (λ (v : World). (few : ℕ) × IsOfAll first (events ++ take few more) v) left }
+        → IsOfAll first.world (events ++ more) w
+        → FindsOne (λ (v : World). (few : ℕ)
+        × IsOfAll first.world (events ++ take few more) v) left }
     // It finds no other, whether they were accepted or not.
-    ensures only { (first w : World) (events : List Event) (left : Left)
-        → StandsFor first events left → StartsWith left w → IsOfAll first events w }
+    ensures only { (first : Origin) (w : World) (events : List Event) (left : Left)
+        → StandsFor first events left → StartsWith left w → IsOfAll first.world events w }
 {}
 
 /// A folder that has what a crash left has the store of it.

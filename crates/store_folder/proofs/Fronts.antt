@@ -4,11 +4,12 @@ use Rattle.std.proofs.Common.{Option, Ok, length, take, refl, sym, ap, subst, su
 use Rattle.data_folder.specs.declared.journal_file.JournalFile.{JournalFile}
 use Rattle.data_folder.specs.Folders.{Left, MayLeaveOf}
 use Rattle.head.specs.Heads.{BlockPart, SnapshotParts, world_of}
-use Rattle.head.specs.Worlds.{Event, World, replayed}
+use Rattle.head.specs.Worlds.{Event, replayed}
 use Rattle.head_record.specs.Saved.{Place}
 use Rattle.store_folder.specs.Holding.{AreAt, HoldsAt, HoldsLike, HoldsOrLost}
 use Rattle.store_folder.specs.Holding.{HoldsStore}
 use Rattle.store_folder.specs.KeeperLaws.{now_found}
+use Rattle.store_folder.specs.Origins.{Origin}
 use Rattle.store_folder.specs.Saving.{MaySave}
 use Rattle.store_folder.specs.Writing.{AreLike}
 
@@ -39,12 +40,12 @@ module _ {F : Type 0} (shows : F → List ℕ → Option (List ℕ) → Type 0)
   as_many (p ∷ places) [] f at = absurd at
   as_many (p ∷ places) (b ∷ parts) f at = ap suc (as_many places parts f at.1)
 
-  abbrev Like : World → JournalFile F → ℕ → Bool → List Event → List Place → List BlockPart → Type 0
+  abbrev Like : Origin → JournalFile F → ℕ → Bool → List Event → List Place → List BlockPart → Type 0
   Like first m len closed events places blocks =
       HoldsLike shows kept sound moment left_since first m len closed events places blocks
 
   -- while the journal is open
-  pub open_like : (first : World) (m : JournalFile F) (len : ℕ) (closed : Bool)
+  pub open_like : (first : Origin) (m : JournalFile F) (len : ℕ) (closed : Bool)
       (events : List Event) (places : List Place) (blocks : List BlockPart)
       → HoldsOrLost shows kept sound moment left_since first m len closed events places blocks
       → closed ≡ false → Like first m len closed events places blocks
@@ -53,7 +54,7 @@ module _ {F : Type 0} (shows : F → List ℕ → Option (List ℕ) → Type 0)
       absurd (let a : true ≡ false = sym lost.is_closed ∙ opened in cc)
 
   -- the blocks that were found, and shares of them
-  pub resumed_like : (first : World) (m : JournalFile F) (len : ℕ) (closed : Bool)
+  pub resumed_like : (first : Origin) (m : JournalFile F) (len : ℕ) (closed : Bool)
       (events : List Event) (places : List Place) (parts : List BlockPart) (copied : List Place)
       (shares : List BlockPart) → copied ≡ places → shares ≡ parts
       → HoldsAt shows kept sound moment left_since first m len closed events places parts
@@ -65,10 +66,10 @@ module _ {F : Type 0} (shows : F → List ℕ → Option (List ℕ) → Type 0)
   )
 
   -- a snapshot may be saved, of which these blocks are the first
-  pub may_save : (first : World) (m : JournalFile F) (len : ℕ) (closed : Bool)
+  pub may_save : (first : Origin) (m : JournalFile F) (len : ℕ) (closed : Bool)
       (events : List Event) (places held : List Place) (blocks shown others : List BlockPart)
       (s : SnapshotParts) (same : ℕ) (h : Like first m len closed events places blocks)
-      → replayed first events ≡ Ok (world_of s) → held ≡ places → shown ≡ s.blocks
+      → replayed first.world events ≡ Ok (world_of s) → held ≡ places → shown ≡ s.blocks
       → others ≡ blocks → same ≤ length others → take same shown ≡ take same others
       → MaySave shows kept sound moment left_since first m len closed events s held h.0.parts same
   may_save first m len closed events places held blocks shown others s same h world is snaps mine few
@@ -90,7 +91,7 @@ module _ {F : Type 0} (shows : F → List ℕ → Option (List ℕ) → Type 0)
       }
 
   -- what is held after a new head
-  pub saved_like : (first : World) (m : JournalFile F) (len : ℕ) (closed : Bool)
+  pub saved_like : (first : Origin) (m : JournalFile F) (len : ℕ) (closed : Bool)
       (events : List Event) (places now : List Place) (made blocks shares : List BlockPart)
       → HoldsAt shows kept sound moment left_since first m len closed events places made
       → AreLike blocks made → now ≡ places → shares ≡ blocks
@@ -102,7 +103,7 @@ module _ {F : Type 0} (shows : F → List ℕ → Option (List ℕ) → Type 0)
   )
 
   -- where it failed and goes on
-  pub still_like : (first : World) (old m : JournalFile F) (was len : ℕ) (shut closed : Bool)
+  pub still_like : (first : Origin) (old m : JournalFile F) (was len : ℕ) (shut closed : Bool)
       (events : List Event) (places now : List Place) (blocks : List BlockPart)
       (h : Like first old was shut events places blocks)
       → HoldsAt shows kept sound moment left_since first m len closed events now h.0.parts
@@ -119,7 +120,7 @@ module _ {F : Type 0} (shows : F → List ℕ → Option (List ℕ) → Type 0)
     (only_now : (f : F) (name : List ℕ) (x : Option (List ℕ)) (n : ℕ) (left : Left) → shows f name x
     → kept f name n → left_since f (moment f) left → MayLeaveOf n x (left name)) where
   -- a roll has failed: the journal goes on, or it is lost
-  pub failed_like : (first : World) (old mid new : JournalFile F) (was mid_len len : ℕ)
+  pub failed_like : (first : Origin) (old mid new : JournalFile F) (was mid_len len : ℕ)
       (shut mid_closed closed : Bool) (events : List Event) (places held : List Place)
       (blocks : List BlockPart)
       (h : HoldsLike shows kept sound moment left_since first old was shut events places blocks)

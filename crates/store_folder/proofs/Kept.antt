@@ -1,14 +1,14 @@
 -- Events more, kept in a folder.
 use Rattle.std.proofs.Common.{◌≡◌, ◌≢◌, ◌⊎◌, inl, inr, ⊎_elim, ℕ, ◌≤◌, Bool, List, ◌++◌, take}
-use Rattle.std.proofs.Common.{Option, Some, Ok, ap, refl, ◌∙◌, append_assoc}
+use Rattle.std.proofs.Common.{Option, Some, ap, refl, ◌∙◌, append_assoc}
 use Rattle.std.proofs.Common.{arith}
 use Rattle.data_folder.specs.declared.journal_file.JournalFile.{JournalFile}
 use Rattle.data_folder.specs.Folders.{Left, LeavesOnly, MayLeaveOf}
 use Rattle.data_folder.specs.JournalFile.{bytes_in, journal_name, JournalLeft}
 use Rattle.data_folder.specs.JournalLaws.{StaysBeside}
 use Rattle.event_journal.specs.Holding.{Holds, StandsAndSome}
-use Rattle.head.specs.Heads.{BlockPart, world_of}
-use Rattle.head.specs.Worlds.{Event, World, replayed}
+use Rattle.head.specs.Heads.{BlockPart}
+use Rattle.head.specs.Worlds.{Event}
 use Rattle.head_record.specs.Saved.{Place, Saved}
 use Rattle.head_record.specs.Spelling.{head_texts, IsSaved}
 use Rattle.journal.specs.Media as media
@@ -16,8 +16,9 @@ use Rattle.keeper.specs.Finding.{AreAll, AreAllAndSome, StandsForSome}
 use Rattle.store_folder.specs.Holding.{AreAt, BytesSince, BytesStandFor, HoldsAfterHead, HoldsLike}
 use Rattle.store_folder.specs.Holding.{KeptLast, LastLike, StandsForThese}
 use Rattle.store_folder.specs.KeeperLaws.{has_journal, regrouped, stands_for}
+use Rattle.store_folder.specs.Origins.{Origin}
 use Rattle.store_folder.specs.Starting.{StartFinds}
-use Rattle.store_folder.specs.States.{started}
+use Rattle.store_folder.specs.States.{IsAfter}
 use Rattle.store_folder.specs.StoreLaws.{blocks_left, blocks_stay}
 
 module _ {F : Type 0} (shows : F → List ℕ → Option (List ℕ) → Type 0)
@@ -33,12 +34,12 @@ module _ {F : Type 0} (shows : F → List ℕ → Option (List ℕ) → Type 0)
       (λ (j : JournalFile F) (t : ℕ) (bytes : List ℕ). JournalLeft left_since j.folder t bytes)
       front m len closed events
 
-  abbrev HoldsAll : World → JournalFile F → ℕ → Bool → List Event → Type 0
+  abbrev HoldsAll : Origin → JournalFile F → ℕ → Bool → List Event → Type 0
   HoldsAll first m len closed events =
       HoldsAfterHead shows kept sound moment left_since first m len closed events
 
   -- after a call that kept events more
-  store_more : (first : World) (old new : JournalFile F) (len more_len : ℕ)
+  store_more : (first : Origin) (old new : JournalFile F) (len more_len : ℕ)
       (was closed : Bool) (events more : List Event) (h : HoldsAll first old len was events)
       → StaysBeside shows kept moment left_since old.folder new.folder
       → HoldsHere (head_texts h.saved) new more_len closed (h.late ++ more)
@@ -57,7 +58,7 @@ module _ {F : Type 0} (shows : F → List ℕ → Option (List ℕ) → Type 0)
   }
 
   -- after a call that kept nothing
-  store_stays : (first : World) (old new : JournalFile F) (len new_len : ℕ)
+  store_stays : (first : Origin) (old new : JournalFile F) (len new_len : ℕ)
       (was closed : Bool) (events : List Event) (h : HoldsAll first old len was events)
       → StaysBeside shows kept moment left_since old.folder new.folder
       → HoldsHere (head_texts h.saved) new new_len closed h.late
@@ -75,7 +76,7 @@ module _ {F : Type 0} (shows : F → List ℕ → Option (List ℕ) → Type 0)
         beside.same beside.durable;
   }
 
-  last_kept : (first : World) (old new : JournalFile F) (len more_len : ℕ)
+  last_kept : (first : Origin) (old new : JournalFile F) (len more_len : ℕ)
       (was closed : Bool) (events more : List Event) (h : HoldsAll first old len was events)
       → StaysBeside shows kept moment left_since old.folder new.folder
       → HoldsHere (head_texts h.saved) new more_len closed (h.late ++ more)
@@ -94,7 +95,7 @@ module _ {F : Type 0} (shows : F → List ℕ → Option (List ℕ) → Type 0)
   }
 
   -- the events that were kept last are given up
-  given_up : (first : World) (old new : JournalFile F) (len new_len : ℕ) (was closed : Bool)
+  given_up : (first : Origin) (old new : JournalFile F) (len new_len : ℕ) (was closed : Bool)
       (events more : List Event)
       (h : KeptLast shows kept sound moment left_since first old len was events more)
       → StaysBeside shows kept moment left_since old.folder new.folder
@@ -115,11 +116,11 @@ module _ {F : Type 0} (shows : F → List ℕ → Option (List ℕ) → Type 0)
 
   -- the same with the blocks that the head names
 
-  abbrev Like : World → JournalFile F → ℕ → Bool → List Event → List Place → List BlockPart → Type 0
+  abbrev Like : Origin → JournalFile F → ℕ → Bool → List Event → List Place → List BlockPart → Type 0
   Like first m len closed events places blocks =
       HoldsLike shows kept sound moment left_since first m len closed events places blocks
 
-  pub like_more : (first : World) (old new : JournalFile F) (len more_len : ℕ)
+  pub like_more : (first : Origin) (old new : JournalFile F) (len more_len : ℕ)
       (was closed : Bool) (events more : List Event) (places : List Place)
       (blocks : List BlockPart) (h : Like first old len was events places blocks)
       → StaysBeside shows kept moment left_since old.folder new.folder
@@ -129,7 +130,7 @@ module _ {F : Type 0} (shows : F → List ℕ → Option (List ℕ) → Type 0)
   like_more first old new len more_len was closed events more places blocks h beside j =
       (store_more first old new len more_len was closed events more h.0 beside j, h.1, h.2)
 
-  pub like_stays : (first : World) (old new : JournalFile F) (len new_len : ℕ)
+  pub like_stays : (first : Origin) (old new : JournalFile F) (len new_len : ℕ)
       (was closed : Bool) (events : List Event) (places : List Place) (blocks : List BlockPart)
       (h : Like first old len was events places blocks)
       → StaysBeside shows kept moment left_since old.folder new.folder
@@ -139,7 +140,7 @@ module _ {F : Type 0} (shows : F → List ℕ → Option (List ℕ) → Type 0)
   like_stays first old new len new_len was closed events places blocks h beside j =
       (store_stays first old new len new_len was closed events h.0 beside j, h.1, h.2)
 
-  pub like_last : (first : World) (old new : JournalFile F) (len more_len : ℕ)
+  pub like_last : (first : Origin) (old new : JournalFile F) (len more_len : ℕ)
       (was closed : Bool) (events more : List Event) (places : List Place)
       (blocks : List BlockPart) (h : Like first old len was events places blocks)
       → StaysBeside shows kept moment left_since old.folder new.folder
@@ -150,7 +151,7 @@ module _ {F : Type 0} (shows : F → List ℕ → Option (List ℕ) → Type 0)
   like_last first old new len more_len was closed events more places blocks h beside j =
       (last_kept first old new len more_len was closed events more h.0 beside j, h.1, h.2)
 
-  pub like_given_up : (first : World) (old new : JournalFile F) (len new_len : ℕ)
+  pub like_given_up : (first : Origin) (old new : JournalFile F) (len new_len : ℕ)
       (was closed : Bool) (events more : List Event) (places : List Place)
       (blocks : List BlockPart)
       (h : LastLike shows kept sound moment left_since first old len was events more places blocks)
@@ -163,10 +164,10 @@ module _ {F : Type 0} (shows : F → List ℕ → Option (List ℕ) → Type 0)
 
   -- what is left at a moment of a call
 
-  pub store_leaves : (first : World) (old new : JournalFile F) (saved : Saved)
+  pub store_leaves : (first : Origin) (old new : JournalFile F) (saved : Saved)
       (parts : List BlockPart) (early late events more : List Event)
       → events ≡ early ++ late → IsSaved saved
-      → replayed first early ≡ Ok (world_of (started saved parts))
+      → IsAfter first early saved parts
       → AreAt shows kept saved.places parts old.folder
       → StaysBeside shows kept moment left_since old.folder new.folder
       → media.LeavesOnly (λ (j : JournalFile F). moment j.folder)
@@ -203,14 +204,14 @@ module _ {F : Type 0} (shows : F → List ℕ → Option (List ℕ) → Type 0)
 
 -- as a keeper says it
 module _ {F : Type 0} (moment : F → ℕ) (left_since : F → ℕ → Left → Type 0) where
-  pub each_kept : (first : World) (old new : F) (P : List Event → Type 0)
+  pub each_kept : (first : Origin) (old new : F) (P : List Event → Type 0)
       → LeavesOnly moment left_since old new (StandsForThese first P) → (left : Left)
       → BytesSince left_since new (moment old) left
       → StandsForSome (λ (l : Left) (es : List Event). BytesStandFor first l es) P left
   each_kept first old new P h left had =
       let s = h.each left had.0 in (s.0, (had.1, s.1), s.2)
 
-  pub before_kept : (first : World) (old new : F) (P : List Event → Type 0)
+  pub before_kept : (first : Origin) (old new : F) (P : List Event → Type 0)
       → LeavesOnly moment left_since old new (StandsForThese first P) → (t : ℕ) (left : Left)
       → t ≤ moment old → BytesSince left_since new t left
       → BytesSince left_since old t left
@@ -220,7 +221,7 @@ module _ {F : Type 0} (moment : F → ℕ) (left_since : F → ℕ → Left → 
       (h.before t left le had.0)
 
   -- exactly these events
-  pub these_alone : (first : World) (events : List Event) (old new : F)
+  pub these_alone : (first : Origin) (events : List Event) (old new : F)
       → StartFinds moment left_since old new first events
       → LeavesOnly moment left_since old new (StandsForThese first (AreAll events))
   these_alone first events old new h = record {

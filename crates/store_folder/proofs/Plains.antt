@@ -1,6 +1,6 @@
 -- A journal of events alone that is given a head.
 use Rattle.std.proofs.Common.{◌≡◌, ◌⊎◌, inl, inr, ⊎_elim, ℕ, true, List, [], Some, ap, sym, subst}
-use Rattle.std.proofs.Common.{length, Option, subst₂, ◌∙◌}
+use Rattle.std.proofs.Common.{arith, length, Option, subst₂, ◌∙◌}
 use Rattle.data_folder.specs.Folders.{HasFile, Left, LeavesOnly}
 use Rattle.data_folder.specs.JournalFile.{journal_name}
 use Rattle.data_folder.proofs.Moments.{weaker}
@@ -41,9 +41,9 @@ is_journal_of file text events stands saved is = record {
 pub found_headed : {F : Type 0} (shows : F → List ℕ → Option (List ℕ) → Type 0)
     (kept : F → List ℕ → ℕ → Type 0) (f : F) (j : FoundJournal) (parts : List BlockPart)
     (file text : List ℕ) → HasFile shows kept journal_name text f → j.head ≡ nothing_saved
-    → j.len ≡ length text → Stands [] file j.events.items → IsSaved nothing_saved
+    → j.len ≡ length text → j.torn ≡ 0 → Stands [] file j.events.items → IsSaved nothing_saved
     → IsJournalText (headed j.events.items) text → parts ≡ [] → IsFoundStore shows kept j parts f
-found_headed shows kept f j parts file text has head len stands saved is none = record {
+found_headed shows kept f j parts file text has head len torn stands saved is none = record {
   file = text;
   has = has;
   journal = record {
@@ -52,6 +52,7 @@ found_headed shows kept f j parts file text has head len stands saved is none = 
     counted = len ∙ (ap (λ (bytes : List ℕ). length bytes) is.whole
         ∙ ap (λ (h : Saved). length (file_of (contents_with (head_texts h) j.events.items)))
         (sym head));
+    torn = omega (arith, torn, len);
   };
   blocks = subst₂ (λ (h : Saved) (ps : List BlockPart). AreAt shows kept h.places ps f) (sym head)
       (sym none) tt;

@@ -1,6 +1,6 @@
 -- A journal that begins with a new head.
 use Rattle.std.proofs.Common.{◌≡◌, ◌≢◌, inl, inr, ⊎_elim, ℕ, ◌≤◌, Bool, true, false, List, []}
-use Rattle.std.proofs.Common.{◌∷◌, ◌++◌, Option, Some, Result, Ok, Err, get_or, refl, sym, ap, subst}
+use Rattle.std.proofs.Common.{◌∷◌, ◌++◌, Option, Some, Result, Err, get_or, refl, sym, ap, subst}
 use Rattle.std.proofs.Common.{◌∙◌, arith}
 use Rattle.std.specs.Prelude.{codes, decimal, IsErrOf}
 use Rattle.std.specs.List.{AllByRecursion}
@@ -16,8 +16,8 @@ use Rattle.data_folder.specs.States.{AreThere, HasFiles, IsApart, IsOldOrNew, Na
 use Rattle.data_folder.proofs.Moments.{joined as joined_calls, started as before_all, weaker}
 use Rattle.event_journal.specs.Holding.{contents_with}
 use Rattle.event_journal.proofs.Kept.{holds_open}
-use Rattle.head.specs.Heads.{BlockPart, world_of}
-use Rattle.head.specs.Worlds.{Event, World, replayed}
+use Rattle.head.specs.Heads.{BlockPart}
+use Rattle.head.specs.Worlds.{Event}
 use Rattle.head_record.specs.Saved.{Place, Saved}
 use Rattle.head_record.specs.Spelling.{head_texts, IsSaved}
 use Rattle.head_record.proofs.Worlds.{in_front}
@@ -26,9 +26,10 @@ use Rattle.store_folder.specs.declared.error.RollFault.TheVariants as fault
 use Rattle.store_folder.specs.Blocks.{BlockFiles, named_files}
 use Rattle.store_folder.specs.Holding.{AreAt, HoldsAfterHead, HoldsAt, HoldsStore}
 use Rattle.store_folder.specs.KeeperLaws.{settled_found, stands_for}
+use Rattle.store_folder.specs.Origins.{Origin}
 use Rattle.store_folder.specs.Rolls.{MayRoll}
 use Rattle.store_folder.specs.Starting.{StartFinds}
-use Rattle.store_folder.specs.States.{LieAt, StandsFor, started}
+use Rattle.store_folder.specs.States.{IsAfter, LieAt, StandsFor}
 
 -- lists, one after another
 
@@ -146,11 +147,11 @@ module _ {F : Type 0} (shows : F → List ℕ → Option (List ℕ) → Type 0)
     → kept f name n → left_since f (moment f) left → MayLeaveOf n x (left name))
     (earlier : (f : F) (t u : ℕ) (left : Left) → t ≤ u → u ≤ moment f → left_since f u left
     → left_since f t left) where
-  abbrev HoldsAll : World → JournalFile F → ℕ → Bool → List Event → Type 0
+  abbrev HoldsAll : Origin → JournalFile F → ℕ → Bool → List Event → Type 0
   HoldsAll first m len closed events =
       HoldsAfterHead shows kept sound moment left_since first m len closed events
 
-  abbrev May : World → JournalFile F → ℕ → Bool → List Event → Saved → List BlockPart → Type 0
+  abbrev May : Origin → JournalFile F → ℕ → Bool → List Event → Saved → List BlockPart → Type 0
   May first m len closed events saved parts =
       MayRoll shows kept sound moment left_since first m len closed events saved parts
 
@@ -158,7 +159,7 @@ module _ {F : Type 0} (shows : F → List ℕ → Option (List ℕ) → Type 0)
   KeepsHere contents m len = rolls.Keeps shows kept sound contents m.folder len
 
   -- what the journal of a folder has
-  pub keeps_now : (first : World) (m : JournalFile F) (len : ℕ) (closed : Bool)
+  pub keeps_now : (first : Origin) (m : JournalFile F) (len : ℕ) (closed : Bool)
       (events : List Event) (h : HoldsAll first m len closed events) → closed ≡ false
       → KeepsHere (contents_with (head_texts h.saved) h.late) m len
   keeps_now first m len closed events h opened =
@@ -171,10 +172,10 @@ module _ {F : Type 0} (shows : F → List ℕ → Option (List ℕ) → Type 0)
       }
 
   -- a journal of a head and events after it
-  abbrev pub after_head : (first : World) (m : JournalFile F) (len : ℕ) (closed : Bool) (saved : Saved)
+  abbrev pub after_head : (first : Origin) (m : JournalFile F) (len : ℕ) (closed : Bool) (saved : Saved)
       (parts : List BlockPart) (events early late : List Event) → events ≡ early ++ late
       → IsSaved saved → AllByRecursion IsKept late
-      → replayed first early ≡ Ok (world_of (started saved parts))
+      → IsAfter first early saved parts
       → KeepsHere (contents_with (head_texts saved) late) m len
       → AreAt shows kept saved.places parts m.folder → HoldsAll first m len closed events
   after_head first m len closed saved parts events early late all head each begins k at = record {
@@ -202,7 +203,7 @@ module _ {F : Type 0} (shows : F → List ℕ → Option (List ℕ) → Type 0)
   }
 
   -- the new journal has the same events, before its head
-  pub rolled : (first : World) (old new : JournalFile F) (len new_len : ℕ) (was closed : Bool)
+  pub rolled : (first : Origin) (old new : JournalFile F) (len new_len : ℕ) (was closed : Bool)
       (saved : Saved) (parts : List BlockPart) (events : List Event)
       → May first old len was events saved parts → IsSaved saved
       → KeepsHere (contents_with (head_texts saved) []) new new_len
@@ -212,7 +213,7 @@ module _ {F : Type 0} (shows : F → List ℕ → Option (List ℕ) → Type 0)
       parts
   rolled first old new len new_len was closed saved parts events m head k stay = (
     after_head first new new_len closed saved parts events events [] (sym (append-nil events)) head
-        tt m.world k
+        tt (record { world = m.world; values = m.values }) k
         (blocks_rolled shows kept saved.places parts old.folder new.folder stay m.blocks),
     refl,
     refl,
@@ -220,7 +221,7 @@ module _ {F : Type 0} (shows : F → List ℕ → Option (List ℕ) → Type 0)
 
   -- what is left meanwhile
 
-  old_or_new : (first : World) (old : JournalFile F) (len : ℕ) (was : Bool) (saved : Saved)
+  old_or_new : (first : Origin) (old : JournalFile F) (len : ℕ) (was : Bool) (saved : Saved)
       (parts : List BlockPart) (events : List Event) (left : Left)
       (h : HoldsAll first old len was events)
       (m : May first old len was events saved parts) → IsSaved saved
@@ -238,10 +239,11 @@ module _ {F : Type 0} (shows : F → List ℕ → Option (List ℕ) → Type 0)
       (lie_at shows kept h.saved.places h.parts old.folder left h.blocks split.0) h.journal.each
       had)
       (λ has. stands_for first events events [] saved parts left (sym (append-nil events)) head
-      m.world (lie_at shows kept saved.places parts old.folder left m.blocks split.1) tt has)
+      (record { world = m.world; values = m.values })
+      (lie_at shows kept saved.places parts old.folder left m.blocks split.1) tt has)
       is.journal
 
-  pub roll_finds : (first : World) (old new : JournalFile F) (len : ℕ) (was : Bool)
+  pub roll_finds : (first : Origin) (old new : JournalFile F) (len : ℕ) (was : Bool)
       (saved : Saved) (parts : List BlockPart) (events : List Event)
       (h : HoldsAll first old len was events)
       (m : May first old len was events saved parts) → IsSaved saved
@@ -254,7 +256,7 @@ module _ {F : Type 0} (shows : F → List ℕ → Option (List ℕ) → Type 0)
       (λ left is. old_or_new first old len was saved parts events left h m head is) leaves
 
   -- where nothing was done
-  pub stays_so : (first : World) (m : JournalFile F) (len : ℕ) (closed : Bool)
+  pub stays_so : (first : Origin) (m : JournalFile F) (len : ℕ) (closed : Bool)
       (events : List Event)
       → HoldsStore shows kept sound moment left_since first m len closed events → closed ≡ false
       → StartFinds moment left_since m.folder m.folder first events
@@ -264,7 +266,7 @@ module _ {F : Type 0} (shows : F → List ℕ → Option (List ℕ) → Type 0)
       events left h opened had)
 
   -- after an error, if the old journal goes on, its head is the one before
-  pub same_head : (first : World) (old new : JournalFile F) (len new_len : ℕ)
+  pub same_head : (first : Origin) (old new : JournalFile F) (len new_len : ℕ)
       (was closed : Bool) (events : List Event) (places : List Place) (parts : List BlockPart)
       (at : HoldsAt shows kept sound moment left_since first old len was events places parts)
       → KeepsHere (contents_with (head_texts at.0.saved) at.0.late) new new_len
@@ -281,7 +283,7 @@ module _ {F : Type 0} (shows : F → List ℕ → Option (List ℕ) → Type 0)
       )
 
   -- after an error the old journal goes on, or it is closed
-  pub not_rolled : (first : World) (old new : JournalFile F) (len new_len : ℕ)
+  pub not_rolled : (first : Origin) (old new : JournalFile F) (len new_len : ℕ)
       (was closed : Bool) (events : List Event) (h : HoldsAll first old len was events)
       → (closed ≡ false → KeepsHere (contents_with (head_texts h.saved) h.late) new new_len)
       → ((files : List Named) → AllByRecursion IsApart files → AreThere shows kept files old.folder
@@ -306,7 +308,7 @@ module _ {F : Type 0} (shows : F → List ℕ → Option (List ℕ) → Type 0)
 
 -- one call after another
 module _ {F : Type 0} (moment : F → ℕ) (left_since : F → ℕ → Left → Type 0) where
-  pub finds_on : (first : World) (events : List Event) (a b c : F)
+  pub finds_on : (first : Origin) (events : List Event) (a b c : F)
       → StartFinds moment left_since a b first events → StartFinds moment left_since b c first events
       → StartFinds moment left_since a c first events
   finds_on first events a b c one two =

@@ -2,16 +2,18 @@
 use Rattle.std.proofs.Common.{◌≡◌, ◌≤◌, inl, ℕ, zero, suc, Bool, true, false, List, []}
 use Rattle.std.proofs.Common.{◌∷◌, ◌++◌, Option, drop, take, length, refl, sym, ap, subst, ◌∙◌, arith}
 use Rattle.std.proofs.lemmas.List.{take-append-drop}
+use Rattle.block_folder.specs.declared.values.Values.{Values}
 use Rattle.block_rewriter.proofs.Full.{same_points}
 use Rattle.data_folder.specs.declared.journal_file.JournalFile.{JournalFile}
 use Rattle.data_folder.specs.Folders.{Left, MayLeaveOf}
 use Rattle.data_folder.specs.Sweeping.{KeepsStore}
 use Rattle.head.specs.Heads.{BlockPart, SnapshotParts}
-use Rattle.head.specs.Worlds.{Event, World}
+use Rattle.head.specs.Worlds.{Event}
 use Rattle.head_record.specs.Saved.{Place, Saved, save}
 use Rattle.labels.specs.Parts.{rows_in}
 use Rattle.labels.specs.Rows.{points_of}
 use Rattle.store_folder.specs.Holding.{AreAt, HoldsAt}
+use Rattle.store_folder.specs.Origins.{Origin}
 use Rattle.store_folder.specs.Rewriting.{HaveSame}
 use Rattle.store_folder.specs.RewritingLaws.{same_replay}
 use Rattle.store_folder.specs.Rolls.{MayRoll}
@@ -98,11 +100,11 @@ module _ {F : Type 0} (shows : F → List ℕ → Option (List ℕ) → Type 0)
     → kept f name n → left_since f (moment f) left → MayLeaveOf n x (left name))
     (earlier : (f : F) (t u : ℕ) (left : Left) → t ≤ u → u ≤ moment f → left_since f u left
     → left_since f t left) where
-  abbrev At : World → JournalFile F → ℕ → Bool → List Event → List Place → List BlockPart → Type 0
+  abbrev At : Origin → JournalFile F → ℕ → Bool → List Event → List Place → List BlockPart → Type 0
   At first m len closed events held parts =
       HoldsAt shows kept sound moment left_since first m len closed events held parts
 
-  abbrev May : World → JournalFile F → ℕ → Bool → List Event → SnapshotParts → List Place
+  abbrev May : Origin → JournalFile F → ℕ → Bool → List Event → SnapshotParts → List Place
       → List BlockPart → ℕ → Type 0
   May first m len closed events s held parts same =
       MaySave shows kept sound moment left_since first m len closed events s held parts same
@@ -111,7 +113,7 @@ module _ {F : Type 0} (shows : F → List ℕ → Option (List ℕ) → Type 0)
   Stays names old new = KeepsStore shows kept sound moment left_since names old new
 
   -- the blocks of the head lie there
-  held_blocks : (first : World) (m : JournalFile F) (len : ℕ) (closed : Bool)
+  held_blocks : (first : Origin) (m : JournalFile F) (len : ℕ) (closed : Bool)
       (events : List Event) (held : List Place) (parts : List BlockPart)
       → At first m len closed events held parts → AreAt shows kept held parts m.folder
   held_blocks first m len closed events held parts at =
@@ -120,7 +122,7 @@ module _ {F : Type 0} (shows : F → List ℕ → Option (List ℕ) → Type 0)
       at.0.blocks)
 
   -- there are as many of the snapshot's blocks
-  pub enough : (first : World) (m : JournalFile F) (len : ℕ) (closed : Bool)
+  pub enough : (first : Origin) (m : JournalFile F) (len : ℕ) (closed : Bool)
       (events : List Event) (s : SnapshotParts) (held : List Place) (parts : List BlockPart)
       (same : ℕ) → May first m len closed events s held parts same → same ≤ length s.blocks
   enough first m len closed events s held parts same may =
@@ -131,7 +133,7 @@ module _ {F : Type 0} (shows : F → List ℕ → Option (List ℕ) → Type 0)
       (sym (length_like (take same s.blocks) (take same parts) may.front)) few
 
   -- the folder is sound while the journal is open
-  pub is_sound : (first : World) (m : JournalFile F) (len : ℕ) (closed : Bool)
+  pub is_sound : (first : Origin) (m : JournalFile F) (len : ℕ) (closed : Bool)
       (events : List Event) (s : SnapshotParts) (held : List Place) (parts : List BlockPart)
       (same : ℕ) → May first m len closed events s held parts same → closed ≡ false
       → sound m.folder ≡ true
@@ -139,7 +141,7 @@ module _ {F : Type 0} (shows : F → List ℕ → Option (List ℕ) → Type 0)
       (may.holds.0.journal.keeps opened).has.is_sound
 
   -- while blocks are written the head stays, and its blocks
-  pub still_held : (first : World) (old new : JournalFile F) (len : ℕ) (closed : Bool)
+  pub still_held : (first : Origin) (old new : JournalFile F) (len : ℕ) (closed : Bool)
       (events : List Event) (s : SnapshotParts) (held : List Place) (parts : List BlockPart)
       (same : ℕ) → May first old len closed events s held parts same → closed ≡ false
       → Stays (names_at held) old.folder new.folder
@@ -148,7 +150,7 @@ module _ {F : Type 0} (shows : F → List ℕ → Option (List ℕ) → Type 0)
       holds_swept shows kept sound moment left_since only_now earlier first old new len closed
       events held parts (names_at held) may.holds opened refl stays
 
-  pub writing_finds : (first : World) (old new : JournalFile F) (len : ℕ) (closed : Bool)
+  pub writing_finds : (first : Origin) (old new : JournalFile F) (len : ℕ) (closed : Bool)
       (events : List Event) (s : SnapshotParts) (held : List Place) (parts : List BlockPart)
       (same : ℕ) → May first old len closed events s held parts same → closed ≡ false
       → Stays (names_at held) old.folder new.folder
@@ -158,32 +160,34 @@ module _ {F : Type 0} (shows : F → List ℕ → Option (List ℕ) → Type 0)
       events held parts (names_at held) may.holds opened refl stays
 
   -- then the journal may begin with the snapshot
-  pub may_roll : (first : World) (old new : JournalFile F) (len : ℕ) (closed : Bool)
+  pub may_roll : (first : Origin) (old new : JournalFile F) (len : ℕ) (closed : Bool)
       (events : List Event) (s : SnapshotParts) (held : List Place) (parts : List BlockPart)
-      (same : ℕ) (places : List Place) (news : List BlockPart) (saved : Saved)
+      (same : ℕ) (places : List Place) (news : List BlockPart) (values : Values) (saved : Saved)
       → May first old len closed events s held parts same → closed ≡ false
       → Stays (names_at held) old.folder new.folder → AreRewritten (drop same s.blocks) news
-      → AreAt shows kept places news new.folder → saved ≡ save s (take same held ++ places)
+      → AreAt shows kept places news new.folder → values ≡ first.values
+      → saved ≡ save values s (take same held ++ places)
       → MayRoll shows kept sound moment left_since first new len closed events saved
       (take same parts ++ news)
-  may_roll first old new len closed events s held parts same places news saved may opened stays anew
-      at is =
+  may_roll first old new len closed events s held parts same places news values saved may opened stays
+      anew at means is =
       let holds = still_held first old new len closed events s held parts same may opened stays in
       subst (λ (x : Saved). MayRoll shows kept sound moment left_since first new len closed events x
       (take same parts ++ news)) (sym is)
       (record {
         holds = inl holds.0;
-        world = same_replay first events s (save s (take same held ++ places))
+        world = same_replay first.world events s (save values s (take same held ++ places))
             (take same parts ++ news)
             (have_same s.blocks (take same parts ++ news)
             (made_like same s.blocks parts news may.front anew)) refl refl may.world;
+        values = means;
         blocks = at_joined shows kept (take same held) places (take same parts) news new.folder
             (at_first shows kept same held parts new.folder
             (held_blocks first new len closed events held parts holds)) at;
       })
 
   -- the blocks that the new head names
-  pub like_made : (first : World) (old : JournalFile F) (len : ℕ) (closed : Bool)
+  pub like_made : (first : Origin) (old : JournalFile F) (len : ℕ) (closed : Bool)
       (events : List Event) (s : SnapshotParts) (held : List Place) (parts : List BlockPart)
       (same : ℕ) (news : List BlockPart) → May first old len closed events s held parts same
       → AreRewritten (drop same s.blocks) news → AreLike s.blocks (take same parts ++ news)
@@ -191,7 +195,7 @@ module _ {F : Type 0} (shows : F → List ℕ → Option (List ℕ) → Type 0)
       made_like same s.blocks parts news may.front anew
 
   -- there are as many places as blocks
-  pub so_many : (first : World) (m : JournalFile F) (len : ℕ) (closed : Bool)
+  pub so_many : (first : Origin) (m : JournalFile F) (len : ℕ) (closed : Bool)
       (events : List Event) (s : SnapshotParts) (places : List Place) (made : List BlockPart)
       → At first m len closed events places made → AreLike s.blocks made
       → length places ≡ length s.blocks

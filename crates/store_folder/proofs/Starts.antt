@@ -5,6 +5,7 @@ use Rattle.std.proofs.Common.{inl, inr, ⊎_elim, ℤ, Vec}
 use Rattle.std.specs.declared.alloc.Global.{Global}
 use Rattle.std.specs.Prelude.{IfOk, IfErr}
 use Rattle.std.proofs.lemmas.List.{append-nil}
+use Rattle.block_folder.specs.declared.values.Values.{Values}
 use Rattle.data_folder.specs.declared.journal_file.JournalFile.{JournalFile}
 use Rattle.data_folder.specs.Folders.{Left, LeavesOnly, MayLeaveOf}
 use Rattle.data_folder.specs.JournalFile.{journal_name, JournalLeft}
@@ -34,11 +35,12 @@ use Rattle.store_folder.specs.declared.journals.FoundJournal.{FoundJournal}
 use Rattle.store_folder.specs.Finding.{IsFoundStore}
 use Rattle.store_folder.specs.Holding.{HoldsAfterHead, HoldsAt, HoldsLike, StandsForThese}
 use Rattle.store_folder.specs.KeeperLaws.{stands_for}
+use Rattle.store_folder.specs.Origins.{Origin, beginning}
 use Rattle.store_folder.specs.Starting.{DeniesStart, GoesOn, IsNoneOrNothing}
 use Rattle.store_folder.specs.Starting.{IsRefusedEvent}
 use Rattle.store_folder.specs.Starting.{StartFinds}
-use Rattle.store_folder.specs.Starting.{nothing_saved}
-use Rattle.store_folder.specs.States.{HasWorld, StandsFor, started}
+use Rattle.store_folder.specs.Starting.{nothing_with}
+use Rattle.store_folder.specs.States.{HasWorld, IsAfter, StandsFor, origin_of, started}
 use Rattle.store_folder.specs.StoreLaws.{blocks_left, blocks_stay, whole_left}
 use Rattle.store_folder.specs.Writing.{AreLike}
 use Rattle.store_folder.proofs.Kept.{store_leaves}
@@ -105,6 +107,14 @@ nothing_more : (events found : List Event) → AreAllAndSome events [] found →
 nothing_more events found h =
     h.1 ∙ (ap (λ (x : List Event). events ++ x) (take_none h.0) ∙ append-nil events)
 
+-- the head that was found says what was before all events
+pub after_none : (first : Origin) (saved : Saved) (parts : List BlockPart)
+    → first ≡ origin_of saved parts → IsAfter first [] saved parts
+after_none first saved parts e = record {
+  world = ap (λ (x : Origin). fine x.world) e;
+  values = sym (ap (λ (x : Origin). x.values) e);
+}
+
 stands_so : (front : List (List ℕ)) (events : List Event) (bytes : List ℕ)
     → Stands front bytes events → StandsAndSome front events [] bytes
 stands_so front events bytes s =
@@ -124,12 +134,12 @@ module _ {F : Type 0} (shows : F → List ℕ → Option (List ℕ) → Type 0)
       front m len closed events
 
   -- what a crash leaves of what the folder has
-  found_now : (first : World) (f : F) (j : FoundJournal) (parts : List BlockPart) (left : Left)
-      → IsFoundStore shows kept j parts f → first ≡ world_of (started j.head parts)
+  found_now : (first : Origin) (f : F) (j : FoundJournal) (parts : List BlockPart) (left : Left)
+      → IsFoundStore shows kept j parts f → first ≡ origin_of j.head parts
       → left_since f (moment f) left → StandsFor first j.events.items left
   found_now first f j parts left h begins had =
       stands_for first j.events.items [] j.events.items j.head parts left refl h.journal.is.head
-      (ap fine begins)
+      (after_none first j.head parts begins)
       (blocks_left shows kept j.head.places parts f left h.blocks
       (λ n x k away shown durable. only_now f n x k left shown durable had))
       h.journal.is.stands.each (
@@ -140,8 +150,8 @@ module _ {F : Type 0} (shows : F → List ℕ → Option (List ℕ) → Type 0)
         h.journal.is.stands.recovers,
       )
 
-  pub stays_found : (first : World) (f : F) (j : FoundJournal) (parts : List BlockPart)
-      → IsFoundStore shows kept j parts f → first ≡ world_of (started j.head parts)
+  pub stays_found : (first : Origin) (f : F) (j : FoundJournal) (parts : List BlockPart)
+      → IsFoundStore shows kept j parts f → first ≡ origin_of j.head parts
       → StartFinds moment left_since f f first j.events.items
   stays_found first f j parts h begins =
       folder.started moment left_since f (StandsFor first j.events.items)
@@ -160,9 +170,9 @@ module _ {F : Type 0} (shows : F → List ℕ → Option (List ℕ) → Type 0)
     counted = h.journal.counted;
   }
 
-  abbrev pub holds_found : (first : World) (f : F) (m : JournalFile F) (len : ℕ) (closed : Bool)
+  abbrev pub holds_found : (first : Origin) (f : F) (m : JournalFile F) (len : ℕ) (closed : Bool)
       (j : FoundJournal) (parts : List BlockPart) → IsFoundStore shows kept j parts f
-      → first ≡ world_of (started j.head parts)
+      → first ≡ origin_of j.head parts
       → StaysBeside shows kept moment left_since f m.folder
       → HoldsHere (head_texts j.head) m len closed j.events.items
       → HoldsAfterHead shows kept sound moment left_since first m len closed j.events.items
@@ -173,16 +183,16 @@ module _ {F : Type 0} (shows : F → List ℕ → Option (List ℕ) → Type 0)
     late = j.events.items;
     all = refl;
     head = h.journal.is.head;
-    begins = ap fine begins;
+    begins = after_none first j.head parts begins;
     journal = holds;
     blocks = blocks_stay shows kept j.head.places parts f m.folder h.blocks beside.same
         beside.durable;
   }
 
   -- a start finds these events, after a crash while the torn end is cut off
-  pub resume_finds : (first : World) (old new : JournalFile F) (j : FoundJournal)
+  pub resume_finds : (first : Origin) (old new : JournalFile F) (j : FoundJournal)
       (parts : List BlockPart) → IsFoundStore shows kept j parts old.folder
-      → first ≡ world_of (started j.head parts)
+      → first ≡ origin_of j.head parts
       → StaysBeside shows kept moment left_since old.folder new.folder
       → media.LeavesOnly (λ (x : JournalFile F). moment x.folder)
       (λ (x : JournalFile F) (t : ℕ) (bytes : List ℕ). JournalLeft left_since x.folder t bytes)
@@ -195,7 +205,8 @@ module _ {F : Type 0} (shows : F → List ℕ → Option (List ℕ) → Type 0)
       (λ left s. subst (λ (es : List Event). StandsFor first es left)
       (nothing_more events s.0 s.2) s.1)
       (store_leaves shows kept sound moment left_since only_now first old new j.head parts
-      [] events events [] refl h.journal.is.head (ap fine begins) h.blocks beside
+      [] events events [] refl h.journal.is.head (after_none first j.head parts begins)
+      h.blocks beside
       (journal.weaker (λ (x : JournalFile F). moment x.folder)
       (λ (x : JournalFile F) (t : ℕ) (bytes : List ℕ). JournalLeft left_since x.folder t bytes)
       old new (λ (left : List ℕ). Stands (head_texts j.head) left events)
@@ -216,32 +227,33 @@ head_text contents given head (Ok text) same texts h =
     ∙ (texts ∙ sym (append-nil (head_texts head)))) h
 head_text contents given head (Err e) same texts h = tt
 
-is_nothing : (left : Left) → IsSaved nothing_saved
-    → IsNoneOrNew (contents_with (head_texts nothing_saved) []) left → IsNoneOrNothing left
-is_nothing left saved h =
+is_nothing : (values : Values) (left : Left) → IsSaved (nothing_with values)
+    → IsNoneOrNew (contents_with (head_texts (nothing_with values)) []) left
+    → IsNoneOrNothing values left
+is_nothing values left saved h =
     ⊎_elim (λ none. inl none)
     (λ new. inr (record { head = saved; each = tt; journal = new; blocks = tt })) h
 
 module _ {F : Type 0} (moment : F → ℕ) (left_since : F → ℕ → Left → Type 0) where
-  pub leaves_nothing : (old new : F) → IsSaved nothing_saved
+  pub leaves_nothing : (values : Values) (old new : F) → IsSaved (nothing_with values)
       → LeavesOnly moment left_since old new
-      (IsNoneOrNew (contents_with (head_texts nothing_saved) []))
-      → LeavesOnly moment left_since old new IsNoneOrNothing
-  leaves_nothing old new saved h = record {
+      (IsNoneOrNew (contents_with (head_texts (nothing_with values)) []))
+      → LeavesOnly moment left_since old new (IsNoneOrNothing values)
+  leaves_nothing values old new saved h = record {
     later = h.later;
-    each = λ left had. is_nothing left saved (h.each left had);
+    each = λ left had. is_nothing values left saved (h.each left had);
     before = λ t left le had. ⊎_elim (λ past. inl past)
-        (λ now. inr (is_nothing left saved now)) (h.before t left le had);
+        (λ now. inr (is_nothing values left saved now)) (h.before t left le had);
   }
 
   -- where nothing was written
-  pub none_yet : (shows : F → List ℕ → Option (List ℕ) → Type 0) (kept : F → List ℕ → ℕ → Type 0)
+  pub none_yet : (values : Values) (shows : F → List ℕ → Option (List ℕ) → Type 0) (kept : F → List ℕ → ℕ → Type 0)
       → ((f : F) (name : List ℕ) (x : Option (List ℕ)) (n : ℕ) (left : Left) → shows f name x
       → kept f name n → left_since f (moment f) left → MayLeaveOf n x (left name))
       → (f : F) → shows f journal_name None → kept f journal_name 0
-      → LeavesOnly moment left_since f f IsNoneOrNothing
-  none_yet shows kept only_now f shown durable =
-      folder.started moment left_since f IsNoneOrNothing
+      → LeavesOnly moment left_since f f (IsNoneOrNothing values)
+  none_yet values shows kept only_now f shown durable =
+      folder.started moment left_since f (IsNoneOrNothing values)
       (λ left had. inl (only_now f journal_name None 0 left shown durable had))
 
 module _ {F : Type 0} (shows : F → List ℕ → Option (List ℕ) → Type 0)
@@ -251,18 +263,18 @@ module _ {F : Type 0} (shows : F → List ℕ → Option (List ℕ) → Type 0)
     → kept f name n → left_since f (moment f) left → MayLeaveOf n x (left name))
     (earlier : (f : F) (t u : ℕ) (left : Left) → t ≤ u → u ≤ moment f → left_since f u left
     → left_since f t left) where
-  abbrev pub holds_nothing : (first : World) (m : JournalFile F) (len : ℕ) (closed : Bool)
-      → first ≡ world_of (opening_of []) → IsSaved nothing_saved
-      → rolls.Keeps shows kept sound (contents_with (head_texts nothing_saved) []) m.folder len
-      → HoldsAfterHead shows kept sound moment left_since first m len closed []
-  holds_nothing first m len closed begins saved k = record {
-    saved = nothing_saved;
+  abbrev pub holds_nothing : (first : Origin) (values : Values) (m : JournalFile F) (len : ℕ)
+      (closed : Bool) → first ≡ beginning values → IsSaved (nothing_with values)
+      → rolls.Keeps shows kept sound (contents_with (head_texts (nothing_with values)) []) m.folder
+      len → HoldsAfterHead shows kept sound moment left_since first m len closed []
+  holds_nothing first values m len closed begins saved k = record {
+    saved = nothing_with values;
     parts = [];
     early = [];
     late = [];
     all = refl;
     head = saved;
-    begins = ap fine begins;
+    begins = after_none first (nothing_with values) [] begins;
     journal = holds_open
         (λ (j : JournalFile F) (bytes : List ℕ). shows j.folder journal_name (Some bytes))
         (λ (j : JournalFile F) (n : ℕ). kept j.folder journal_name n)
@@ -271,7 +283,7 @@ module _ {F : Type 0} (shows : F → List ℕ → Option (List ℕ) → Type 0)
         (λ j bytes n left shown durable had. left_now n bytes left (had.0 journal_name) had.2
         (only_now j.folder journal_name (Some bytes) n had.0 shown durable had.1))
         (λ j t u left le fits had. (had.0, earlier j.folder t u had.0 le fits had.1, had.2))
-        (head_texts nothing_saved) m len closed [] (in_front nothing_saved) tt (record {
+        (head_texts (nothing_with values)) m len closed [] (in_front (nothing_with values)) tt (record {
           each = k.each;
           has = record { all = k.file.shown; durable = k.file.durable; is_sound = k.is_sound };
           counted = k.counted;
@@ -280,16 +292,16 @@ module _ {F : Type 0} (shows : F → List ℕ → Option (List ℕ) → Type 0)
   }
 
   -- a store that begins goes on
-  pub begun_goes_on : (first : World) (m : JournalFile F) (len : ℕ) (closed : Bool)
+  pub begun_goes_on : (first : Origin) (values : Values) (m : JournalFile F) (len : ℕ) (closed : Bool)
       (events : List Event) (places : List Place) (blocks : List BlockPart) (s : SnapshotParts)
-      → first ≡ world_of (opening_of []) → s ≡ opening_of [] → events ≡ [] → places ≡ []
+      → first ≡ beginning values → s ≡ opening_of [] → events ≡ [] → places ≡ []
       → blocks ≡ [] → closed ≡ false
       → HoldsAt shows kept sound moment left_since first m len closed [] [] []
       → GoesOn shows kept sound moment left_since first m len closed events places blocks s
-  begun_goes_on first m len closed events places blocks s begins is none nowhere nothing opened at =
+  begun_goes_on first values m len closed events places blocks s begins is none nowhere nothing opened at =
       record {
-        world = ap (λ (es : List Event). replayed first es) none
-            ∙ ap fine (begins ∙ ap world_of (sym is));
+        world = ap (λ (es : List Event). replayed first.world es) none
+            ∙ ap fine (ap (λ (x : Origin). x.world) begins ∙ ap world_of (sym is));
         holds = subst₂ (λ (ps : List Place) (bs : List BlockPart).
             HoldsLike shows kept sound moment left_since first m len closed events ps bs)
             (sym nowhere) (sym nothing)

@@ -14,11 +14,12 @@ use Rattle.data_folder.specs.Sweeping.{AreAmong, KeepsStore, is_among, names_in}
 use Rattle.data_folder.proofs.Moments.{weaker}
 use Rattle.event_journal.specs.Holding.{contents_with}
 use Rattle.head.specs.Heads.{BlockPart}
-use Rattle.head.specs.Worlds.{Event, World}
+use Rattle.head.specs.Worlds.{Event}
 use Rattle.head_record.specs.Saved.{Place}
 use Rattle.head_record.specs.Spelling.{head_texts}
 use Rattle.store_folder.specs.Blocks.{BlockFiles, name_in, named_files}
 use Rattle.store_folder.specs.Holding.{AreAt, HoldsAfterHead, HoldsAt}
+use Rattle.store_folder.specs.Origins.{Origin}
 use Rattle.store_folder.specs.Starting.{StartFinds}
 use Rattle.store_folder.specs.KeeperLaws.{stands_for}
 use Rattle.store_folder.specs.States.{StandsFor}
@@ -179,14 +180,14 @@ module _ {F : Type 0} (shows : F → List ℕ → Option (List ℕ) → Type 0)
     → kept f name n → left_since f (moment f) left → MayLeaveOf n x (left name))
     (earlier : (f : F) (t u : ℕ) (left : Left) → t ≤ u → u ≤ moment f → left_since f u left
     → left_since f t left) where
-  abbrev HoldsAll : World → JournalFile F → ℕ → Bool → List Event → Type 0
+  abbrev HoldsAll : Origin → JournalFile F → ℕ → Bool → List Event → Type 0
   HoldsAll first m len closed events =
       HoldsAfterHead shows kept sound moment left_since first m len closed events
 
   abbrev Sweeps : List (List ℕ) → F → F → Type 0
   Sweeps names old new = KeepsStore shows kept sound moment left_since names old new
 
-  pub holds_swept : (first : World) (old new : JournalFile F) (len : ℕ) (closed : Bool)
+  pub holds_swept : (first : Origin) (old new : JournalFile F) (len : ℕ) (closed : Bool)
       (events : List Event) (places : List Place) (parts : List BlockPart)
       (names : List (List ℕ))
       → HoldsAt shows kept sound moment left_since first old len closed events places parts
@@ -210,7 +211,7 @@ module _ {F : Type 0} (shows : F → List ℕ → Option (List ℕ) → Type 0)
         at.2,
       )
 
-  left_so : (first : World) (old : JournalFile F) (len : ℕ) (closed : Bool)
+  left_so : (first : Origin) (old : JournalFile F) (len : ℕ) (closed : Bool)
       (events : List Event) (h : HoldsAll first old len closed events) (left : Left)
       → HasStore (files_at shows kept h.saved.places h.parts old.folder h.blocks)
       (contents_with (head_texts h.saved) h.late) left → StandsFor first events left
@@ -219,7 +220,7 @@ module _ {F : Type 0} (shows : F → List ℕ → Option (List ℕ) → Type 0)
       (lie_at shows kept h.saved.places h.parts old.folder left h.blocks has.files) h.journal.each
       has.journal
 
-  pub swept_finds : (first : World) (old new : JournalFile F) (len : ℕ) (closed : Bool)
+  pub swept_finds : (first : Origin) (old new : JournalFile F) (len : ℕ) (closed : Bool)
       (events : List Event) (places : List Place) (parts : List BlockPart)
       (names : List (List ℕ))
       → HoldsAt shows kept sound moment left_since first old len closed events places parts

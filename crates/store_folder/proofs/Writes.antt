@@ -16,7 +16,8 @@ use Rattle.head_record.specs.Saved.{Place}
 use Rattle.store_folder.specs.Blocks.{BlockFiles, name_in, named_files}
 use Rattle.store_folder.specs.Holding.{AreAt}
 use Rattle.store_folder.specs.Sweeps.{names_at, names_of}
-use Rattle.store_folder.specs.Writing.{AreRewritten, Wrote, places_from}
+use Rattle.block_folder.specs.declared.values.Values.{Values}
+use Rattle.store_folder.specs.Writing.{AreRewritten, EachSays, Says, Wrote, places_from}
 use Rattle.store_folder.proofs.Swept.{among_at, at_again}
 use Rattle.store_folder.proofs.Rolls.{files_at, joined, there_at}
 
@@ -150,6 +151,38 @@ module _ {F : Type 0} (shows : F → List ℕ → Option (List ℕ) → Type 0)
       (then_wrote (third ∷ []) (fourth ∷ []) m o p c d e
       (wrote_same third.0 chunks files.chunks m o c d q three)
       (wrote_same fourth.0 tombstones files.tombstones o p d e r four)))
+
+  -- what the meta.json of blocks says stays, if their names are kept
+
+  says_stay : (values : Values) (before : List (List ℕ)) (places : List Place) (f g : F)
+      → Stays (before ++ names_at places) f g → EachSays shows kept values places f
+      → EachSays shows kept values places g
+  says_stay values before [] f g stays says = tt
+  says_stay values before (p ∷ places) f g stays says =
+      let name = name_in p.0 (codes "meta.json") in
+      let rest : List (List ℕ) =
+      name_in p.0 (codes "index") ∷ name_in p.0 (codes "chunks/000001")
+      ∷ name_in p.0 (codes "tombstones") ∷ names_at places in
+      let file : Named = (name, says.0.0) in
+      let among : AreAmong (before ++ (name ∷ rest)) (file ∷ []) =
+      (among_last before (name ∷ rest) name (itself name rest), tt) in
+      let still = stays.files (file ∷ []) among (says.0.1, tt) in (
+        (says.0.0, still.0, says.0.2),
+        says_stay values (before ++ names_of p) places f g
+            (subst (λ (names : List (List ℕ)). Stays names f g)
+            (sym (append_assoc before (names_of p) (names_at places))) stays) says.1,
+      )
+
+  -- so it is with one block more
+  pub says_more : (values : Values) (before names : List (List ℕ)) (places next : List Place)
+      (p : Place) (f g : F) → names ≡ before ++ names_at places → Stays names f g
+      → next ≡ places ++ p ∷ [] → EachSays shows kept values places f
+      → Says shows kept values g p → EachSays shows kept values next g
+  says_more values before names places next p f g is stays more says one =
+      subst (λ (ps : List Place). EachSays shows kept values ps g) (sym more)
+      (joined (λ (q : Place). Says shows kept values g q) places (p ∷ [])
+      (says_stay values before places f g
+      (subst (λ (ns : List (List ℕ)). Stays ns f g) is stays) says) (one, tt))
 
   -- blocks stay, whose names are kept
   pub at_stays : (places : List Place) (parts : List BlockPart) (names : List (List ℕ)) (f g : F)

@@ -1,16 +1,17 @@
 -- When a folder keeps the events of a store.
-use Rattle.std.specs.Prelude.{◌≡◌, ◌⊎◌, ℕ, Bool, true, List, [], ◌∷◌, ◌++◌, Option, Some, Ok}
+use Rattle.std.specs.Prelude.{◌≡◌, ◌⊎◌, ℕ, Bool, true, List, [], ◌∷◌, ◌++◌, Option, Some}
 use Rattle.data_folder.specs.declared.journal_file.JournalFile.{JournalFile}
 use Rattle.data_folder.specs.Folders.{Left}
 use Rattle.data_folder.specs.JournalFile.{journal_name, JournalLeft}
 use Rattle.data_folder.specs.States.{AreThere}
 use Rattle.event_journal.specs.Holding.{Holds}
-use Rattle.head.specs.Heads.{BlockPart, world_of}
-use Rattle.head.specs.Worlds.{Event, World, replayed}
+use Rattle.head.specs.Heads.{BlockPart}
+use Rattle.head.specs.Worlds.{Event}
 use Rattle.head_record.specs.Saved.{Place, Saved}
 use Rattle.head_record.specs.Spelling.{head_texts, IsSaved}
 use Rattle.store_folder.specs.Blocks.{BlockFiles, SpellBlock, named_files}
-use Rattle.store_folder.specs.States.{AreBytes, StandsFor, started}
+use Rattle.store_folder.specs.Origins.{Origin}
+use Rattle.store_folder.specs.States.{AreBytes, IsAfter, StandsFor}
 use Rattle.store_folder.specs.Writing.{AreLike}
 
 -- the folder has the files of the block at each place, for good
@@ -27,7 +28,7 @@ AreAt shows kept (p ∷ places) (b ∷ blocks) f =
 -- late ones stand after it. The folder has the blocks that the head names.
 pub record HoldsAfterHead {F : Type 0} (shows : F → List ℕ → Option (List ℕ) → Type 0)
     (kept : F → List ℕ → ℕ → Type 0) (sound : F → Bool) (moment : F → ℕ)
-    (left_since : F → ℕ → Left → Type 0) (first : World) (m : JournalFile F) (len : ℕ)
+    (left_since : F → ℕ → Left → Type 0) (first : Origin) (m : JournalFile F) (len : ℕ)
     (closed : Bool) (events : List Event) : Type 0 where
   pub saved : Saved
   pub parts : List BlockPart
@@ -35,7 +36,7 @@ pub record HoldsAfterHead {F : Type 0} (shows : F → List ℕ → Option (List 
   pub late : List Event
   pub all : events ≡ early ++ late
   pub head : IsSaved saved
-  pub begins : replayed first early ≡ Ok (world_of (started saved parts))
+  pub begins : IsAfter first early saved parts
   pub journal : Holds
       (λ (j : JournalFile F) (bytes : List ℕ). shows j.folder journal_name (Some bytes))
       (λ (j : JournalFile F) (n : ℕ). kept j.folder journal_name n)
@@ -47,7 +48,7 @@ pub record HoldsAfterHead {F : Type 0} (shows : F → List ℕ → Option (List 
 -- the same, and then events that were kept last
 pub record KeptLast {F : Type 0} (shows : F → List ℕ → Option (List ℕ) → Type 0)
     (kept : F → List ℕ → ℕ → Type 0) (sound : F → Bool) (moment : F → ℕ)
-    (left_since : F → ℕ → Left → Type 0) (first : World) (m : JournalFile F) (len : ℕ)
+    (left_since : F → ℕ → Left → Type 0) (first : Origin) (m : JournalFile F) (len : ℕ)
     (closed : Bool) (events more : List Event) : Type 0 where
   pub saved : Saved
   pub parts : List BlockPart
@@ -55,7 +56,7 @@ pub record KeptLast {F : Type 0} (shows : F → List ℕ → Option (List ℕ) �
   pub late : List Event
   pub all : events ≡ early ++ late
   pub head : IsSaved saved
-  pub begins : replayed first early ≡ Ok (world_of (started saved parts))
+  pub begins : IsAfter first early saved parts
   pub journal : Holds
       (λ (j : JournalFile F) (bytes : List ℕ). shows j.folder journal_name (Some bytes))
       (λ (j : JournalFile F) (n : ℕ). kept j.folder journal_name n)
@@ -69,20 +70,20 @@ abbrev pub BytesSince : {F : Type 0} → (F → ℕ → Left → Type 0) → F �
 BytesSince left_since f t left = left_since f t left × AreBytes left
 
 -- files of bytes that stand for these events
-abbrev pub BytesStandFor : World → Left → List Event → Type 0
+abbrev pub BytesStandFor : Origin → Left → List Event → Type 0
 BytesStandFor first left events = AreBytes left × StandsFor first events left
 
 -- what is left stands for these events, and more
-abbrev pub StandsForMore : World → List Event → Left → Type 0
+abbrev pub StandsForMore : Origin → List Event → Left → Type 0
 StandsForMore first events left = (more : List Event) × StandsFor first (events ++ more) left
 
 -- what is left stands for events that have P
-abbrev pub StandsForThese : World → (List Event → Type 0) → Left → Type 0
+abbrev pub StandsForThese : Origin → (List Event → Type 0) → Left → Type 0
 StandsForThese first P left = (events : List Event) × StandsFor first events left × P events
 
 -- the same, and these are the blocks that the head names, and where they lie
 abbrev pub HoldsAt : {F : Type 0} → (F → List ℕ → Option (List ℕ) → Type 0)
-    → (F → List ℕ → ℕ → Type 0) → (F → Bool) → (F → ℕ) → (F → ℕ → Left → Type 0) → World
+    → (F → List ℕ → ℕ → Type 0) → (F → Bool) → (F → ℕ) → (F → ℕ → Left → Type 0) → Origin
     → JournalFile F → ℕ → Bool → List Event → List Place → List BlockPart → Type 0
 HoldsAt shows kept sound moment left_since first m len closed events places parts =
     (h : HoldsAfterHead shows kept sound moment left_since first m len closed events)
@@ -91,14 +92,14 @@ HoldsAt shows kept sound moment left_since first m len closed events places part
 -- The journal was lost on the way to a new head: nothing more is taken, and a crash leaves what
 -- stands for these events.
 pub record IsLost {F : Type 0} (moment : F → ℕ) (left_since : F → ℕ → Left → Type 0)
-    (first : World) (m : JournalFile F) (closed : Bool) (events : List Event) : Type 0 where
+    (first : Origin) (m : JournalFile F) (closed : Bool) (events : List Event) : Type 0 where
   pub is_closed : closed ≡ true
   pub leaves : (left : Left) → left_since m.folder (moment m.folder) left
       → StandsForMore first events left
 
 -- the folder keeps these events, or a crash leaves what stands for them and nothing more is taken
 abbrev pub HoldsStore : {F : Type 0} → (F → List ℕ → Option (List ℕ) → Type 0)
-    → (F → List ℕ → ℕ → Type 0) → (F → Bool) → (F → ℕ) → (F → ℕ → Left → Type 0) → World
+    → (F → List ℕ → ℕ → Type 0) → (F → Bool) → (F → ℕ) → (F → ℕ → Left → Type 0) → Origin
     → JournalFile F → ℕ → Bool → List Event → Type 0
 HoldsStore shows kept sound moment left_since first m len closed events =
     HoldsAfterHead shows kept sound moment left_since first m len closed events
@@ -106,7 +107,7 @@ HoldsStore shows kept sound moment left_since first m len closed events =
 
 -- the folder keeps these events, after a head that names blocks like these at these places
 abbrev pub HoldsLike : {F : Type 0} → (F → List ℕ → Option (List ℕ) → Type 0)
-    → (F → List ℕ → ℕ → Type 0) → (F → Bool) → (F → ℕ) → (F → ℕ → Left → Type 0) → World
+    → (F → List ℕ → ℕ → Type 0) → (F → Bool) → (F → ℕ) → (F → ℕ → Left → Type 0) → Origin
     → JournalFile F → ℕ → Bool → List Event → List Place → List BlockPart → Type 0
 HoldsLike shows kept sound moment left_since first m len closed events places blocks =
     (h : HoldsAfterHead shows kept sound moment left_since first m len closed events)
@@ -114,7 +115,7 @@ HoldsLike shows kept sound moment left_since first m len closed events places bl
 
 -- the same, and then events that were kept last
 abbrev pub LastLike : {F : Type 0} → (F → List ℕ → Option (List ℕ) → Type 0)
-    → (F → List ℕ → ℕ → Type 0) → (F → Bool) → (F → ℕ) → (F → ℕ → Left → Type 0) → World
+    → (F → List ℕ → ℕ → Type 0) → (F → Bool) → (F → ℕ) → (F → ℕ → Left → Type 0) → Origin
     → JournalFile F → ℕ → Bool → List Event → List Event → List Place → List BlockPart → Type 0
 LastLike shows kept sound moment left_since first m len closed events more places blocks =
     (h : KeptLast shows kept sound moment left_since first m len closed events more)
@@ -122,7 +123,7 @@ LastLike shows kept sound moment left_since first m len closed events more place
 
 -- it does, or a crash leaves what stands for these events and nothing more is taken
 abbrev pub HoldsOrLost : {F : Type 0} → (F → List ℕ → Option (List ℕ) → Type 0)
-    → (F → List ℕ → ℕ → Type 0) → (F → Bool) → (F → ℕ) → (F → ℕ → Left → Type 0) → World
+    → (F → List ℕ → ℕ → Type 0) → (F → Bool) → (F → ℕ) → (F → ℕ → Left → Type 0) → Origin
     → JournalFile F → ℕ → Bool → List Event → List Place → List BlockPart → Type 0
 HoldsOrLost shows kept sound moment left_since first m len closed events places blocks =
     HoldsLike shows kept sound moment left_since first m len closed events places blocks

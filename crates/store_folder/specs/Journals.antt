@@ -1,5 +1,5 @@
 -- What the file of a store's journal stands for, and what reading one answers.
-use Rattle.std.specs.Prelude.{◌≡◌, ◌++◌, ⊤, ℕ, List, Result, Ok, Err, Vec, length}
+use Rattle.std.specs.Prelude.{◌≡◌, ◌++◌, ◌-◌, ⊤, ℕ, List, Result, Ok, Err, Vec, length}
 use Rattle.std.specs.declared.alloc.Global.{Global}
 use Rattle.std.specs.List.{AllByRecursion}
 use Rattle.head.specs.Worlds.{Event}
@@ -49,10 +49,11 @@ abbrev pub GivesJournal : Saved → List Event → Result FoundJournal ReadError
 GivesJournal saved events (Ok j) = (j.head ≡ saved) × (j.events.items ≡ events)
 GivesJournal saved events (Err e) = MayRefuseJournal events e
 
--- what was found in the file is what it stands for, and so many bytes long
+-- what was found in the file is what it stands for, so many bytes long; what is behind it is torn
 pub record IsFoundJournal (file : List ℕ) (j : FoundJournal) : Type 0 where
   pub is : IsJournalOf file j.head j.events.items
   pub counted : j.len ≡ length (file_of (contents_with (head_texts j.head) j.events.items))
+  pub torn : j.torn ≡ length file - j.len
 
 -- the file is refused as records so; that memory ran out says nothing of it
 abbrev pub DeniesRecords : List ℕ → JournalError → Type 0

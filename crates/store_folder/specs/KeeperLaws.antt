@@ -1,5 +1,5 @@
 -- What a crash leaves of a store that is kept in a folder, and what a start finds of it.
-use Rattle.std.specs.Prelude.{◌≡◌, ℕ, Bool, true, false, List, [], ◌++◌, Option, None, Some, Ok}
+use Rattle.std.specs.Prelude.{◌≡◌, ℕ, Bool, true, false, List, [], ◌++◌, Option, None, Some}
 use Rattle.std.specs.Prelude.{length}
 use Rattle.std.proofs.Common.{inl, inr, refl, sym, ap, subst, ◌∙◌, append_assoc}
 use Rattle.std.specs.List.{AllByRecursion}
@@ -10,7 +10,7 @@ use Rattle.data_folder.specs.JournalLaws.{left_now}
 use Rattle.data_folder.specs.States.{HasJournal}
 use Rattle.event_journal.specs.Holding.{Stands, contents_with}
 use Rattle.head.specs.Heads.{BlockPart, world_of}
-use Rattle.head.specs.Worlds.{Event, World, replayed}
+use Rattle.head.specs.Worlds.{Event, World}
 use Rattle.head_record.specs.Saved.{Place, Saved}
 use Rattle.head_record.specs.Spelling.{head_texts, IsSaved}
 use Rattle.journal.specs.Records.{file_of, Recovers}
@@ -19,8 +19,9 @@ use Rattle.keeper.specs.Finding.{AreAll, AreAllAndMore, IsOfAll, StandsForSome}
 use Rattle.keeper.specs.Together.{IsKept}
 use Rattle.store_folder.specs.Holding.{BytesSince, BytesStandFor, HoldsAfterHead, HoldsOrLost}
 use Rattle.store_folder.specs.Holding.{HoldsStore, StandsForMore}
+use Rattle.store_folder.specs.Origins.{Origin}
 use Rattle.store_folder.specs.StoreLaws.{blocks_left, found_here, later}
-use Rattle.store_folder.specs.States.{LieAt, StandsFor, StartsWith, started}
+use Rattle.store_folder.specs.States.{IsAfter, LieAt, StandsFor, StartsWith, started}
 
 -- a file of no bytes has no records
 no_file : {X : Type 0} (contents : List (List ℕ)) → Recovers [] contents → X
@@ -43,9 +44,9 @@ has_journal left front events s = (
 )
 
 -- what is left is a store of the early events, and of those after the head
-pub stands_for : (first : World) (events early late : List Event) (saved : Saved)
+pub stands_for : (first : Origin) (events early late : List Event) (saved : Saved)
     (parts : List BlockPart) (left : Left) → events ≡ early ++ late → IsSaved saved
-    → replayed first early ≡ Ok (world_of (started saved parts)) → LieAt saved.places parts left
+    → IsAfter first early saved parts → LieAt saved.places parts left
     → AllByRecursion IsKept late → HasJournal (contents_with (head_texts saved) late) left
     → StandsFor first events left
 stands_for first events early late saved parts left all head begins lie each journal = record {
@@ -66,8 +67,8 @@ regrouped events early late more all =
 
 -- A start finds the world of the events for which there stands what is left, and no other.
 
-pub finds_world : (first w : World) (left : Left) (events : List Event)
-    → BytesStandFor first left events → IsOfAll first events w → StartsWith left w
+pub finds_world : (first : Origin) (w : World) (left : Left) (events : List Event)
+    → BytesStandFor first left events → IsOfAll first.world events w → StartsWith left w
 finds_world first w left events s world = (
   s.0,
   (
@@ -75,16 +76,17 @@ finds_world first w left events s world = (
     s.1.parts,
     s.1.late,
     s.1.state,
-    later first s.1.early s.1.late (world_of (started s.1.saved s.1.parts)) w s.1.begins
-        (subst (λ (x : List Event). IsOfAll first x w) s.1.all world),
+    later first.world s.1.early s.1.late (world_of (started s.1.saved s.1.parts)) w
+        s.1.begins.world (subst (λ (x : List Event). IsOfAll first.world x w) s.1.all world),
   ),
 )
 
-pub finds_no_other : (first w : World) (left : Left) (events : List Event)
-    → BytesStandFor first left events → StartsWith left w → IsOfAll first events w
+pub finds_no_other : (first : Origin) (w : World) (left : Left) (events : List Event)
+    → BytesStandFor first left events → StartsWith left w → IsOfAll first.world events w
 finds_no_other first w left events s made =
-    subst (λ (x : List Event). IsOfAll first x w) (sym s.1.all)
-    (found_here first w s.1.saved s.1.parts s.1.early s.1.late left s.1.begins s.1.state made)
+    subst (λ (x : List Event). IsOfAll first.world x w) (sym s.1.all)
+    (found_here first.world w s.1.saved s.1.parts s.1.early s.1.late left s.1.begins.world s.1.state
+    made)
 
 module _ {F : Type 0} (shows : F → List ℕ → Option (List ℕ) → Type 0)
     (kept : F → List ℕ → ℕ → Type 0) (sound : F → Bool) (moment : F → ℕ)
@@ -92,7 +94,7 @@ module _ {F : Type 0} (shows : F → List ℕ → Option (List ℕ) → Type 0)
     (only_now : (f : F) (name : List ℕ) (x : Option (List ℕ)) (n : ℕ) (left : Left) → shows f name x
     → kept f name n → left_since f (moment f) left → MayLeaveOf n x (left name)) where
   -- all that was kept, and more if the journal is closed
-  now_after_head : (first : World) (m : JournalFile F) (len : ℕ) (closed : Bool)
+  now_after_head : (first : Origin) (m : JournalFile F) (len : ℕ) (closed : Bool)
       (events : List Event) (left : Left)
       → HoldsAfterHead shows kept sound moment left_since first m len closed events
       → left_since m.folder (moment m.folder) left → StandsForMore first events left
@@ -107,7 +109,7 @@ module _ {F : Type 0} (shows : F → List ℕ → Option (List ℕ) → Type 0)
       )
 
   -- exactly that while it is open
-  pub settled_after_head : (first : World) (m : JournalFile F) (len : ℕ) (closed : Bool)
+  pub settled_after_head : (first : Origin) (m : JournalFile F) (len : ℕ) (closed : Bool)
       (events : List Event) (left : Left)
       → HoldsAfterHead shows kept sound moment left_since first m len closed events
       → closed ≡ false → left_since m.folder (moment m.folder) left → StandsFor first events left
@@ -130,14 +132,14 @@ module _ {F : Type 0} (shows : F → List ℕ → Option (List ℕ) → Type 0)
       }))
 
   -- whatever blocks it names
-  pub as_store : (first : World) (m : JournalFile F) (len : ℕ) (closed : Bool)
+  pub as_store : (first : Origin) (m : JournalFile F) (len : ℕ) (closed : Bool)
       (events : List Event) (places : List Place) (blocks : List BlockPart)
       → HoldsOrLost shows kept sound moment left_since first m len closed events places blocks
       → HoldsStore shows kept sound moment left_since first m len closed events
   as_store first m len closed events places blocks (inl h) = inl h.0
   as_store first m len closed events places blocks (inr lost) = inr lost
 
-  pub now_found : (first : World) (m : JournalFile F) (len : ℕ) (closed : Bool)
+  pub now_found : (first : Origin) (m : JournalFile F) (len : ℕ) (closed : Bool)
       (events : List Event) (left : Left)
       → HoldsStore shows kept sound moment left_since first m len closed events
       → left_since m.folder (moment m.folder) left → StandsForMore first events left
@@ -145,7 +147,7 @@ module _ {F : Type 0} (shows : F → List ℕ → Option (List ℕ) → Type 0)
       now_after_head first m len closed events left h had
   now_found first m len closed events left (inr lost) had = lost.leaves left had
 
-  pub open_head : (first : World) (m : JournalFile F) (len : ℕ) (closed : Bool)
+  pub open_head : (first : Origin) (m : JournalFile F) (len : ℕ) (closed : Bool)
       (events : List Event)
       → HoldsStore shows kept sound moment left_since first m len closed events → closed ≡ false
       → HoldsAfterHead shows kept sound moment left_since first m len closed events
@@ -153,7 +155,7 @@ module _ {F : Type 0} (shows : F → List ℕ → Option (List ℕ) → Type 0)
   open_head first m len closed events (inr lost) opened =
       absurd (let a : true ≡ false = sym lost.is_closed ∙ opened in cc)
 
-  pub settled_found : (first : World) (m : JournalFile F) (len : ℕ) (closed : Bool)
+  pub settled_found : (first : Origin) (m : JournalFile F) (len : ℕ) (closed : Bool)
       (events : List Event) (left : Left)
       → HoldsStore shows kept sound moment left_since first m len closed events
       → closed ≡ false → left_since m.folder (moment m.folder) left → StandsFor first events left
@@ -163,7 +165,7 @@ module _ {F : Type 0} (shows : F → List ℕ → Option (List ℕ) → Type 0)
 
   -- as a keeper says it
 
-  pub now_kept : (first : World) (m : JournalFile F) (len : ℕ) (closed : Bool)
+  pub now_kept : (first : Origin) (m : JournalFile F) (len : ℕ) (closed : Bool)
       (events : List Event) (left : Left)
       → HoldsStore shows kept sound moment left_since first m len closed events
       → BytesSince left_since m.folder (moment m.folder) left
@@ -173,7 +175,7 @@ module _ {F : Type 0} (shows : F → List ℕ → Option (List ℕ) → Type 0)
       let s = now_found first m len closed events left h had.0 in
       (events ++ s.0, (had.1, s.1), (s.0, refl))
 
-  pub settled_kept : (first : World) (m : JournalFile F) (len : ℕ) (closed : Bool)
+  pub settled_kept : (first : Origin) (m : JournalFile F) (len : ℕ) (closed : Bool)
       (events : List Event) (left : Left)
       → HoldsStore shows kept sound moment left_since first m len closed events
       → closed ≡ false → BytesSince left_since m.folder (moment m.folder) left

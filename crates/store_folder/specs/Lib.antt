@@ -6,6 +6,7 @@ pub mod Holding
 pub mod Journals
 pub mod KeeperLaws
 pub mod Kinds
+pub mod Origins
 pub mod Plain
 pub mod Refusals
 pub mod Rewriting

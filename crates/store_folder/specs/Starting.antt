@@ -1,6 +1,8 @@
 -- What a start answers, and what a crash leaves meanwhile.
 use Rattle.std.specs.Prelude.{◌≡◌, ◌==◌, ◌⊎◌, ◌&&◌, ◌||◌, ℕ, Bool, false, not, nat_lt, List, []}
 use Rattle.std.specs.Prelude.{Option, None, Ok, length}
+use Rattle.block_folder.specs.declared.values.Values.{Values}
+use Rattle.block_folder.specs.declared.values.Values.TheVariants.{Whole}
 use Rattle.data_folder.specs.declared.journal_file.JournalFile.{JournalFile}
 use Rattle.data_folder.specs.Folders.{Left, LeavesOnly}
 use Rattle.data_folder.specs.JournalFile.{journal_name}
@@ -17,6 +19,7 @@ use Rattle.store_folder.specs.declared.error.StartError.TheVariants as errors
 use Rattle.store_folder.specs.Codes.{cause_of}
 use Rattle.store_folder.specs.Holding.{HoldsLike}
 use Rattle.store_folder.specs.Kinds.{has_cut}
+use Rattle.store_folder.specs.Origins.{Origin}
 use Rattle.store_folder.specs.States.{IsState, StandsFor, started}
 
 -- why a snapshot is not made of a head, its blocks and the events after it
@@ -42,10 +45,10 @@ IsNoRefusal e = cause_of e ≡ Refused → ⊥
 -- head that names blocks like these at these places.
 pub record GoesOn {F : Type 0} (shows : F → List ℕ → Option (List ℕ) → Type 0)
     (kept : F → List ℕ → ℕ → Type 0) (sound : F → Bool) (moment : F → ℕ)
-    (left_since : F → ℕ → Left → Type 0) (first : World) (m : JournalFile F) (len : ℕ)
+    (left_since : F → ℕ → Left → Type 0) (first : Origin) (m : JournalFile F) (len : ℕ)
     (closed : Bool) (events : List Event) (places : List Place) (blocks : List BlockPart)
     (s : SnapshotParts) : Type 0 where
-  pub world : replayed first events ≡ Ok (world_of s)
+  pub world : replayed first.world events ≡ Ok (world_of s)
   pub holds : HoldsLike shows kept sound moment left_since first m len closed events places blocks
   pub is_open : closed ≡ false
 
@@ -57,15 +60,21 @@ is_due events len most =
 
 -- After a crash at any moment since old, a start finds exactly these events: what is left stands
 -- for them.
-abbrev pub StartFinds : {F : Type 0} → (F → ℕ) → (F → ℕ → Left → Type 0) → F → F → World
+abbrev pub StartFinds : {F : Type 0} → (F → ℕ) → (F → ℕ → Left → Type 0) → F → F → Origin
     → List Event → Type 0
 StartFinds moment left_since old new first events =
     LeavesOnly moment left_since old new (StandsFor first events)
 
--- what is saved of a store that has nothing
-abbrev pub nothing_saved : Saved
-nothing_saved = record { floor = MIN_TIME; places = []; head = [] }
+-- what is saved of a store that has nothing, whose values mean this
+abbrev pub nothing_with : Values → Saved
+nothing_with values = record { values = values; floor = MIN_TIME; places = []; head = [] }
 
--- what a crash leaves while a store is begun: no journal, or that of a store that has nothing
-abbrev pub IsNoneOrNothing : Left → Type 0
-IsNoneOrNothing left = (left journal_name ≡ None) ⊎ IsState nothing_saved [] [] left
+-- and if they are whole numbers
+abbrev pub nothing_saved : Saved
+nothing_saved = nothing_with Whole
+
+-- what a crash leaves while a store is begun whose values mean this: no journal, or that of a store
+-- that has nothing
+abbrev pub IsNoneOrNothing : Values → Left → Type 0
+IsNoneOrNothing values left =
+    (left journal_name ≡ None) ⊎ IsState (nothing_with values) [] [] left

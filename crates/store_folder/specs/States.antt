@@ -2,6 +2,7 @@
 use Rattle.std.specs.Prelude.{◌≡◌, ℕ, List, [], ◌∷◌, ◌++◌, Ok, Some}
 use Rattle.std.specs.List.{AllByRecursion}
 use Rattle.wire.specs.Spelling.{IsBytes}
+use Rattle.block_folder.specs.declared.values.Values.{Values}
 use Rattle.data_folder.specs.Folders.{Left}
 use Rattle.data_folder.specs.States.{HasFiles, HasJournal}
 use Rattle.event_journal.specs.Holding.{contents_with}
@@ -12,6 +13,7 @@ use Rattle.head_record.specs.Spelling.{head_texts, IsSaved}
 use Rattle.keeper.specs.Finding.{FindsWorld}
 use Rattle.keeper.specs.Together.{IsKept}
 use Rattle.store_folder.specs.Blocks.{BlockFiles, SpellBlock, named_files}
+use Rattle.store_folder.specs.Origins.{Origin}
 
 -- at each place lie the files of the block
 abbrev pub LieAt : List Place → List BlockPart → Left → Type 0
@@ -44,15 +46,29 @@ pub record IsState (saved : Saved) (parts : List BlockPart) (events : List Event
 abbrev pub HasWorld : Saved → List BlockPart → List Event → World → Type 0
 HasWorld saved blocks events w = replayed (world_of (started saved blocks)) events ≡ Ok w
 
+-- where a store with this head and these blocks begins
+abbrev pub origin_of : Saved → List BlockPart → Origin
+origin_of saved blocks = record {
+  world = world_of (started saved blocks);
+  values = saved.values;
+}
+
+-- The head says the world of these events since the first world, and what the values mean since
+-- then.
+pub record IsAfter (first : Origin) (events : List Event) (saved : Saved)
+    (parts : List BlockPart) : Type 0 where
+  pub world : replayed first.world events ≡ Ok (world_of (started saved parts))
+  pub values : saved.values ≡ first.values
+
 -- What is left of a folder stands for these events since the first world: it is a store, the head
 -- of its journal says the world of the early ones, and the late ones stand after the head.
-pub record StandsFor (first : World) (events : List Event) (left : Left) : Type 0 where
+pub record StandsFor (first : Origin) (events : List Event) (left : Left) : Type 0 where
   pub saved : Saved
   pub parts : List BlockPart
   pub early : List Event
   pub late : List Event
   pub all : events ≡ early ++ late
-  pub begins : replayed first early ≡ Ok (world_of (started saved parts))
+  pub begins : IsAfter first early saved parts
   pub state : IsState saved parts late left
 
 -- files of bytes
@@ -69,3 +85,9 @@ StartsWith left w =
 -- if these are files of bytes, a start finds a world in them, and the world has P
 abbrev pub FindsOne : (World → Type 0) → Left → Type 0
 FindsOne P left = AreBytes left → FindsWorld StartsWith P left
+
+-- if these are files of bytes, a start finds that the values mean this
+abbrev pub Means : Values → Left → Type 0
+Means values left =
+    AreBytes left → (saved : Saved) (parts : List BlockPart) (events : List Event)
+    → IsState saved parts events left → saved.values ≡ values

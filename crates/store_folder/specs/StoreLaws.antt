@@ -26,7 +26,9 @@ use Rattle.head_record.proofs.Worlds.{in_front}
 use Rattle.labels.specs.Parts.{Part}
 use Rattle.store_folder.specs.Blocks.{BlockFiles, SpellBlock, named_files}
 use Rattle.store_folder.specs.Holding.{AreAt}
-use Rattle.store_folder.specs.States.{AreBytes, HasWorld, IsState, LieAt, StartsWith, started}
+use Rattle.store_folder.specs.Origins.{Origin}
+use Rattle.store_folder.specs.States.{AreBytes, HasWorld, IsState, LieAt, Means, StandsFor}
+use Rattle.store_folder.specs.States.{StartsWith, started}
 
 abbrev some : List ℕ → Option (List ℕ)
 some x = Some x
@@ -218,6 +220,36 @@ one_world left v w one two =
     let mine : replayed first one.1.2 ≡ Ok v = one.1.4 in
     same_world v w (sym mine
     ∙ found_here first w one.1.0 one.1.1 [] one.1.2 left refl one.1.3 two)
+
+-- what is left has one head
+one_saved : (a b : Saved) (parts others : List BlockPart) (early late : List Event) (left : Left)
+    → AreBytes left → IsState a parts early left → IsState b others late left → b ≡ a
+one_saved a b parts others early late left fits one two =
+    let bytes = one.journal.0 in
+    let file = two.journal.0 in
+    let same : file ≡ bytes = same_bytes file bytes (sym two.journal.1 ∙ one.journal.1) in
+    let again : Stands (head_texts b) bytes late =
+    subst (λ (x : List ℕ). Stands (head_texts b) x late) same (record {
+      before = in_front b;
+      each = two.each;
+      recovers = two.journal.2;
+    }) in
+    let here : Stands (head_texts a) bytes early = record {
+      before = in_front a;
+      each = one.each;
+      recovers = one.journal.2;
+    } in
+    let front = one_list bytes (head_texts a) (head_texts b) early late
+    (fits journal_name bytes one.journal.1) here again in
+    sym (one_head a b one.head two.head front.0)
+
+-- so the values mean what they meant from the first
+pub one_meaning : (first : Origin) (events : List Event) (left : Left)
+    → StandsFor first events left → Means first.values left
+one_meaning first events left s fits saved parts late state =
+    ap (λ (x : Saved). x.values)
+    (one_saved s.saved saved s.parts parts s.late late left fits s.state state)
+    ∙ s.begins.values
 
 -- files that are there for good are left
 

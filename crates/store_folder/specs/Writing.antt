@@ -1,16 +1,19 @@
 -- Blocks that are written anew, and where.
-use Rattle.std.specs.Prelude.{◌≡◌, ℕ, ◌+◌, zero, suc, Bool, List, [], ◌∷◌, ◌++◌, Option, map}
-use Rattle.std.specs.Prelude.{string_bytes}
+use Rattle.std.specs.Prelude.{◌≡◌, ℕ, ◌+◌, zero, suc, Bool, List, [], ◌∷◌, ◌++◌, Option, Some, map}
+use Rattle.std.specs.Prelude.{codes, string_bytes}
+use Rattle.std.specs.List.{AllByRecursion}
+use Rattle.block_folder.specs.declared.values.Values.{Values}
+use Rattle.block_folder.specs.Meanings.{values_said}
 use Rattle.block_rewriter.specs.declared.rewriting.Rewritten.{Rewritten}
 use Rattle.block_rewriter.specs.Rows.{full_rows}
-use Rattle.data_folder.specs.Folders.{Left}
+use Rattle.data_folder.specs.Folders.{HasFile, Left}
 use Rattle.data_folder.specs.States.{AreThere, Named}
 use Rattle.data_folder.specs.Sweeping.{KeepsStore}
 use Rattle.head.specs.Heads.{BlockPart}
 use Rattle.head_record.specs.Saved.{Place}
 use Rattle.labels.specs.Parts.{rows_in}
 use Rattle.labels.specs.Rows.{points_of}
-use Rattle.store_folder.specs.Blocks.{BlockFiles}
+use Rattle.store_folder.specs.Blocks.{BlockFiles, name_in}
 
 abbrev pub files_in_memory : Rewritten → BlockFiles
 files_in_memory files = record {
@@ -51,6 +54,19 @@ AreLike (a ∷ olds) (b ∷ news) = IsLike a b × AreLike olds news
 abbrev pub places_from : ℕ → ℕ → List Place
 places_from n zero = []
 places_from n (suc m) = (n, 0) ∷ places_from (n + 1) m
+
+-- the `meta.json` of the block at this place lies there for good, and says this meaning
+abbrev pub Says : {F : Type 0} → (F → List ℕ → Option (List ℕ) → Type 0)
+    → (F → List ℕ → ℕ → Type 0) → Values → F → Place → Type 0
+Says shows kept values f p =
+    (meta : List ℕ) × HasFile shows kept (name_in p.0 (codes "meta.json")) meta f
+    × (values_said meta ≡ Some values)
+
+-- that of each block at these places does
+abbrev pub EachSays : {F : Type 0} → (F → List ℕ → Option (List ℕ) → Type 0)
+    → (F → List ℕ → ℕ → Type 0) → Values → List Place → F → Type 0
+EachSays shows kept values places f =
+    AllByRecursion (λ (p : Place). Says shows kept values f p) places
 
 -- From old to new these files were written beside a store: they are there for good, their names are
 -- the last of those to be kept, and what was to be kept stays, also after a crash at any moment.

@@ -2,6 +2,7 @@
 
 ghost use Rattle.std.specs.Prelude.{◌≡◌, ◌≤◌, ◌⊎◌, List, Ok, [], false, true, length, map, take};
 ghost use Rattle.std.specs.Prelude.{Err, IfErr, IfOk, OnOk};
+ghost use Rattle.data_folder.specs.Sweeping.{KeepsForeign};
 ghost use Rattle.event_journal.specs.Holding.{contents_with};
 ghost use Rattle.head.specs.Blocks.{part_in};
 ghost use Rattle.head.specs.Heads.{world_of};
@@ -83,14 +84,14 @@ impl<N: Beginning, F: Folder + Drop> StoreKeeper<N, F> {
             self.old.store.events.journal.medium self.old.store.events.journal.len
             self.old.store.events.journal.closed events self.old.places.items
             (map part_in self.old.blocks.items)
-            × (replayed N.first events ≡ Ok (world_of snapshot.now)) }
+            × (replayed N.first.world events ≡ Ok (world_of snapshot.now)) }
         // The same events are held, whatever the answer.
         ensures held { (events : List Change)
             → HoldsOrLost F.shows F.kept F.sound F.moment F.left_since N.first
             self.old.store.events.journal.medium self.old.store.events.journal.len
             self.old.store.events.journal.closed events self.old.places.items
             (map part_in self.old.blocks.items)
-            → replayed N.first events ≡ Ok (world_of snapshot.now)
+            → replayed N.first.world events ≡ Ok (world_of snapshot.now)
             → HoldsOrLost F.shows F.kept F.sound F.moment F.left_since N.first
             self.new.store.events.journal.medium self.new.store.events.journal.len
             self.new.store.events.journal.closed events self.new.places.items
@@ -105,7 +106,8 @@ impl<N: Beginning, F: Folder + Drop> StoreKeeper<N, F> {
             ⊎ (F.failed self.new.store.events.journal.medium.folder ≡ true) }
         // After `Ok` the journal has what is saved of the snapshot, and nothing more.
         ensures len { OnOk result (self.new.store.events.journal.len ≡ length (file_of
-            (contents_with (head_texts (save snapshot.now self.new.places.items)) []))) }
+            (contents_with (head_texts (save N.first.values snapshot.now self.new.places.items))
+            []))) }
         ensures counted { IfOk result (λ count. count ≡ length snapshot.now.blocks) }
         // After a crash at any moment of the call, a start finds the world of these events.
         ensures any_moment { (events : List Change)
@@ -113,13 +115,16 @@ impl<N: Beginning, F: Folder + Drop> StoreKeeper<N, F> {
             self.old.store.events.journal.medium self.old.store.events.journal.len
             self.old.store.events.journal.closed events self.old.places.items
             (map part_in self.old.blocks.items)
-            → replayed N.first events ≡ Ok (world_of snapshot.now)
+            → replayed N.first.world events ≡ Ok (world_of snapshot.now)
             → self.old.store.events.journal.closed ≡ false
             → StartFinds F.moment F.left_since self.old.store.events.journal.medium.folder
             self.new.store.events.journal.medium.folder N.first events }
         ensures closed { self.old.store.events.journal.closed ≡ true
             → (result ≡ Err (RollFault.Folder RollError.Closed)) × (self.new ≡ self.old) }
         ensures terms { self.new.terms.most ≡ self.old.terms.most }
+        // What stands at the top and is none of the store's stays.
+        ensures foreign { KeepsForeign F.shows F.kept self.old.store.events.journal.medium.folder
+            self.new.store.events.journal.medium.folder }
     {
         if self.store.events.journal.closed {
             return Err(RollFault::Folder(RollError::Closed));

@@ -35,7 +35,7 @@ impl<N: Beginning, F: Folder + Drop> Keeper for StoreKeeper<N, F> {
     ghost use Rattle.store_folder.specs.KeeperLaws.{now_kept, settled_kept};
     ghost use Rattle.store_folder.specs.States.{StartsWith};
 
-    ghost first = { N.first };
+    ghost first = { N.first.world };
 
     ghost idle = { false };
 

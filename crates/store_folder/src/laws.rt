@@ -5,12 +5,19 @@ ghost use Rattle.data_folder.specs.Folders.{Left};
 ghost use Rattle.head.specs.Heads.{BlockPart, SnapshotParts, world_of};
 ghost use Rattle.head.specs.Worlds.{Event as Change, World, replayed};
 ghost use Rattle.head_record.specs.Saved.{Saved};
+ghost use Rattle.store_folder.specs.Origins.{Origin};
 ghost use Rattle.store_folder.specs.Rewriting.{HaveSame};
-ghost use Rattle.store_folder.specs.States.{started, StartsWith};
+ghost use Rattle.store_folder.specs.States.{Means, StandsFor, started, StartsWith};
 
 /// What is left of a folder is the store of one world.
 pub fn one_world()
     ensures { (left : Left) (v w : World) → StartsWith left v → StartsWith left w → v ≡ w }
+{}
+
+/// In what is left of a store, the values mean what they meant when it began.
+pub fn one_meaning()
+    ensures { (first : Origin) (events : List Change) (left : Left)
+        → StandsFor first events left → Means first.values left }
 {}
 
 /// Blocks that were written anew by their rows make the same world, so a journal may begin with

@@ -12,6 +12,9 @@
 //! `J14`; [`read_blocks`] gives the blocks at places, and [`open_block`] the block that files
 //! spell. What a crash leaves of a store makes one world ([`one_world`]).
 //!
+//! The head says what the values of the store mean. That is asked for when the store begins, and is
+//! never changed ([`Meaning`], [`one_meaning`]).
+//!
 //! It stands on `data_folder` for the folder, on `head_record` and `event_journal` for what a
 //! journal has, and on `head` for snapshots and the step of an event.
 #![tactic(auto)]
@@ -26,6 +29,7 @@ mod keeping;
 mod kinds;
 mod laws;
 mod litter;
+mod meaning;
 mod plain;
 mod reading;
 mod rolling;
@@ -46,8 +50,9 @@ pub use heads::head_journal;
 pub use journals::{FoundJournal, read_journal};
 pub use keeping::StoreKeeper;
 pub use kinds::has_cut;
-pub use laws::{one_world, rewritten_blocks};
+pub use laws::{one_meaning, one_world, rewritten_blocks};
 pub use litter::{has_blocks, sweep_apart};
+pub use meaning::Meaning;
 pub use plain::{begins_plain, read_plain};
 pub use reading::{FoundStore, open_store, read_store};
 pub use saving::write_saved;

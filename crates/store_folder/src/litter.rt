@@ -1,6 +1,9 @@
 //! Blocks that are no longer the store's.
 
 ghost use Rattle.std.specs.Prelude.{◌≡◌, List, false, true};
+ghost use Rattle.std.specs.Char.{is_ascii_digit};
+ghost use Rattle.std.specs.List.{list_all};
+ghost use Rattle.data_folder.specs.Sweeping.{KeepsForeign};
 ghost use Rattle.head.specs.Heads.{BlockPart};
 ghost use Rattle.head.specs.Worlds.{Event as Change};
 ghost use Rattle.store_folder.specs.Holding.{HoldsAt, HoldsStore};
@@ -13,9 +16,34 @@ use data_folder::{Folder, NEXT, list_names, sweep};
 use head_record::BlockPlace;
 use std::alloc::{AllocError, Global};
 
+fn are_digits(name: &str) -> bool
+    ensures { result ≡ list_all is_ascii_digit name.now }
+{
+    for byte in name.as_bytes() {
+        if !byte.is_ascii_digit() {
+            return false;
+        }
+    }
+    true
+}
+
 /// Whether a name is that of a number.
-fn is_number(name: &str) -> bool {
-    !name.is_empty() && name.as_bytes().iter().all(|byte| byte.is_ascii_digit())
+fn is_number(name: &str) -> bool
+    ensures { result ≡ is_number name.now }
+{
+    !name.is_empty() && are_digits(name)
+}
+
+/// Whether one of these names is that of a number.
+fn has_number(names: &[String]) -> bool
+    ensures { result ≡ has_number (names_in names.now) }
+{
+    for name in names {
+        if is_number(name.as_str()) {
+            return true;
+        }
+    }
+    false
 }
 
 /// Whether a name is that of the folder of one of these places.
@@ -91,6 +119,9 @@ impl<N: Beginning, F: Folder + Drop> StoreJournal<N, F> {
             self.old.events.journal.closed events places.now parts
             → StartFinds F.moment F.left_since self.old.events.journal.medium.folder
             self.new.events.journal.medium.folder N.first events }
+        // What stands at the top and is none of the store's stays.
+        ensures foreign { KeepsForeign F.shows F.kept self.old.events.journal.medium.folder
+            self.new.events.journal.medium.folder }
     {
         sweep_apart(alloc, &mut self.events.journal.medium.folder, places)
     }
@@ -134,6 +165,8 @@ impl<N: Beginning, F: Folder + Drop> StoreJournal<N, F> {
             N.first events
             → StartFinds F.moment F.left_since before self.new.events.journal.medium.folder
             N.first events }
+        ensures foreign { KeepsForeign F.shows F.kept self.old.events.journal.medium.folder
+            self.new.events.journal.medium.folder }
     {
         if self.events.journal.closed {
             return;
@@ -142,26 +175,29 @@ impl<N: Beginning, F: Folder + Drop> StoreJournal<N, F> {
     }
 }
 
-ghost use Rattle.std.specs.Prelude.{true};
+ghost use Rattle.std.specs.Prelude.{IfOk, true};
 ghost use Rattle.data_folder.specs.Folders.{Untouched};
-ghost use Rattle.data_folder.specs.Sweeping.{KeepsStore};
-ghost use Rattle.store_folder.specs.Sweeps.{names_at};
+ghost use Rattle.data_folder.specs.Sweeping.{KeepsStore, names_in};
+ghost use Rattle.store_folder.specs.Sweeps.{ListsNumber, has_number, is_number, names_at};
 
-/// Whether something lies in a folder under a name that a block of a store has. All files stay.
+/// Whether something lies in a folder under a name that a block of a store has: whether one of the
+/// names that stand in `blocks` is that of a number. All files stay.
 pub fn has_blocks<F: Folder>(alloc: Global, folder: &mut F) -> Result<bool, BlockFault>
     requires { F.sound folder.old ≡ true }
+    ensures told { IfOk result (ListsNumber F.lists folder.new) }
     ensures sound { F.sound folder.new ≡ true }
     ensures untouched { Untouched F.shows F.kept F.moment F.left_since
         folder.old folder.new }
 {
     match folder.names(alloc, "blocks") {
-        Ok(names) => Ok(names.iter().any(|name| is_number(name.as_str()))),
+        Ok(names) => Ok(has_number(&names)),
         Err(_) => Err(BlockFault::Medium),
     }
 }
 
-/// Removes what [`StoreJournal::sweep_blocks`] does from a folder of which no journal is open. The
-/// journal stays, and so do the files of blocks at these places.
+/// Removes what [`StoreJournal::sweep_blocks`] does from a folder of which no journal is open. All
+/// that stands at the top stays, as the journal, also one whose end is torn, but for a next
+/// journal; and so do the files of blocks at these places.
 pub fn sweep_apart<F: Folder>(
     alloc: Global,
     folder: &mut F,

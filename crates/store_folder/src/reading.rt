@@ -1,7 +1,7 @@
 //! What a folder has of a store.
 
-ghost use Rattle.std.specs.Prelude.{◌≡◌, ℕ, List, [], Option, None, Some, Ok, IfOk, IfErr, IfSome};
-ghost use Rattle.std.specs.Prelude.{OnOk};
+ghost use Rattle.std.specs.Prelude.{◌≡◌, ◌⊎◌, ℕ, List, [], Option, None, Some, Ok, IfOk, IfErr};
+ghost use Rattle.std.specs.Prelude.{IfSome, OnOk};
 ghost use Rattle.std.specs.Prelude.{false, map, true};
 ghost use Rattle.data_folder.specs.Folders.{HasFile, KeepsOthers, LeavesOnly, Untouched};
 ghost use Rattle.data_folder.specs.JournalFile.{journal_name, next_name};
@@ -15,7 +15,8 @@ ghost use Rattle.store_folder.specs.Faults.{DeniesStore, GivesFound, GivesStore,
 ghost use Rattle.store_folder.specs.Finding.{IsFoundStore};
 ghost use Rattle.store_folder.specs.Holding.{AreAt};
 ghost use Rattle.store_folder.specs.Journals.{IsFoundJournal, IsJournalOf};
-ghost use Rattle.store_folder.specs.Plain.{DeniesFolder, HasEither, begins_plain, may_be_plain};
+ghost use Rattle.store_folder.specs.Plain.{DeniesFolder, DeniesText, HasEither, begins_plain};
+ghost use Rattle.store_folder.specs.Plain.{may_be_plain};
 ghost use Rattle.store_folder.specs.Refusals.{IsRefusal};
 ghost use Rattle.store_folder.specs.Starting.{nothing_saved};
 ghost use Rattle.store_folder.specs.declared.error.StartCause.TheVariants.{Refused};
@@ -163,6 +164,8 @@ fn open_file<F: Folder>(
         → AreAt F.shows F.kept saved.places parts folder.old
         → GivesFound (F.failed folder.new) saved parts events result }
     ensures refused { IfErr result (λ e. DeniesFolder F.shows F.kept F.failed folder.new e) }
+    ensures plain_refused { begins_plain file.now ≡ true → IfErr result (λ e.
+        ((e ≡ StartError.Medium) × (F.failed folder.new ≡ true)) ⊎ DeniesText file.now e) }
     ensures unchanged { IfErr result (λ e. (e ≡ StartError.Medium → ⊥)
         → Untouched F.shows F.kept F.moment F.left_since folder.old folder.new) }
     ensures whole { begins_plain file.now ≡ false
@@ -208,6 +211,11 @@ pub fn open_store<F: Folder>(
     // is refused is some folder that has to be.
     ensures refused { IfErr result (λ e. DeniesFolder F.shows F.kept F.failed folder.new e) }
     ensures told { IfErr result (λ e. cause_of e ≡ Refused → IsRefusal e) }
+    // A journal of events alone is refused for nothing but what is wrong with it as one.
+    ensures plain_refused { TellsFiles F.shows → (file : List ℕ)
+        → F.shows folder.old journal_name (Some file) → begins_plain file ≡ true
+        → IfErr result (λ e. ((e ≡ StartError.Medium) × (F.failed folder.new ≡ true))
+        ⊎ DeniesText file e) }
     // Where it is refused, nothing is changed; nor where no journal is found.
     ensures unchanged { IfErr result (λ e. (e ≡ StartError.Medium → ⊥)
         → Untouched F.shows F.kept F.moment F.left_since folder.old folder.new) }

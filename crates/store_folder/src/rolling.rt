@@ -1,6 +1,9 @@
 //! A journal that begins with a new head.
 
-ghost use Rattle.std.specs.Prelude.{◌≡◌, ◌⊎◌, List, [], false, true, Err, IfErr, OnErr, OnOk, length};
+ghost use Rattle.std.specs.Prelude.{◌≡◌, ◌⊎◌, List, [], false, true, Err, IfErr, OnErr, OnOk};
+ghost use Rattle.std.specs.Prelude.{length};
+ghost use Rattle.data_folder.specs.Folders.{KeepsOthers};
+ghost use Rattle.data_folder.specs.JournalFile.{journal_name, next_name};
 ghost use Rattle.event_journal.specs.Holding.{contents_with};
 ghost use Rattle.head.specs.Heads.{BlockPart};
 ghost use Rattle.head.specs.Worlds.{Event as Change};
@@ -19,8 +22,8 @@ use head_record::HeadRecord;
 use std::alloc::Global;
 
 impl<N: Beginning, F: Folder + Drop> StoreJournal<N, F> {
-    /// Begins the journal anew with this head, which says the world of all events so far. The files
-    /// of its blocks lie in the folder. No event may be kept meanwhile.
+    /// Begins the journal anew with this head, which says the world of all events so far and what
+    /// the values mean. The files of its blocks lie in the folder. No event may be kept meanwhile.
     ///
     /// The journal goes on as it was unless the error is `Lost`: then it is closed.
     pub fn roll(&mut self, alloc: Global, head: &HeadRecord) -> Result<(), RollFault>
@@ -74,6 +77,9 @@ impl<N: Beginning, F: Folder + Drop> StoreJournal<N, F> {
             ⊎ (F.failed self.new.events.journal.medium.folder ≡ true) }
         ensures closed { self.old.events.journal.closed ≡ true
             → (result ≡ Err (RollFault.Folder RollError.Closed)) × (self.new ≡ self.old) }
+        // All other files stay.
+        ensures others { KeepsOthers F.shows F.kept next_name journal_name
+            self.old.events.journal.medium.folder self.new.events.journal.medium.folder }
     {
         if self.events.journal.closed {
             return Err(RollFault::Folder(RollError::Closed));

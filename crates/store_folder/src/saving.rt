@@ -2,7 +2,7 @@
 
 ghost use Rattle.std.specs.Prelude.{◌≡◌, ◌⊎◌, ◌≤◌, ◌-◌, ◌++◌, List, Err, false, true, drop, length};
 ghost use Rattle.std.specs.Prelude.{[], IfErr, IfOk, OnErr, OnOk, take};
-ghost use Rattle.data_folder.specs.Sweeping.{KeepsStore};
+ghost use Rattle.data_folder.specs.Sweeping.{KeepsForeign, KeepsStore};
 ghost use Rattle.event_journal.specs.Holding.{contents_with};
 ghost use Rattle.head.specs.Heads.{BlockPart};
 ghost use Rattle.head.specs.Worlds.{Event as Change};
@@ -13,12 +13,13 @@ ghost use Rattle.store_folder.specs.Holding.{AreAt, HoldsAt, HoldsStore};
 ghost use Rattle.store_folder.specs.Saving.{MaySave};
 ghost use Rattle.store_folder.specs.Starting.{StartFinds};
 ghost use Rattle.store_folder.specs.Sweeps.{names_at};
-ghost use Rattle.store_folder.specs.Writing.{AreLike, AreRewritten, places_from};
+ghost use Rattle.store_folder.specs.Writing.{AreLike, AreRewritten, EachSays, places_from};
 
 use crate::error::RollFault;
 use crate::store_journal::{Beginning, StoreJournal};
 use crate::sweeping::file_names;
 use crate::writing::write_blocks;
+use block_folder::Values;
 use data_folder::{Folder, RollError};
 use head::Snapshot;
 use head_record::{BlockPlace, HeadRecord};
@@ -38,8 +39,9 @@ fn places_of(
 }
 
 /// Writes the blocks of a snapshot but the first so many, in folders of the numbers from `next` on,
-/// and gives what is saved of it. The files of blocks at the held places stay, of which the first
-/// so many are those of the snapshot's first blocks.
+/// and gives what is saved of it, with this meaning of its values. All that stands at the top
+/// stays, as the journal, also one whose end is torn; and so do the files of blocks at the held
+/// places, of which the first so many are those of the snapshot's first blocks.
 pub fn write_saved<F: Folder>(
     alloc: Global,
     folder: &mut F,
@@ -47,16 +49,20 @@ pub fn write_saved<F: Folder>(
     held: &[BlockPlace],
     same: usize,
     next: u64,
+    values: Values,
 ) -> Result<HeadRecord, RollFault>
     requires sound { F.sound folder.old ≡ true }
     requires held { same ≤ length held.now }
     requires blocks { same ≤ length snapshot.now.blocks }
-    ensures saved { IfOk result (λ head. head ≡ save snapshot.now
+    ensures saved { IfOk result (λ head. head ≡ save values snapshot.now
         (take same held.now ++ places_from next (length snapshot.now.blocks - same))) }
     ensures there { OnOk result ((parts : List BlockPart)
         × AreRewritten (drop same snapshot.now.blocks) parts
         × AreAt F.shows F.kept (places_from next (length snapshot.now.blocks - same)) parts
         folder.new) }
+    // The `meta.json` of each block that is written says what the values mean.
+    ensures says { OnOk result (EachSays F.shows F.kept values
+        (places_from next (length snapshot.now.blocks - same)) folder.new) }
     ensures sound { F.sound folder.new ≡ true }
     ensures stays { KeepsStore F.shows F.kept F.sound F.moment F.left_since (names_at held.now)
         folder.old folder.new }
@@ -65,7 +71,7 @@ pub fn write_saved<F: Folder>(
         return Err(RollFault::Memory);
     };
     let blocks = snapshot.blocks().split_at(same).1;
-    let added = match write_blocks(alloc, folder, &mut kept, blocks, next) {
+    let added = match write_blocks(alloc, folder, &mut kept, blocks, next, values) {
         Ok(added) => added,
         Err(fault) => return Err(RollFault::Block(fault)),
     };
@@ -75,7 +81,7 @@ pub fn write_saved<F: Folder>(
     let Ok(series) = snapshot.head().saved(alloc) else {
         return Err(RollFault::Memory);
     };
-    Ok(HeadRecord::new(snapshot.floor(), places, series))
+    Ok(HeadRecord::new(values, snapshot.floor(), places, series))
 }
 
 impl<N: Beginning, F: Folder + Drop> StoreJournal<N, F> {
@@ -140,7 +146,8 @@ impl<N: Beginning, F: Folder + Drop> StoreJournal<N, F> {
         ensures open { OnOk result (self.new.events.journal.closed ≡ false) }
         // Then it has what is saved and nothing more.
         ensures len { IfOk result (λ places. self.new.events.journal.len
-            ≡ length (file_of (contents_with (head_texts (save snapshot.now places.items)) []))) }
+            ≡ length (file_of (contents_with
+            (head_texts (save N.first.values snapshot.now places.items)) []))) }
         ensures goes_on { IfErr result (λ e. (e ≡ RollFault.Folder RollError.Lost → ⊥)
             → self.old.events.journal.closed ≡ false → self.new.events.journal.closed ≡ false) }
         // It is closed for no cause but that writing failed.
@@ -149,12 +156,16 @@ impl<N: Beginning, F: Folder + Drop> StoreJournal<N, F> {
             ⊎ (F.failed self.new.events.journal.medium.folder ≡ true) }
         ensures closed { self.old.events.journal.closed ≡ true
             → (result ≡ Err (RollFault.Folder RollError.Closed)) × (self.new ≡ self.old) }
+        // What stands at the top and is none of the store's stays.
+        ensures foreign { KeepsForeign F.shows F.kept self.old.events.journal.medium.folder
+            self.new.events.journal.medium.folder }
     {
         if self.events.journal.closed {
             return Err(RollFault::Folder(RollError::Closed));
         }
+        let values = self.values();
         let folder = &mut self.events.journal.medium.folder;
-        let head = match write_saved(alloc, folder, snapshot, held, same, next) {
+        let head = match write_saved(alloc, folder, snapshot, held, same, next, values) {
             Ok(head) => head,
             Err(fault) => return Err(fault),
         };

@@ -2,9 +2,9 @@
 
 ghost use Rattle.std.specs.Prelude.{◌≡◌, ◌⊎◌, List, [], None, Ok, IfOk, IfErr, MatchResult};
 ghost use Rattle.std.specs.Prelude.{false, length, map, true};
-ghost use Rattle.data_folder.specs.Folders.{LeavesOnly};
-ghost use Rattle.data_folder.specs.JournalFile.{journal_name};
-ghost use Rattle.head.specs.Blocks.{opening_of, part_in};
+ghost use Rattle.data_folder.specs.Folders.{KeepsOthers, LeavesOnly};
+ghost use Rattle.data_folder.specs.JournalFile.{journal_name, next_name};
+ghost use Rattle.head.specs.Blocks.{part_in};
 ghost use Rattle.head.specs.Heads.{BlockPart, world_of};
 ghost use Rattle.head.specs.Worlds.{replayed};
 ghost use Rattle.journal.specs.declared.error.JournalError.TheVariants.{Memory as NoRecord};
@@ -13,9 +13,10 @@ ghost use Rattle.store_folder.specs.Finding.{IsFoundStore};
 ghost use Rattle.store_folder.specs.Holding.{HoldsAt, HoldsStore};
 ghost use Rattle.store_folder.specs.Starting.{DeniesStart, GoesOn};
 ghost use Rattle.store_folder.specs.Starting.{IsNoneOrNothing, IsNoRefusal, IsRefusedEvent};
-ghost use Rattle.store_folder.specs.Starting.{StartFinds, nothing_saved};
+ghost use Rattle.store_folder.specs.Starting.{StartFinds, nothing_saved, nothing_with};
 ghost use Rattle.store_folder.specs.Refusals.{IsRefusal};
-ghost use Rattle.store_folder.specs.States.{HasWorld, started};
+ghost use Rattle.store_folder.specs.Origins.{beginning};
+ghost use Rattle.store_folder.specs.States.{HasWorld, origin_of};
 ghost use Rattle.store_folder.specs.Terms.{begun_len};
 ghost use Rattle.store_folder.specs.declared.error.ReadError.TheVariants.{Journal as Records};
 ghost use Rattle.store_folder.specs.declared.error.StartCause.TheVariants.{Refused};
@@ -26,10 +27,12 @@ use crate::error::{ReadError, StartError};
 use crate::heads::head_journal;
 use crate::journals::FoundJournal;
 use crate::keeping::StoreKeeper;
+use crate::meaning::Meaning;
 use crate::reading::FoundStore;
 use crate::store_journal::{Beginning, StoreJournal};
 use crate::terms::RollTerms;
 use block::Block;
+use block_folder::Values;
 use data_folder::{Folder, JournalFile, begin};
 use event_journal::EventJournal;
 use head::{Event, RefusedEvent, ResumeError, Snapshot, apply};
@@ -37,7 +40,6 @@ use head_record::HeadRecord;
 use journal::{JournalError, MediumError};
 use labels::MIN_TIME;
 use std::alloc::Global;
-use std::marker::PhantomData;
 
 /// A store that goes on, or one that begins.
 #[derive(Drop)]
@@ -101,20 +103,32 @@ pub(crate) fn no_memory() -> StartError
     StartError::Journal(ReadError::Journal(JournalError::Memory))
 }
 
-/// What is saved of a store that has nothing.
+/// What is saved of a store that has nothing, whose values mean this.
+pub(crate) fn nothing_with(alloc: Global, values: Values) -> HeadRecord
+    ensures { result ≡ nothing_with values }
+{
+    HeadRecord::new(values, MIN_TIME, Vec::new(alloc), Vec::new(alloc))
+}
+
+/// And if they are whole numbers.
 pub(crate) fn nothing(alloc: Global) -> HeadRecord
     ensures { result ≡ nothing_saved }
 {
-    HeadRecord::new(MIN_TIME, Vec::new(alloc), Vec::new(alloc))
+    nothing_with(alloc, Values::Whole)
 }
 
 impl<N: Beginning, F: Folder + Drop> StoreJournal<N, F> {
-    /// Begins the journal of a folder that has none: no blocks, no series, and no events. An `Err`
-    /// gives the folder back: a start finds no journal in it, or this one.
-    pub fn create(alloc: Global, folder: F) -> Result<StoreJournal<N, F>, (StartError, F)>
+    /// Begins the journal of a folder that has none: no blocks, no series, and no events; the
+    /// values of the store are to mean this. An `Err` gives the folder back: a start finds no
+    /// journal in it, or this one.
+    pub fn create(
+        alloc: Global,
+        folder: F,
+        values: Values,
+    ) -> Result<StoreJournal<N, F>, (StartError, F)>
         requires sound { F.sound folder ≡ true }
         requires none { F.shows folder journal_name None × F.kept folder journal_name 0 }
-        requires first { N.first ≡ world_of (opening_of []) }
+        requires first { N.first ≡ beginning values }
         ensures holds { IfOk result (λ k. HoldsStore F.shows F.kept F.sound F.moment F.left_since
             N.first k.events.journal.medium k.events.journal.len k.events.journal.closed []) }
         ensures places { IfOk result (λ k. HoldsAt F.shows F.kept F.sound F.moment F.left_since
@@ -122,19 +136,24 @@ impl<N: Beginning, F: Folder + Drop> StoreJournal<N, F> {
         ensures open { IfOk result (λ k. k.events.journal.closed ≡ false) }
         ensures any_moment { MatchResult result
             (λ k. LeavesOnly F.moment F.left_since folder k.events.journal.medium.folder
-            IsNoneOrNothing)
-            (λ e. LeavesOnly F.moment F.left_since folder e.1 IsNoneOrNothing) }
+            (IsNoneOrNothing values))
+            (λ e. LeavesOnly F.moment F.left_since folder e.1 (IsNoneOrNothing values)) }
         // What fails is memory or the folder.
         ensures refused { IfErr result (λ e. IsNoRefusal e.0) }
+        // All other files stay.
+        ensures others { MatchResult result
+            (λ k. KeepsOthers F.shows F.kept next_name journal_name folder
+            k.events.journal.medium.folder)
+            (λ e. KeepsOthers F.shows F.kept next_name journal_name folder e.1) }
     {
-        let text = match head_journal(alloc, &nothing(alloc)) {
+        let text = match head_journal(alloc, &nothing_with(alloc, values)) {
             Ok(text) => text,
             Err(_) => return Err((no_memory(), folder)),
         };
         match begin(folder, &text) {
             Ok(journal) => Ok(StoreJournal {
                 events: EventJournal { journal },
-                of: PhantomData,
+                meaning: Meaning::new(values),
             }),
             Err((_, folder)) => Err((StartError::Medium, folder)),
         }
@@ -146,42 +165,50 @@ impl<N: Beginning, F: Folder + Drop> StoreJournal<N, F> {
         requires found { (parts : List BlockPart)
             × IsFoundStore F.shows F.kept journal.now parts folder }
         requires sound { F.sound folder ≡ true }
+        requires values { journal.now.head.values ≡ N.first.values }
         ensures holds { IfOk result (λ k. (parts : List BlockPart)
             → IsFoundStore F.shows F.kept journal.now parts folder
-            → N.first ≡ world_of (started journal.now.head parts)
+            → N.first ≡ origin_of journal.now.head parts
             → HoldsAt F.shows F.kept F.sound F.moment F.left_since N.first
             k.events.journal.medium k.events.journal.len k.events.journal.closed
             journal.now.events.items journal.now.head.places parts) }
         ensures open { IfOk result (λ k. k.events.journal.closed ≡ false) }
         ensures any_moment { (parts : List BlockPart)
             → IsFoundStore F.shows F.kept journal.now parts folder
-            → N.first ≡ world_of (started journal.now.head parts) → MatchResult result
+            → N.first ≡ origin_of journal.now.head parts → MatchResult result
             (λ k. StartFinds F.moment F.left_since folder k.events.journal.medium.folder N.first
             journal.now.events.items)
             (λ e. StartFinds F.moment F.left_since folder e.1 N.first
             journal.now.events.items) }
+        // All other files stay.
+        ensures others { MatchResult result
+            (λ k. KeepsOthers F.shows F.kept next_name journal_name folder
+            k.events.journal.medium.folder)
+            (λ e. KeepsOthers F.shows F.kept next_name journal_name folder e.1) }
     {
         match EventJournal::resume(JournalFile { folder }, journal.len) {
             Ok(events) => Ok(StoreJournal {
                 events,
-                of: PhantomData,
+                meaning: Meaning::new(journal.head.values()),
             }),
             Err((error, medium)) => Err((error, medium.folder)),
         }
     }
 }
 
-/// Begins the store of a folder that has none; its journal is begun anew after so many bytes. An
-/// `Err` gives the folder back.
+/// Begins the store of a folder that has none, whose values are to mean this; its journal is begun
+/// anew after so many bytes. An `Err` gives the folder back.
 pub fn begin_store<N: Beginning, F: Folder + Drop>(
     alloc: Global,
     folder: F,
+    values: Values,
     most: u64,
 ) -> Result<StartedStore<N, F>, (StartError, F)>
     requires sound { F.sound folder ≡ true }
     requires none { F.shows folder journal_name None × F.kept folder journal_name 0 }
-    // The world before all events is that of a store that has nothing.
-    requires first { N.first ≡ world_of (opening_of []) }
+    // The world before all events is that of a store that has nothing, and the values mean what is
+    // asked for.
+    requires first { N.first ≡ beginning values }
     ensures begun { IfOk result (λ x. GoesOn F.shows F.kept F.sound F.moment F.left_since
         N.first x.keeper.store.events.journal.medium x.keeper.store.events.journal.len
         x.keeper.store.events.journal.closed x.journal.events.items x.keeper.places.items
@@ -189,21 +216,27 @@ pub fn begin_store<N: Beginning, F: Folder + Drop>(
     ensures terms { IfOk result (λ x.
         x.keeper.terms ≡ record { most = most; len = 0; blocks = 0 }) }
     ensures events { IfOk result (λ x. x.journal.events.items ≡ []) }
+    ensures head { IfOk result (λ x. x.journal.head ≡ nothing_with values) }
     ensures refused { IfErr result (λ e. IsNoRefusal e.0) }
     // A crash at any moment of the call leaves no journal, or that of a store that has nothing.
     ensures any_moment { MatchResult result
         (λ x. LeavesOnly F.moment F.left_since folder
-        x.keeper.store.events.journal.medium.folder IsNoneOrNothing)
-        (λ e. LeavesOnly F.moment F.left_since folder e.1 IsNoneOrNothing) }
+        x.keeper.store.events.journal.medium.folder (IsNoneOrNothing values))
+        (λ e. LeavesOnly F.moment F.left_since folder e.1 (IsNoneOrNothing values)) }
+    // All other files stay.
+    ensures others { MatchResult result
+        (λ x. KeepsOthers F.shows F.kept next_name journal_name folder
+        x.keeper.store.events.journal.medium.folder)
+        (λ e. KeepsOthers F.shows F.kept next_name journal_name folder e.1) }
 {
     let snapshot = match Snapshot::opening(alloc, Vec::new(alloc)) {
         Ok(snapshot) => snapshot,
         Err(_) => return Err((no_memory(), folder)),
     };
-    match StoreJournal::create(alloc, folder) {
+    match StoreJournal::create(alloc, folder, values) {
         Ok(store) => {
             let journal = FoundJournal {
-                head: nothing(alloc),
+                head: nothing_with(alloc, values),
                 events: Vec::new(alloc),
                 len: store.len(),
                 torn: 0,
@@ -237,9 +270,10 @@ pub fn resume_store<N: Beginning, F: Folder + Drop>(
     requires sound { F.sound folder ≡ true }
     requires found { IsFoundStore F.shows F.kept found.journal (map part_in found.blocks.items)
         folder }
-    // The world before all events is that of the head and the blocks.
+    // The world before all events is that of the head and the blocks, and the values mean what the
+    // head says.
     requires first { N.first
-        ≡ world_of (started found.journal.head (map part_in found.blocks.items)) }
+        ≡ origin_of found.journal.head (map part_in found.blocks.items) }
     // The journal is the one that was found. The snapshot is what its events make of that world,
     // and they are held.
     ensures journal { IfOk result (λ x. x.journal ≡ found.journal) }
@@ -264,6 +298,11 @@ pub fn resume_store<N: Beginning, F: Folder + Drop>(
         (λ x. StartFinds F.moment F.left_since folder
         x.keeper.store.events.journal.medium.folder N.first found.journal.events.items)
         (λ e. StartFinds F.moment F.left_since folder e.1 N.first found.journal.events.items) }
+    // All other files stay.
+    ensures others { MatchResult result
+        (λ x. KeepsOthers F.shows F.kept next_name journal_name folder
+        x.keeper.store.events.journal.medium.folder)
+        (λ e. KeepsOthers F.shows F.kept next_name journal_name folder e.1) }
 {
     let FoundStore { journal, blocks } = found;
     let terms = RollTerms::new(most, begun_len(&journal), blocks.len());

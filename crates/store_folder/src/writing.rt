@@ -7,12 +7,13 @@ ghost use Rattle.head.specs.Heads.{BlockPart};
 ghost use Rattle.store_folder.specs.Blocks.{name_in, named_files};
 ghost use Rattle.store_folder.specs.Holding.{AreAt};
 ghost use Rattle.store_folder.specs.Sweeps.{names_at, names_of};
-ghost use Rattle.store_folder.specs.Writing.{AreRewritten, IsRewritten, Wrote, files_in_memory};
-ghost use Rattle.store_folder.specs.Writing.{places_from};
+ghost use Rattle.store_folder.specs.Writing.{AreRewritten, EachSays, IsRewritten, Says, Wrote};
+ghost use Rattle.store_folder.specs.Writing.{files_in_memory, places_from};
 
 use crate::blocks::name_in;
 use crate::error::WriteFault;
 use block::Block;
+use block_folder::Values;
 use block_rewriter::{Rewritten, rewrite};
 use data_folder::{Folder, add_folder, write_apart};
 use head_record::BlockPlace;
@@ -109,17 +110,20 @@ fn make_each<F: Folder>(folder: &mut F, block: &str, chunks: &str) -> Result<(),
 }
 
 /// Writes a block anew by its rows, into the folder of a number, and keeps its files from then on.
+/// Its `meta.json` says what the values mean.
 pub(crate) fn write_block<F: Folder>(
     alloc: Global,
     folder: &mut F,
     kept: &mut Vec<String>,
     number: u64,
     block: &Block,
+    values: Values,
 ) -> Result<(), WriteFault>
     requires { F.sound folder.old ≡ true }
     // The block that its files spell has the same times, and the rows that have a sample.
     ensures there { OnOk result ((part : BlockPart) × IsRewritten (part_in block.now) part
         × AreAt F.shows F.kept ((number, 0) ∷ []) (part ∷ []) folder.new) }
+    ensures says { OnOk result (Says F.shows F.kept values folder.new (number, 0)) }
     ensures names { OnOk result (names_in kept.new.items
         ≡ names_in kept.old.items ++ names_of (number, 0)) }
     ensures sound { F.sound folder.new ≡ true }
@@ -127,7 +131,7 @@ pub(crate) fn write_block<F: Folder>(
     ensures stays { KeepsStore F.shows F.kept F.sound F.moment F.left_since
         (names_in kept.old.items) folder.old folder.new }
 {
-    let files = match rewrite(alloc, block) {
+    let files = match rewrite(alloc, block, values) {
         Ok(files) => files,
         Err(error) => return Err(WriteFault::Block(error)),
     };
@@ -136,18 +140,21 @@ pub(crate) fn write_block<F: Folder>(
 }
 
 /// Writes each of these blocks anew by its rows, in folders of the numbers from the first on, and
-/// keeps their files from then on. Their places.
+/// keeps their files from then on. Each `meta.json` says what the values mean. Their places.
 pub(crate) fn write_blocks<F: Folder>(
     alloc: Global,
     folder: &mut F,
     kept: &mut Vec<String>,
     blocks: &[Block],
     first: u64,
+    values: Values,
 ) -> Result<Vec<BlockPlace>, WriteFault>
     requires { F.sound folder.old ≡ true }
     ensures there { IfOk result (λ places. (parts : List BlockPart)
         × AreRewritten (map part_in blocks.now) parts
         × AreAt F.shows F.kept places.items parts folder.new) }
+    ensures says { IfOk result (λ places.
+        EachSays F.shows F.kept values places.items folder.new) }
     ensures places { IfOk result (λ places.
         places.items ≡ places_from first (length blocks.now)) }
     ensures names { IfOk result (λ places. names_in kept.new.items
@@ -161,7 +168,7 @@ pub(crate) fn write_blocks<F: Folder>(
         let Some(number) = first.checked_add(places.len() as u64) else {
             return Err(WriteFault::Numbers);
         };
-        write_block(alloc, folder, kept, number, block)?;
+        write_block(alloc, folder, kept, number, block, values)?;
         let Ok(()) = places.push(BlockPlace::new(number, 0)) else {
             return Err(WriteFault::Memory);
         };

@@ -12,10 +12,10 @@ returns-clause-all c first w events left s world fits =
 pub returns-clause-few : goal.returns-clause-few
 returns-clause-few c first w events more left s world fits =
     let few = s.2.0 in
-    let found = few_accepted first w events more few world in (
+    let found = few_accepted first.world w events more few world in (
       found.0,
       finds_world first found.0 left s.0 (fits, s.1)
-          (subst (λ (es : List Event). IsOfAll first es found.0) (sym s.2.1) found.1),
+          (subst (λ (es : List Event). IsOfAll first.world es found.0) (sym s.2.1) found.1),
       (few, found.1),
     )
 

@@ -7,7 +7,7 @@ use Rattle.event_journal.specs.Holding.{contents_with}
 use Rattle.head.specs.Blocks.{part_in}
 use Rattle.head_record.specs.Spelling.{head_texts}
 use Rattle.journal.specs.Group.{IsJournalText}
-use Rattle.std.proofs.Common.{List, length, Some}
+use Rattle.std.proofs.Common.{List, length, refl, Some}
 use Rattle.store_folder.specs.Plain.{HasEither}
 use Rattle.store_folder.specs.StoreLaws.{whole_left}
 use Rattle.store_folder.specs.Starting.{nothing_saved}
@@ -61,5 +61,5 @@ returns-in-Ok-change_journal-clause-found g c =
     (subst (λ (bytes : List ℕ).
     HasFile f.shows f.kept journal_name bytes c.change_journal.new.folder) c.deref.ensures.value
     c.in-Ok-change_journal.ensures.changed)
-    c.nothing.ensures len c.in-Ok.ensures.events c.in-Ok.ensures.saved c.in-Ok.ensures.text
+    c.nothing.ensures len refl c.in-Ok.ensures.events c.in-Ok.ensures.saved c.in-Ok.ensures.text
     (ap (λ (bs : List Shown). map part_in bs) c.new.ensures.items)

@@ -1,4 +1,4 @@
-use Rattle.std.proofs.Common.{◌≡◌, inl, true, false, sym, ◌∙◌}
+use Rattle.std.proofs.Common.{◌≡◌, inl, inr, ⊎_elim, true, false, sym, ◌∙◌}
 use Rattle.data_folder.specs.JournalFile.{journal_name, next_name}
 use Rattle.store_folder.proofs.Openings.{adopting_denied, adopting_undone, if_both, if_err}
 use Rattle.store_folder.proofs.Openings.{journal_left, others_stay}
@@ -71,3 +71,11 @@ returns-else-begins_plain-clause-others g c =
     let f = g.F.Folder in
     others_stay f.shows f.kept f.failed f.moment f.left_since next_name journal_name
     c.args.folder.now c.with_file.new.folder c.with_file.ensures.untouched.all
+
+pub returns-then-begins_plain-clause-plain_refused : goal.returns-then-begins_plain-clause-plain_refused
+returns-then-begins_plain-clause-plain_refused g c plain =
+    if_err c.adopt.result _ _ (λ e r. ⊎_elim (λ x. inl x) (λ x. inr x.1) r) c.adopt.ensures.refused
+
+pub returns-else-begins_plain-clause-plain_refused : goal.returns-else-begins_plain-clause-plain_refused
+returns-else-begins_plain-clause-plain_refused g c plain =
+    absurd (let a : true ≡ false = sym plain ∙ (sym c.begins_plain.ensures ∙ c.if-begins_plain.false) in cc)

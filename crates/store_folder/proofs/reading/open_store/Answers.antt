@@ -1,10 +1,10 @@
-use Rattle.std.proofs.Common.{◌≡◌, ⊎_elim, ℕ, false, List, [], Some, ap, rules, subst, sym, ◌∙◌}
+use Rattle.std.proofs.Common.{◌≡◌, ⊎_elim, inl, inr, refl, ℕ, false, List, [], Some, ap, rules, subst, sym, ◌∙◌}
 use Rattle.data_folder.specs.Folders.{HasFile, LeavesOnly}
 use Rattle.data_folder.specs.JournalFile.{journal_name, next_name}
 use Rattle.data_folder.proofs.Moments.{joined, untouched_on}
 use Rattle.event_journal.specs.Holding.{Stands}
 use Rattle.store_folder.specs.Journals.{IsJournalOf}
-use Rattle.store_folder.specs.Plain.{HasEither, begins_plain}
+use Rattle.store_folder.specs.Plain.{DeniesText, HasEither, begins_plain}
 use Rattle.store_folder.proofs.Files.{blocks_kept}
 use Rattle.store_folder.proofs.Openings.{journal_left, others_after, others_stay, plain_found}
 use Rattle.store_folder.proofs.Openings.{same_file}
@@ -204,3 +204,21 @@ returns-clause-others g c =
 pub returns-clause-unchanged : goal.returns-clause-unchanged
 returns-clause-unchanged g c unless =
     record { all = c.read.ensures.all; time = c.read.ensures.time }
+
+-- a journal of events alone is refused
+
+pub returns-in-Some-clause-plain_refused : goal.returns-in-Some-clause-plain_refused
+returns-in-Some-clause-plain_refused g c tells file shown plain =
+    let f = g.F.Folder in
+    let read = c.read.new.self in
+    let there : HasFile f.shows f.kept journal_name c.in-Some.file.items read = search rules in
+    let same : c.deref.result.now ≡ file =
+    c.deref.ensures.value ∙ same_file c.in-Some.file.items file
+    (tells read journal_name (Some c.in-Some.file.items) (Some file) there.shown
+    (c.read.ensures.all.same journal_name (Some file) shown)) in
+    ⊎_elim (λ x. inl x)
+    (λ x. inr (subst (λ (bytes : List ℕ). DeniesText bytes c.in-Err-open_file.error) same x))
+    (c.in-Err-open_file.ensures.plain_refused (ap begins_plain same ∙ plain))
+
+pub returns-clause-plain_refused : goal.returns-clause-plain_refused
+returns-clause-plain_refused g c tells file shown plain = inl (refl, c.in-Err.ensures.failed)

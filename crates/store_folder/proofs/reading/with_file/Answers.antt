@@ -10,6 +10,7 @@ pub with_blocks-requires-clause-journal : goal.with_blocks-requires-clause-journ
 with_blocks-requires-clause-journal g c = record {
   is = c.in-Ok.ensures.found;
   counted = c.in-Ok.ensures.len;
+  torn = c.in-Ok.ensures.torn;
 }
 
 pub returns-in-Err-clause-untouched : goal.returns-in-Err-clause-untouched

@@ -1,9 +1,12 @@
 use Rattle.std.proofs.Common.{◌≡◌, ◌∙◌, List, ap, inl, inr, map, refl, subst, sym}
 use Rattle.block.specs.Blocks.{Shown}
 use Rattle.std.specs.Prelude.{Ok}
+use Rattle.data_folder.specs.JournalFile.{journal_name, next_name}
+use Rattle.data_folder.proofs.Moments.{nothing_changed}
 use Rattle.head.specs.Blocks.{part_in}
 use Rattle.head.specs.Heads.{world_of}
-use Rattle.head.specs.Worlds.{World, replayed}
+use Rattle.head.specs.Worlds.{replayed}
+use Rattle.store_folder.specs.Origins.{Origin}
 use Rattle.store_folder.proofs.Refusals.{found_refused, no_refusal}
 use Rattle.store_folder.proofs.Fronts.{resumed_like}
 use Rattle.store_folder.proofs.Starts.{stays_found}
@@ -12,15 +15,18 @@ use Rattle.store_folder.proofs.starting.resume_store.Goals as goal
 pub resume-requires-clause-found : goal.resume-requires-clause-found
 resume-requires-clause-found g c = (map part_in c.args.found.blocks.items, c.requires.found)
 
+pub resume-requires-clause-values : goal.resume-requires-clause-values
+resume-requires-clause-values g c = sym (ap (λ (x : Origin). x.values) c.requires.first)
+
 pub returns-in-Ok-resume-clause-resumed : goal.returns-in-Ok-resume-clause-resumed
 returns-in-Ok-resume-clause-resumed g c =
     let f = g.F.Folder in
     let parts = map part_in c.args.found.blocks.items in
     let j = c.in-Ok-resume.store.events.journal in
     record {
-      world = subst (λ (w : World).
-          replayed w c.args.found.journal.events.items ≡ Ok (world_of c.in-Ok-snapshot_of.snapshot))
-          (sym c.requires.first) c.in-Ok-snapshot_of.ensures.world;
+      world = subst (λ (x : Origin). replayed x.world c.args.found.journal.events.items
+          ≡ Ok (world_of c.in-Ok-snapshot_of.snapshot)) (sym c.requires.first)
+          c.in-Ok-snapshot_of.ensures.world;
       holds = resumed_like f.shows f.kept f.sound f.moment f.left_since g.N.Beginning.first
           j.medium j.len j.closed c.args.found.journal.events.items
           c.args.found.journal.head.places parts _ _
@@ -80,3 +86,18 @@ returns-in_default-from_slice-clause-any_moment g c =
 
 pub returns-in-Err-resume-clause-unchanged : goal.returns-in-Err-resume-clause-unchanged
 returns-in-Err-resume-clause-unchanged g c unless = absurd (unless refl)
+
+pub returns-in-Err-clause-others : goal.returns-in-Err-clause-others
+returns-in-Err-clause-others g c =
+    let f = g.F.Folder in
+    nothing_changed f.shows f.kept next_name journal_name c.args.folder
+
+pub returns-in_default-clause-others : goal.returns-in_default-clause-others
+returns-in_default-clause-others g c =
+    let f = g.F.Folder in
+    nothing_changed f.shows f.kept next_name journal_name c.args.folder
+
+pub returns-in_default-from_slice-clause-others : goal.returns-in_default-from_slice-clause-others
+returns-in_default-from_slice-clause-others g c =
+    let f = g.F.Folder in
+    nothing_changed f.shows f.kept next_name journal_name c.args.folder

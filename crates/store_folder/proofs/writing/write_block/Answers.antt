@@ -51,3 +51,14 @@ returns-clause-stays g c =
     then_kept f.shows f.kept f.sound f.moment f.left_since g.met.F.Folder.only_now names
     c.args.folder.now c.make_folders.new.folder c.write_files.new.folder
     (c.make_folders.ensures.stays names) c.write_files.ensures.stays
+
+pub returns-clause-says : goal.returns-clause-says
+returns-clause-says g c =
+    let f = g.F.Folder in
+    let files = files_in_memory c.in-Ok.files in
+    on_ok c.write_files.result
+    (Wrote f.shows f.kept f.sound f.moment f.left_since (named_files (c.args.number, 0) files)
+    (names_in c.args.kept.now.items) (names_in c.write_files.new.kept.items)
+    c.make_folders.new.folder c.write_files.new.folder) _
+    (λ wrote. (files.meta, wrote.there.0, c.in-Ok.ensures.values))
+    c.write_files.ensures.wrote

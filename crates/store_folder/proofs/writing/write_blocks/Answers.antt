@@ -10,9 +10,9 @@ use Rattle.head.specs.Heads.{BlockPart}
 use Rattle.head_record.specs.Saved.{Place}
 use Rattle.store_folder.specs.Holding.{AreAt}
 use Rattle.store_folder.specs.Sweeps.{names_at, names_of}
-use Rattle.store_folder.specs.Writing.{AreRewritten, places_from}
+use Rattle.store_folder.specs.Writing.{AreRewritten, EachSays, places_from}
 use Rattle.store_folder.proofs.Writes.{at_joined, at_stays, each_last, length_places, more_stays}
-use Rattle.store_folder.proofs.Writes.{names_joined, places_more, rewritten_joined}
+use Rattle.store_folder.proofs.Writes.{names_joined, places_more, rewritten_joined, says_more}
 use Rattle.store_folder.proofs.writing.write_blocks.Goals as goal
 
 pub loop-block-init : goal.loop-block-init
@@ -26,6 +26,8 @@ loop-block-init g c =
         subst (λ (ps : List Place). AreAt f.shows f.kept ps [] c.args.folder.now)
             (sym c.new-places.ensures.items) tt,
       );
+      says = subst (λ (ps : List Place). EachSays f.shows f.kept c.args.values ps c.args.folder.now)
+          (sym c.new-places.ensures.items) tt;
       places = c.new-places.ensures.items;
       names = sym (ap (λ (ps : List Place). names ++ names_at ps) c.new-places.ensures.items
           ∙ append-nil names);
@@ -91,6 +93,10 @@ loop-block-preserved g c =
             (at_joined f.shows f.kept old (place ∷ []) parts (made.0 ∷ []) c.write_block.new.folder
             lie made.2),
       );
+      says = says_more f.shows f.kept f.sound f.moment f.left_since g.met.F.Folder.only_now
+          c.args.values before names old c.push.new.self.items place l.folder
+          c.write_block.new.folder l.invariant.names c.write_block.ensures.stays next
+          l.invariant.says c.in_ok-write_block.ensures.says;
       places = next
           ∙ ap (λ (ps : List Place). ps ++ place ∷ []) l.invariant.places
           ∙ ap (λ (n : ℕ). places_from c.args.first i ++ (n, 0) ∷ []) number

@@ -1,5 +1,6 @@
 use Rattle.std.proofs.Common.{List, ap, inl, map, sym, ◌∙◌}
 use Rattle.block.specs.Blocks.{Shown}
+use Rattle.data_folder.proofs.Foreign.{foreign_rests, foreign_then}
 use Rattle.head.specs.Blocks.{part_in}
 use Rattle.store_folder.specs.KeeperLaws.{as_store}
 use Rattle.store_folder.proofs.Fronts.{failed_like, may_save, open_like, saved_like}
@@ -187,3 +188,27 @@ returns-in_default-clause-any_moment g c events held world opened =
     g.N.Beginning.first j.medium j.len j.closed events
     (as_store f.shows f.kept f.sound f.moment f.left_since met.only_now g.N.Beginning.first j.medium
     j.len j.closed events self.places.items (map part_in self.blocks.items) held) opened
+
+pub returns-then-self-clause-foreign : goal.returns-then-self-clause-foreign
+returns-then-self-clause-foreign g c =
+    let f = g.F.Folder in
+    foreign_rests f.shows f.kept c.args.self.now.store.events.journal.medium.folder
+
+pub returns-in_default-clause-foreign : goal.returns-in_default-clause-foreign
+returns-in_default-clause-foreign g c =
+    let f = g.F.Folder in
+    foreign_rests f.shows f.kept c.args.self.now.store.events.journal.medium.folder
+
+pub returns-in-Ok-save-clause-foreign : goal.returns-in-Ok-save-clause-foreign
+returns-in-Ok-save-clause-foreign g c =
+    let f = g.F.Folder in
+    foreign_then f.shows f.kept c.args.self.now.store.events.journal.medium.folder
+    c.save.new.self.events.journal.medium.folder c.sweep_blocks.new.self.events.journal.medium.folder
+    c.save.ensures.foreign c.sweep_blocks.ensures.foreign
+
+pub returns-in-Err-clause-foreign : goal.returns-in-Err-clause-foreign
+returns-in-Err-clause-foreign g c =
+    let f = g.F.Folder in
+    foreign_then f.shows f.kept c.args.self.now.store.events.journal.medium.folder
+    c.save.new.self.events.journal.medium.folder c.sweep_after.new.self.events.journal.medium.folder
+    c.save.ensures.foreign c.sweep_after.ensures.foreign

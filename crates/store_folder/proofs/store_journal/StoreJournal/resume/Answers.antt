@@ -1,4 +1,5 @@
 use Rattle.std.proofs.Common.{refl}
+use Rattle.data_folder.proofs.Foreign.{others_beside}
 use Rattle.head_record.specs.Spelling.{head_texts}
 use Rattle.store_folder.proofs.Starts.{events_found, holds_found, resume_finds}
 use Rattle.store_folder.proofs.store_journal.StoreJournal.resume.Goals as goal
@@ -50,3 +51,15 @@ returns-in-Err-clause-any_moment g c parts h begins =
     (c.in-Err.ensures.any_moment (head_texts j.head) j.events.items
     (events_found f.shows f.kept f.sound f.moment f.left_since g.met.F.Folder.only_now
     (record { folder = c.args.folder }) j parts h c.requires.sound))
+
+pub returns-in-Ok-clause-others : goal.returns-in-Ok-clause-others
+returns-in-Ok-clause-others g c =
+    let f = g.F.Folder in
+    others_beside f.shows f.kept f.moment f.left_since c.args.folder
+    c.in-Ok.events.journal.medium.folder c.in-Ok.ensures.beside
+
+pub returns-in-Err-clause-others : goal.returns-in-Err-clause-others
+returns-in-Err-clause-others g c =
+    let f = g.F.Folder in
+    others_beside f.shows f.kept f.moment f.left_since c.args.folder
+    c.in-Err.medium.folder c.in-Err.ensures.beside

@@ -1,4 +1,6 @@
 use Rattle.std.proofs.Common.{◌≡◌, true, false, [], inl, subst, sym, ◌∙◌}
+use Rattle.data_folder.specs.JournalFile.{journal_name, next_name}
+use Rattle.data_folder.proofs.Moments.{nothing_changed}
 use Rattle.event_journal.specs.Holding.{contents_with}
 use Rattle.head_record.specs.Spelling.{head_texts}
 use Rattle.journal.specs.Group.{IsJournalText}
@@ -168,3 +170,15 @@ returns-in-Err-clause-any_moment g c events parts m opened =
     let old = c.args.self.now.events.journal in
     stays_so f.shows f.kept f.sound f.moment f.left_since met.only_now met.earlier
     g.N.Beginning.first old.medium old.len old.closed events m.holds opened
+
+pub returns-then-self-clause-others : goal.returns-then-self-clause-others
+returns-then-self-clause-others g c =
+    let f = g.F.Folder in
+    nothing_changed f.shows f.kept next_name journal_name
+    c.args.self.now.events.journal.medium.folder
+
+pub returns-in-Err-clause-others : goal.returns-in-Err-clause-others
+returns-in-Err-clause-others g c =
+    let f = g.F.Folder in
+    nothing_changed f.shows f.kept next_name journal_name
+    c.args.self.now.events.journal.medium.folder

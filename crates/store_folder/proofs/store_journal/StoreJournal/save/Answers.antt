@@ -1,4 +1,7 @@
 use Rattle.std.proofs.Common.{◌-◌, ◌++◌, ap, inl, length, subst, sym, take, ◌∙◌, List, []}
+use Rattle.data_folder.proofs.Foreign.{foreign_beside, foreign_kept, foreign_rests, foreign_then}
+use Rattle.store_folder.specs.Sweeps.{names_at}
+use Rattle.block_folder.specs.declared.values.Values.{Values}
 use Rattle.event_journal.specs.Holding.{contents_with}
 use Rattle.head_record.specs.Saved.{Place, Saved, save}
 use Rattle.head_record.specs.Spelling.{head_texts}
@@ -118,8 +121,9 @@ roll-requires g c =
     let rolls =
     may_roll f.shows f.kept f.sound f.moment f.left_since met.only_now met.earlier first old.medium
     (record { folder = c.write_saved.new.folder }) old.len old.closed given.0 s held given.1 same
-    (places_from c.args.next (length s.blocks - same)) there.0 c.in-Ok.head given.2 c.if-self.false
-    c.write_saved.ensures.stays there.1 there.2 c.in-Ok.ensures.saved in
+    (places_from c.args.next (length s.blocks - same)) there.0 c.values-values.result
+    c.in-Ok.head given.2 c.if-self.false c.write_saved.ensures.stays there.1 there.2 c.values-values.ensures
+    c.in-Ok.ensures.saved in
     (given.0, made, rolls)
 
 pub returns-in-Ok-roll-clause-held : goal.returns-in-Ok-roll-clause-held
@@ -136,8 +140,9 @@ returns-in-Ok-roll-clause-held g c events parts may =
     let rolls =
     may_roll f.shows f.kept f.sound f.moment f.left_since met.only_now met.earlier first old.medium
     (record { folder = c.write_saved.new.folder }) old.len old.closed events s held parts same
-    (places_from c.args.next (length s.blocks - same)) there.0 c.in-Ok.head may c.if-self.false
-    c.write_saved.ensures.stays there.1 there.2 c.in-Ok.ensures.saved in
+    (places_from c.args.next (length s.blocks - same)) there.0 c.values-values.result
+    c.in-Ok.head may c.if-self.false c.write_saved.ensures.stays there.1 there.2 c.values-values.ensures
+    c.in-Ok.ensures.saved in
     c.in-Ok-roll.ensures.held events made rolls
 
 pub returns-in-Ok-roll-clause-places : goal.returns-in-Ok-roll-clause-places
@@ -154,8 +159,9 @@ returns-in-Ok-roll-clause-places g c events parts may =
     let rolls =
     may_roll f.shows f.kept f.sound f.moment f.left_since met.only_now met.earlier first old.medium
     (record { folder = c.write_saved.new.folder }) old.len old.closed events s held parts same
-    (places_from c.args.next (length s.blocks - same)) there.0 c.in-Ok.head may c.if-self.false
-    c.write_saved.ensures.stays there.1 there.2 c.in-Ok.ensures.saved in
+    (places_from c.args.next (length s.blocks - same)) there.0 c.values-values.result
+    c.in-Ok.head may c.if-self.false c.write_saved.ensures.stays there.1 there.2 c.values-values.ensures
+    c.in-Ok.ensures.saved in
     let now = c.roll.new.self.events.journal in (
       made,
       like_made f.shows f.kept f.sound f.moment f.left_since met.only_now met.earlier first old.medium old.len old.closed events s held parts same there.0 may there.1,
@@ -179,8 +185,9 @@ returns-in-Ok-roll-clause-any_moment g c events parts may opened =
     let rolls =
     may_roll f.shows f.kept f.sound f.moment f.left_since met.only_now met.earlier first old.medium
     (record { folder = c.write_saved.new.folder }) old.len old.closed events s held parts same
-    (places_from c.args.next (length s.blocks - same)) there.0 c.in-Ok.head may c.if-self.false
-    c.write_saved.ensures.stays there.1 there.2 c.in-Ok.ensures.saved in
+    (places_from c.args.next (length s.blocks - same)) there.0 c.values-values.result
+    c.in-Ok.head may c.if-self.false c.write_saved.ensures.stays there.1 there.2 c.values-values.ensures
+    c.in-Ok.ensures.saved in
     finds_on f.moment f.left_since first events old.medium.folder c.write_saved.new.folder
     c.roll.new.self.events.journal.medium.folder
     (writing_finds f.shows f.kept f.sound f.moment f.left_since met.only_now met.earlier first old.medium
@@ -202,8 +209,9 @@ returns-clause-held g c events parts may =
     let rolls =
     may_roll f.shows f.kept f.sound f.moment f.left_since met.only_now met.earlier first old.medium
     (record { folder = c.write_saved.new.folder }) old.len old.closed events s held parts same
-    (places_from c.args.next (length s.blocks - same)) there.0 c.in-Ok.head may c.if-self.false
-    c.write_saved.ensures.stays there.1 there.2 c.in-Ok.ensures.saved in
+    (places_from c.args.next (length s.blocks - same)) there.0 c.values-values.result
+    c.in-Ok.head may c.if-self.false c.write_saved.ensures.stays there.1 there.2 c.values-values.ensures
+    c.in-Ok.ensures.saved in
     c.in-Err-roll.ensures.held events made rolls
 
 pub returns-clause-err : goal.returns-clause-err
@@ -234,8 +242,9 @@ returns-clause-any_moment g c events parts may opened =
     let rolls =
     may_roll f.shows f.kept f.sound f.moment f.left_since met.only_now met.earlier first old.medium
     (record { folder = c.write_saved.new.folder }) old.len old.closed events s held parts same
-    (places_from c.args.next (length s.blocks - same)) there.0 c.in-Ok.head may c.if-self.false
-    c.write_saved.ensures.stays there.1 there.2 c.in-Ok.ensures.saved in
+    (places_from c.args.next (length s.blocks - same)) there.0 c.values-values.result
+    c.in-Ok.head may c.if-self.false c.write_saved.ensures.stays there.1 there.2 c.values-values.ensures
+    c.in-Ok.ensures.saved in
     finds_on f.moment f.left_since first events old.medium.folder c.write_saved.new.folder
     c.roll.new.self.events.journal.medium.folder
     (writing_finds f.shows f.kept f.sound f.moment f.left_since met.only_now met.earlier first old.medium
@@ -249,6 +258,51 @@ returns-in-Ok-roll-clause-len g c =
     let named = c.in-Ok-from_slice.ensures.items ∙ c.places.ensures in
     let same =
     c.in-Ok.ensures.saved
-    ∙ ap (save s) (sym (named ∙ ap (λ (h : Saved). h.places) c.in-Ok.ensures.saved)) in
+    ∙ (ap (save c.values-values.result s)
+    (sym (named ∙ ap (λ (h : Saved). h.places) c.in-Ok.ensures.saved))
+    ∙ ap (λ (v : Values). save v s c.in-Ok-from_slice.places.items) c.values-values.ensures) in
     c.in-Ok-roll.ensures.len
     ∙ ap (λ (h : Saved). length (file_of (contents_with (head_texts h) []))) same
+
+-- what is none of the store's
+
+pub returns-then-self-clause-foreign : goal.returns-then-self-clause-foreign
+returns-then-self-clause-foreign g c =
+    let f = g.F.Folder in
+    foreign_rests f.shows f.kept c.args.self.now.events.journal.medium.folder
+
+pub returns-in-Err-clause-foreign : goal.returns-in-Err-clause-foreign
+returns-in-Err-clause-foreign g c =
+    let f = g.F.Folder in
+    foreign_kept f.shows f.kept f.sound f.moment f.left_since (names_at c.args.held.now)
+    c.args.self.now.events.journal.medium.folder c.write_saved.new.folder
+    c.write_saved.ensures.stays
+
+pub returns-in_default-clause-foreign : goal.returns-in_default-clause-foreign
+returns-in_default-clause-foreign g c =
+    let f = g.F.Folder in
+    foreign_kept f.shows f.kept f.sound f.moment f.left_since (names_at c.args.held.now)
+    c.args.self.now.events.journal.medium.folder c.write_saved.new.folder
+    c.write_saved.ensures.stays
+
+pub returns-in-Ok-roll-clause-foreign : goal.returns-in-Ok-roll-clause-foreign
+returns-in-Ok-roll-clause-foreign g c =
+    let f = g.F.Folder in
+    foreign_then f.shows f.kept c.args.self.now.events.journal.medium.folder
+    c.write_saved.new.folder c.roll.new.self.events.journal.medium.folder
+    (foreign_kept f.shows f.kept f.sound f.moment f.left_since (names_at c.args.held.now)
+    c.args.self.now.events.journal.medium.folder c.write_saved.new.folder
+    c.write_saved.ensures.stays)
+    (foreign_beside f.shows f.kept c.write_saved.new.folder
+    c.roll.new.self.events.journal.medium.folder c.roll.ensures.others)
+
+pub returns-clause-foreign : goal.returns-clause-foreign
+returns-clause-foreign g c =
+    let f = g.F.Folder in
+    foreign_then f.shows f.kept c.args.self.now.events.journal.medium.folder
+    c.write_saved.new.folder c.roll.new.self.events.journal.medium.folder
+    (foreign_kept f.shows f.kept f.sound f.moment f.left_since (names_at c.args.held.now)
+    c.args.self.now.events.journal.medium.folder c.write_saved.new.folder
+    c.write_saved.ensures.stays)
+    (foreign_beside f.shows f.kept c.write_saved.new.folder
+    c.roll.new.self.events.journal.medium.folder c.roll.ensures.others)

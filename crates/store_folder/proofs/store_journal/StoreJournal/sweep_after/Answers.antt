@@ -1,4 +1,5 @@
 use Rattle.std.proofs.Common.{inl}
+use Rattle.data_folder.proofs.Foreign.{foreign_rests}
 use Rattle.store_folder.proofs.Rolls.{finds_on}
 use Rattle.store_folder.proofs.store_journal.StoreJournal.sweep_after.Goals as goal
 
@@ -29,3 +30,8 @@ returns-clause-at g c opened events parts at = c.sweep_blocks.ensures.held event
 
 pub returns-then-self-clause-at : goal.returns-then-self-clause-at
 returns-then-self-clause-at g c opened events parts at = at
+
+pub returns-then-self-clause-foreign : goal.returns-then-self-clause-foreign
+returns-then-self-clause-foreign g c =
+    let f = g.F.Folder in
+    foreign_rests f.shows f.kept c.args.self.now.events.journal.medium.folder

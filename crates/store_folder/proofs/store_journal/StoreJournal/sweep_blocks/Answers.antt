@@ -1,4 +1,5 @@
 use Rattle.std.proofs.Common.{refl}
+use Rattle.data_folder.proofs.Foreign.{foreign_kept}
 use Rattle.store_folder.specs.Sweeps.{names_at}
 use Rattle.store_folder.proofs.Swept.{holds_swept, swept_finds}
 use Rattle.store_folder.proofs.store_journal.StoreJournal.sweep_blocks.Goals as goal
@@ -26,3 +27,9 @@ returns-clause-any_moment g c events parts at =
     g.N.Beginning.first old.medium (record { folder = c.sweep_apart.new.folder }) old.len
     old.closed events c.args.places.now parts (names_at c.args.places.now) at c.requires.open refl
     c.sweep_apart.ensures.kept
+
+pub returns-clause-foreign : goal.returns-clause-foreign
+returns-clause-foreign g c =
+    let f = g.F.Folder in
+    foreign_kept f.shows f.kept f.sound f.moment f.left_since (names_at c.args.places.now)
+    c.args.self.now.events.journal.medium.folder c.sweep_apart.new.folder c.sweep_apart.ensures.kept
