@@ -4,6 +4,7 @@ use Rattle.std.proofs.Common.{◌++◌, ◌+◌, zero, suc, Option, Some, Result
 use Rattle.std.proofs.Common.{arith}
 use Rattle.std.specs.Prelude.{length}
 use Rattle.std.specs.List.{AllByRecursion}
+use Rattle.block_folder.specs.declared.values.Values.{Values}
 use Rattle.data_folder.specs.declared.journal_file.JournalFile.{JournalFile}
 use Rattle.data_folder.specs.Folders.{Left, LeavesOnly, MayLeaveOf}
 use Rattle.data_folder.specs.Rolls as rolls
@@ -22,25 +23,30 @@ use Rattle.labels.specs.Parts.{Part, laid_over, over, rows_in}
 use Rattle.labels.specs.Rows.{points_of}
 use Rattle.store_folder.specs.Holding.{AreAt, HoldsAfterHead, HoldsAt}
 use Rattle.store_folder.specs.KeeperLaws.{finds_world, settled_found}
+use Rattle.store_folder.specs.Origins.{Origin}
 use Rattle.store_folder.specs.RewritingLaws.{same_world}
 use Rattle.store_folder.specs.Starting.{StartFinds}
-use Rattle.store_folder.specs.States.{FindsOne, StandsFor, started}
+use Rattle.store_folder.specs.States.{StandsFor, started}
+use Rattle.store_folder.specs.StoreLaws.{one_meaning}
 use Rattle.store_folder.specs.Sweeps.{names_at}
 use Rattle.store_folder.specs.Writing.{AreRewritten, places_from}
 use Rattle.store_folder.proofs.Rolls.{after_head, apart_both, blocks_rolled, files_at, files_of_both}
 use Rattle.store_folder.proofs.Rolls.{keeps_now, lie_at, parted, same_head, there_both}
 use Rattle.store_folder.proofs.Saves.{each_like, have_same}
 use Rattle.store_folder.proofs.Swept.{holds_swept, swept_finds}
-use Rattle.store_joiner.specs.Finds.{FindsEither, FindsNow}
+use Rattle.store_joiner.specs.Finds.{Finds, FindsEither, FindsNow, other_of}
 use Rattle.store_joiner.specs.Joins.{HoldSame, parts_in, with_blocks}
 
 abbrev fine : World → Result World Refusal
 fine w = Ok w
 
 -- in what stands for no events a start finds the first world
-finds_in : (first : World) (P : World → Type 0) (left : Left) → P first
-    → StandsFor first [] left → FindsOne P left
-finds_in first P left p s fits = (first, finds_world first first left [] (fits, s) refl, p)
+finds_in : (first : Origin) (P : World → Type 0) (left : Left) → P first.world
+    → StandsFor first [] left → Finds first.values P left
+finds_in first P left p s = (
+  λ fits. (first.world, finds_world first first.world left [] (fits, s) refl, p),
+  one_meaning first [] left s,
+)
 
 -- the world of joined blocks
 
@@ -71,22 +77,22 @@ counted first (suc n) = ap suc (counted (first + 1) n)
 
 module _ {F : Type 0} (moment : F → ℕ) (left_since : F → ℕ → Left → Type 0) where
   -- where what is left stands for the first world
-  pub finds_first : (old new : F) (first next : World)
+  pub finds_first : (old new : F) (first : Origin) (next : World)
       → StartFinds moment left_since old new first []
       → FindsEither moment left_since old new first next
   finds_first old new first next leaves =
-      let P = λ (v : World). (v ≡ first) ⊎ (v ≡ next) in
-      weaker moment left_since old new (StandsFor first []) (FindsOne P)
+      let P = λ (v : World). (v ≡ first.world) ⊎ (v ≡ next) in
+      weaker moment left_since old new (StandsFor first []) (Finds first.values P)
       (λ left s. finds_in first P left (inl refl) s) leaves
 
   -- where it stands for the other
-  pub finds_other : (old new : F) (first next : World)
-      → StartFinds moment left_since old new next []
+  pub finds_other : (old new : F) (first : Origin) (next : World)
+      → StartFinds moment left_since old new (other_of first next) []
       → FindsEither moment left_since old new first next
   finds_other old new first next leaves =
-      let P = λ (v : World). (v ≡ first) ⊎ (v ≡ next) in
-      weaker moment left_since old new (StandsFor next []) (FindsOne P)
-      (λ left s. finds_in next P left (inr refl) s) leaves
+      let P = λ (v : World). (v ≡ first.world) ⊎ (v ≡ next) in
+      weaker moment left_since old new (StandsFor (other_of first next) []) (Finds first.values P)
+      (λ left s. finds_in (other_of first next) P left (inr refl) s) leaves
 
 module _ {F : Type 0} (shows : F → List ℕ → Option (List ℕ) → Type 0)
     (kept : F → List ℕ → ℕ → Type 0) (sound : F → Bool) (moment : F → ℕ)
@@ -95,34 +101,35 @@ module _ {F : Type 0} (shows : F → List ℕ → Option (List ℕ) → Type 0)
     → kept f name n → left_since f (moment f) left → MayLeaveOf n x (left name))
     (earlier : (f : F) (t u : ℕ) (left : Left) → t ≤ u → u ≤ moment f → left_since f u left
     → left_since f t left) where
-  abbrev At : World → JournalFile F → ℕ → Bool → List Place → List BlockPart → Type 0
+  abbrev At : Origin → JournalFile F → ℕ → Bool → List Place → List BlockPart → Type 0
   At first m len closed places parts =
       HoldsAt shows kept sound moment left_since first m len closed [] places parts
 
   -- a store at rest
-  pub now_at : (first : World) (m : JournalFile F) (len : ℕ) (closed : Bool) (places : List Place)
+  pub now_at : (first : Origin) (m : JournalFile F) (len : ℕ) (closed : Bool) (places : List Place)
       (parts : List BlockPart) → At first m len closed places parts → closed ≡ false
       → FindsNow moment left_since m.folder first
   now_at first m len closed places parts at opened left had =
-      finds_in first (λ (v : World). v ≡ first) left refl
+      finds_in first (λ (v : World). v ≡ first.world) left refl
       (settled_found shows kept sound moment left_since only_now first m len closed [] left (inl at.0)
       opened had)
 
   -- the head that is to be
-  pub record IsNext (first next : World) (m : JournalFile F) (saved : Saved)
+  pub record IsNext (first : Origin) (next : World) (m : JournalFile F) (saved : Saved)
       (made : List BlockPart) : Type 0 where
     pub head : IsSaved saved
     pub world : next ≡ world_of (started saved made)
+    pub values : saved.values ≡ first.values
     pub blocks : AreAt shows kept saved.places made m.folder
 
-  stands_so : (first next : World) (old : JournalFile F) (len : ℕ) (was : Bool)
+  stands_so : (first : Origin) (next : World) (old : JournalFile F) (len : ℕ) (was : Bool)
       (saved : Saved) (made : List BlockPart) (left : Left)
       (h : HoldsAfterHead shows kept sound moment left_since first old len was [])
       (m : IsNext first next old saved made)
       → IsOldOrNew
       (files_of_both shows kept h.saved.places saved.places h.parts made old.folder h.blocks m.blocks)
       (contents_with (head_texts h.saved) h.late) (contents_with (head_texts saved) []) left
-      → StandsFor first [] left ⊎ StandsFor next [] left
+      → StandsFor first [] left ⊎ StandsFor (other_of first next) [] left
   stands_so first next old len was saved made left h m is =
       let split =
       parted (λ (file : Named). left file.0 ≡ Some file.1)
@@ -149,7 +156,7 @@ module _ {F : Type 0} (shows : F → List ℕ → Option (List ℕ) → Type 0)
         early = [];
         late = [];
         all = refl;
-        begins = ap fine m.world;
+        begins = record { world = ap fine m.world; values = m.values };
         state = record {
           head = m.head;
           each = tt;
@@ -160,7 +167,7 @@ module _ {F : Type 0} (shows : F → List ℕ → Option (List ℕ) → Type 0)
       is.journal
 
   -- while the journal is begun anew
-  pub rolling_finds : (first next : World) (old new : JournalFile F) (len : ℕ) (was : Bool)
+  pub rolling_finds : (first : Origin) (next : World) (old new : JournalFile F) (len : ℕ) (was : Bool)
       (saved : Saved) (made : List BlockPart)
       (h : HoldsAfterHead shows kept sound moment left_since first old len was [])
       (m : IsNext first next old saved made)
@@ -169,22 +176,23 @@ module _ {F : Type 0} (shows : F → List ℕ → Option (List ℕ) → Type 0)
       (contents_with (head_texts h.saved) h.late) (contents_with (head_texts saved) []))
       → FindsEither moment left_since old.folder new.folder first next
   rolling_finds first next old new len was saved made h m leaves =
-      let P = λ (v : World). (v ≡ first) ⊎ (v ≡ next) in
-      weaker moment left_since old.folder new.folder _ (FindsOne P)
+      let P = λ (v : World). (v ≡ first.world) ⊎ (v ≡ next) in
+      weaker moment left_since old.folder new.folder _ (Finds first.values P)
       (λ left is. ⊎_elim (λ s. finds_in first P left (inl refl) s)
-      (λ s. finds_in next P left (inr refl) s)
+      (λ s. finds_in (other_of first next) P left (inr refl) s)
       (stands_so first next old len was saved made left h m is)) leaves
 
   -- then the store is the other
-  pub begun_anew : (first next : World) (old new : JournalFile F) (new_len : ℕ)
+  pub begun_anew : (first : Origin) (next : World) (old new : JournalFile F) (new_len : ℕ)
       (saved : Saved) (made : List BlockPart) → IsNext first next old saved made
       → rolls.Keeps shows kept sound (contents_with (head_texts saved) []) new.folder new_len
       → ((files : List Named) → AllByRecursion IsApart files → AreThere shows kept files old.folder
       → AreThere shows kept files new.folder)
-      → At next new new_len false saved.places made
+      → At (other_of first next) new new_len false saved.places made
   begun_anew first next old new new_len saved made m k stay = (
-    after_head shows kept sound moment left_since only_now earlier next new new_len false saved made
-        [] [] [] refl m.head tt (ap fine m.world) k
+    after_head shows kept sound moment left_since only_now earlier (other_of first next) new new_len
+        false saved made [] [] [] refl m.head tt
+        (record { world = ap fine m.world; values = m.values }) k
         (blocks_rolled shows kept saved.places made old.folder new.folder stay m.blocks),
     refl,
     refl,
@@ -194,7 +202,7 @@ module _ {F : Type 0} (shows : F → List ℕ → Option (List ℕ) → Type 0)
   Stays places old new = KeepsStore shows kept sound moment left_since (names_at places) old new
 
   -- what was written beside a store leaves it as it was
-  pub still_at : (first : World) (old : JournalFile F) (new : F) (len : ℕ) (closed : Bool)
+  pub still_at : (first : Origin) (old : JournalFile F) (new : F) (len : ℕ) (closed : Bool)
       (places : List Place) (parts : List BlockPart) → At first old len closed places parts
       → closed ≡ false → Stays places old.folder new
       → At first (record { folder = new }) len closed places parts
@@ -202,7 +210,7 @@ module _ {F : Type 0} (shows : F → List ℕ → Option (List ℕ) → Type 0)
       holds_swept shows kept sound moment left_since only_now earlier first old (record { folder = new })
       len closed [] places parts (names_at places) at opened refl stays
 
-  pub meanwhile : (first : World) (old : JournalFile F) (new : F) (len : ℕ) (closed : Bool)
+  pub meanwhile : (first : Origin) (old : JournalFile F) (new : F) (len : ℕ) (closed : Bool)
       (places : List Place) (parts : List BlockPart) → At first old len closed places parts
       → closed ≡ false → Stays places old.folder new
       → StartFinds moment left_since old.folder new first []
@@ -211,15 +219,16 @@ module _ {F : Type 0} (shows : F → List ℕ → Option (List ℕ) → Type 0)
       len closed [] places parts (names_at places) at opened refl stays
 
   -- what was written of a snapshot is the head that is to be
-  pub next_head : (first : World) (m : JournalFile F) (s : SnapshotParts) (saved : Saved)
-      (places : List Place) (made : List BlockPart)
-      → saved ≡ save s places → IsSaved saved
+  pub next_head : (first : Origin) (m : JournalFile F) (s : SnapshotParts) (values : Values)
+      (saved : Saved) (places : List Place) (made : List BlockPart) → values ≡ first.values
+      → saved ≡ save values s places → IsSaved saved
       → AreRewritten s.blocks made → AreAt shows kept places made m.folder
       → IsNext first (world_of s) m saved made
-  next_head first m s saved places made is head anew at = record {
+  next_head first m s values saved places made means is head anew at = record {
     head = head;
     world = same_world s saved made (have_same s.blocks made (each_like s.blocks made anew))
         (ap (λ (x : Saved). x.head) (sym is)) (ap (λ (x : Saved). x.floor) (sym is));
+    values = ap (λ (x : Saved). x.values) is ∙ means;
     blocks = subst (λ (ps : List Place). AreAt shows kept ps made m.folder)
         (ap (λ (x : Saved). x.places) (sym is)) at;
   }
@@ -232,7 +241,7 @@ module _ {F : Type 0} (shows : F → List ℕ → Option (List ℕ) → Type 0)
       → AllByRecursion IsApart files → AreThere shows kept files old
       → LeavesOnly moment left_since old new (IsOldOrNew files before after)
 
-  pub roll_either : (first next : World) (old new : F) (len : ℕ) (closed : Bool)
+  pub roll_either : (first : Origin) (next : World) (old new : F) (len : ℕ) (closed : Bool)
       (places : List Place) (parts : List BlockPart) (saved : Saved) (made : List BlockPart)
       (text : List ℕ) → At first (record { folder = old }) len closed places parts → closed ≡ false
       → IsNext first next (record { folder = old }) saved made
@@ -252,7 +261,7 @@ module _ {F : Type 0} (shows : F → List ℕ → Option (List ℕ) → Type 0)
       (there_both shows kept h.saved.places saved.places h.parts made old h.blocks m.blocks))
 
   -- what the journal has before
-  pub keeps_before : (first : World) (old : F) (len : ℕ) (closed : Bool) (places : List Place)
+  pub keeps_before : (first : Origin) (old : F) (len : ℕ) (closed : Bool) (places : List Place)
       (parts : List BlockPart) (at : At first (record { folder = old }) len closed places parts)
       → closed ≡ false
       → rolls.Keeps shows kept sound (contents_with (head_texts at.0.saved) at.0.late) old len
@@ -261,7 +270,7 @@ module _ {F : Type 0} (shows : F → List ℕ → Option (List ℕ) → Type 0)
       closed [] at.0 opened
 
   -- where it failed and goes on
-  pub as_before : (first : World) (old new : F) (len new_len : ℕ) (was closed : Bool)
+  pub as_before : (first : Origin) (old new : F) (len new_len : ℕ) (was closed : Bool)
       (places : List Place) (parts : List BlockPart)
       (at : At first (record { folder = old }) len was places parts)
       → rolls.Keeps shows kept sound (contents_with (head_texts at.0.saved) at.0.late) new new_len

@@ -1,3 +1,5 @@
 pub mod Adds
+pub mod Changing
 pub mod Held
 pub mod Joins
+pub mod Stores

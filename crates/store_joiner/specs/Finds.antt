@@ -1,16 +1,30 @@
 -- What a start finds of a store that begins with another snapshot.
 use Rattle.std.specs.Prelude.{◌≡◌, ◌⊎◌, ℕ}
+use Rattle.block_folder.specs.declared.values.Values.{Values}
 use Rattle.data_folder.specs.Folders.{Left, LeavesOnly}
 use Rattle.head.specs.Worlds.{World}
-use Rattle.store_folder.specs.States.{FindsOne}
+use Rattle.store_folder.specs.Origins.{Origin}
+use Rattle.store_folder.specs.States.{FindsOne, Means}
 
--- a crash at any moment since old leaves a store: a start finds this world, or the other
-abbrev pub FindsEither : {F : Type 0} → (F → ℕ) → (F → ℕ → Left → Type 0) → F → F → World → World
+-- if these are files of bytes, a start finds a world in them that has P, and that the values mean
+-- this
+abbrev pub Finds : Values → (World → Type 0) → Left → Type 0
+Finds values P left = FindsOne P left × Means values left
+
+-- a crash at any moment since old leaves a store: a start finds this world, or the other; the
+-- values mean the same in both
+abbrev pub FindsEither : {F : Type 0} → (F → ℕ) → (F → ℕ → Left → Type 0) → F → F → Origin → World
     → Type 0
-FindsEither moment left_since old new w other =
-    LeavesOnly moment left_since old new (FindsOne (λ (v : World). (v ≡ w) ⊎ (v ≡ other)))
+FindsEither moment left_since old new first other =
+    LeavesOnly moment left_since old new
+    (Finds first.values (λ (v : World). (v ≡ first.world) ⊎ (v ≡ other)))
 
--- a crash now leaves a store: a start finds this world
-abbrev pub FindsNow : {F : Type 0} → (F → ℕ) → (F → ℕ → Left → Type 0) → F → World → Type 0
-FindsNow moment left_since f w =
-    (left : Left) → left_since f (moment f) left → FindsOne (λ (v : World). v ≡ w) left
+-- a crash now leaves a store: a start finds this world, and that the values mean this
+abbrev pub FindsNow : {F : Type 0} → (F → ℕ) → (F → ℕ → Left → Type 0) → F → Origin → Type 0
+FindsNow moment left_since f first =
+    (left : Left) → left_since f (moment f) left
+    → Finds first.values (λ (v : World). v ≡ first.world) left
+
+-- another world, in which the values mean the same
+abbrev pub other_of : Origin → World → Origin
+other_of first world = record { world = world; values = first.values }

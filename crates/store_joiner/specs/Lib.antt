@@ -1,3 +1,4 @@
 pub mod Adds
 pub mod Finds
 pub mod Joins
+pub mod Stores

@@ -10,16 +10,27 @@
 //! written beside those that lie there, then the journal is begun anew, and what is no longer the
 //! store's is removed. After a crash at any moment a start finds the store as it was, or the other.
 //!
+//! [`join_store`] and [`add_to_store`] do so with the store that lies in a folder, after what its
+//! journal has was saved, and tell why not by a [`ChangeFault`].
+//!
 //! It stands on `store_folder` for the folder of a store, on `head` for snapshots, and on
 //! `block_outputs` and `block_writer` for blocks of the rows of several.
 #![tactic(auto)]
 
 mod added;
+mod adding;
+mod error;
 mod joined;
+mod joining;
+mod opened;
+mod replacing;
 mod runs;
 mod storing;
 
 pub use added::added_snapshot;
+pub use adding::add_to_store;
+pub use error::ChangeFault;
 pub use joined::joined_snapshot;
+pub use joining::{BlockCounts, join_store};
 pub use runs::join_blocks;
 pub use storing::{ReplacedStore, replace_store};

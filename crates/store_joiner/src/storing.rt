@@ -1,9 +1,10 @@
 //! A store that begins with another snapshot.
 
 ghost use Rattle.std.specs.Prelude.{◌≡◌, List, [], false, length, IfErr, IfOk, MatchResult};
+ghost use Rattle.data_folder.specs.Sweeping.{KeepsForeign};
 ghost use Rattle.head.specs.Heads.{BlockPart, world_of};
 ghost use Rattle.store_folder.specs.Holding.{HoldsAt};
-ghost use Rattle.store_joiner.specs.Finds.{FindsEither, FindsNow};
+ghost use Rattle.store_joiner.specs.Finds.{FindsEither, FindsNow, other_of};
 
 use data_folder::{Folder, RollError, roll};
 use head::Snapshot;
@@ -40,6 +41,7 @@ pub fn replace_store<N: Beginning, F: Folder + Drop>(
         N.first store.events.journal.medium store.events.journal.len store.events.journal.closed []
         held.now parts }
     // A crash at any moment of the call leaves a store: a start finds it as it was, or the other.
+    // The values mean what they meant.
     ensures any_moment { MatchResult result
         (λ x. FindsEither F.moment F.left_since store.events.journal.medium.folder x.folder N.first
         (world_of next.now))
@@ -47,16 +49,21 @@ pub fn replace_store<N: Beginning, F: Folder + Drop>(
         (world_of next.now)) }
     // After `Ok` it finds the other.
     ensures finds { IfOk result (λ x.
-        FindsNow F.moment F.left_since x.folder (world_of next.now)) }
+        FindsNow F.moment F.left_since x.folder (other_of N.first (world_of next.now))) }
     ensures places { IfOk result (λ x. length x.places.items ≡ length next.now.blocks) }
     // After an `Err` it finds it as it was, unless the journal was lost.
     ensures stays { IfErr result (λ e. (e.0 ≡ RollFault.Folder RollError.Lost → ⊥)
         → FindsNow F.moment F.left_since e.1 N.first) }
+    // What stands at the top and is none of the store's stays.
+    ensures foreign { MatchResult result
+        (λ x. KeepsForeign F.shows F.kept store.events.journal.medium.folder x.folder)
+        (λ e. KeepsForeign F.shows F.kept store.events.journal.medium.folder e.1) }
 {
+    let values = store.values();
     let StoreJournal { events, .. } = store;
     let mut journal = events.journal;
     let folder = &mut journal.medium.folder;
-    let head = match write_saved(alloc, folder, next, held, 0, next_number(held)) {
+    let head = match write_saved(alloc, folder, next, held, 0, next_number(held), values) {
         Ok(head) => head,
         Err(fault) => return Err((fault, journal.medium.folder)),
     };

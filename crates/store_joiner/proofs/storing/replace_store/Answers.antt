@@ -9,9 +9,11 @@ use Rattle.data_folder.proofs.Moments.{joined}
 use Rattle.store_folder.specs.Sweeps.{names_at}
 use Rattle.store_folder.specs.Writing.{places_from}
 use Rattle.store_folder.proofs.Rolls.{goes_on}
+use Rattle.store_joiner.specs.Finds.{other_of}
 use Rattle.store_joiner.proofs.Joins.{as_before, begun_anew, counted, finds_first}
 use Rattle.store_joiner.proofs.Joins.{finds_other}
 use Rattle.store_joiner.proofs.Joins.{keeps_before, meanwhile, next_head, now_at, roll_either, still_at}
+use Rattle.data_folder.proofs.Foreign.{foreign_beside, foreign_kept, foreign_then}
 use Rattle.store_joiner.proofs.storing.replace_store.Goals as goal
 
 pub write_saved-requires-clause-sound : goal.write_saved-requires-clause-sound
@@ -139,8 +141,9 @@ returns-in-Ok-roll-clause-any_moment g c =
     mid old.len old.closed c.args.held.now held.0 held.1 c.requires.open c.write_saved.ensures.stays in
     let next =
     next_head f.shows f.kept f.sound f.moment f.left_since met.only_now met.earlier first
-    (record { folder = mid }) s head (take 0 c.args.held.now ++ places_from c.next_number.result (n - 0))
-    there.0 c.in-Ok.ensures.saved c.in-Ok-head_journal.ensures.saved there.1 there.2 in
+    (record { folder = mid }) s c.values-values.result head
+    (take 0 c.args.held.now ++ places_from c.next_number.result (n - 0)) there.0 c.values-values.ensures
+    c.in-Ok.ensures.saved c.in-Ok-head_journal.ensures.saved there.1 there.2 in
     let whole =
     subst (IsJournalText (contents_with (head_texts head) [])) (sym c.deref.ensures.value)
     c.in-Ok-head_journal.ensures.text in
@@ -158,7 +161,7 @@ returns-in-Ok-roll-clause-any_moment g c =
     c.requires.open next whole c.in-Ok-roll.ensures.any_moment)
     (finds_other f.moment f.left_since new.medium.folder c.sweep_apart.new.folder first (world_of s)
     (meanwhile f.shows f.kept f.sound f.moment f.left_since met.only_now met.earlier
-    (world_of s) new.medium c.sweep_apart.new.folder new.len false head.places there.0 after
+    (other_of first (world_of s)) new.medium c.sweep_apart.new.folder new.len false head.places there.0 after
     refl (subst (λ (ps : List Place). KeepsStore f.shows f.kept f.sound f.moment f.left_since
     (names_at ps) new.medium.folder c.sweep_apart.new.folder)
     (c.deref-in-Ok-roll.ensures.value ∙ c.in-Ok-from_slice.ensures.items ∙ c.places.ensures)
@@ -177,8 +180,9 @@ returns-in-Ok-roll-clause-finds g c =
     let there = c.in-Ok.ensures.there in
     let next =
     next_head f.shows f.kept f.sound f.moment f.left_since met.only_now met.earlier first
-    (record { folder = mid }) s head (take 0 c.args.held.now ++ places_from c.next_number.result (n - 0))
-    there.0 c.in-Ok.ensures.saved c.in-Ok-head_journal.ensures.saved there.1 there.2 in
+    (record { folder = mid }) s c.values-values.result head
+    (take 0 c.args.held.now ++ places_from c.next_number.result (n - 0)) there.0 c.values-values.ensures
+    c.in-Ok.ensures.saved c.in-Ok-head_journal.ensures.saved there.1 there.2 in
     let whole =
     subst (IsJournalText (contents_with (head_texts head) [])) (sym c.deref.ensures.value)
     c.in-Ok-head_journal.ensures.text in
@@ -187,10 +191,10 @@ returns-in-Ok-roll-clause-finds g c =
     (world_of s) (record { folder = mid }) new.medium new.len head there.0 next
     (c.in-Ok-roll.ensures.ok (contents_with (head_texts head) []) whole) c.in-Ok-roll.ensures.files in
     now_at f.shows f.kept f.sound f.moment f.left_since met.only_now met.earlier
-    (world_of s) (record { folder = c.sweep_apart.new.folder }) new.len false head.places
+    (other_of first (world_of s)) (record { folder = c.sweep_apart.new.folder }) new.len false head.places
     there.0
     (still_at f.shows f.kept f.sound f.moment f.left_since met.only_now met.earlier
-    (world_of s) new.medium c.sweep_apart.new.folder new.len false head.places there.0 after
+    (other_of first (world_of s)) new.medium c.sweep_apart.new.folder new.len false head.places there.0 after
     refl (subst (λ (ps : List Place). KeepsStore f.shows f.kept f.sound f.moment f.left_since
     (names_at ps) new.medium.folder c.sweep_apart.new.folder)
     (c.deref-in-Ok-roll.ensures.value ∙ c.in-Ok-from_slice.ensures.items ∙ c.places.ensures)
@@ -214,8 +218,9 @@ returns-clause-any_moment g c =
     mid old.len old.closed c.args.held.now held.0 held.1 c.requires.open c.write_saved.ensures.stays in
     let next =
     next_head f.shows f.kept f.sound f.moment f.left_since met.only_now met.earlier first
-    (record { folder = mid }) s head (take 0 c.args.held.now ++ places_from c.next_number.result (n - 0))
-    there.0 c.in-Ok.ensures.saved c.in-Ok-head_journal.ensures.saved there.1 there.2 in
+    (record { folder = mid }) s c.values-values.result head
+    (take 0 c.args.held.now ++ places_from c.next_number.result (n - 0)) there.0 c.values-values.ensures
+    c.in-Ok.ensures.saved c.in-Ok-head_journal.ensures.saved there.1 there.2 in
     joined f.moment f.left_since old.medium.folder mid new.medium.folder _
     (finds_first f.moment f.left_since old.medium.folder mid first (world_of s)
     (meanwhile f.shows f.kept f.sound f.moment f.left_since met.only_now met.earlier first old.medium
@@ -258,3 +263,52 @@ returns-in-Ok-roll-clause-places g c =
     ap length (c.in-Ok-from_slice.ensures.items ∙ c.places.ensures)
     ∙ ap (λ (h : Saved). length h.places) c.in-Ok.ensures.saved
     ∙ counted c.next_number.result (n - 0) ∙ none
+
+-- what is none of the store's
+
+pub returns-in-Err-clause-foreign : goal.returns-in-Err-clause-foreign
+returns-in-Err-clause-foreign g c =
+    let f = g.F.Folder in
+    foreign_kept f.shows f.kept f.sound f.moment f.left_since (names_at c.args.held.now)
+    c.args.store.events.journal.medium.folder c.write_saved.new.folder
+    c.write_saved.ensures.stays
+
+pub returns-in_default-clause-foreign : goal.returns-in_default-clause-foreign
+returns-in_default-clause-foreign g c =
+    let f = g.F.Folder in
+    foreign_kept f.shows f.kept f.sound f.moment f.left_since (names_at c.args.held.now)
+    c.args.store.events.journal.medium.folder c.write_saved.new.folder
+    c.write_saved.ensures.stays
+
+pub returns-in-Err-head_journal-clause-foreign : goal.returns-in-Err-head_journal-clause-foreign
+returns-in-Err-head_journal-clause-foreign g c =
+    let f = g.F.Folder in
+    foreign_kept f.shows f.kept f.sound f.moment f.left_since (names_at c.args.held.now)
+    c.args.store.events.journal.medium.folder c.write_saved.new.folder
+    c.write_saved.ensures.stays
+
+pub returns-clause-foreign : goal.returns-clause-foreign
+returns-clause-foreign g c =
+    let f = g.F.Folder in
+    foreign_then f.shows f.kept c.args.store.events.journal.medium.folder
+    c.write_saved.new.folder c.roll.new.journal.medium.folder
+    (foreign_kept f.shows f.kept f.sound f.moment f.left_since (names_at c.args.held.now)
+    c.args.store.events.journal.medium.folder c.write_saved.new.folder
+    c.write_saved.ensures.stays)
+    (foreign_beside f.shows f.kept c.write_saved.new.folder c.roll.new.journal.medium.folder
+    c.roll.ensures.others)
+
+pub returns-in-Ok-roll-clause-foreign : goal.returns-in-Ok-roll-clause-foreign
+returns-in-Ok-roll-clause-foreign g c =
+    let f = g.F.Folder in
+    foreign_then f.shows f.kept c.args.store.events.journal.medium.folder
+    c.roll.new.journal.medium.folder c.sweep_apart.new.folder
+    (foreign_then f.shows f.kept c.args.store.events.journal.medium.folder
+    c.write_saved.new.folder c.roll.new.journal.medium.folder
+    (foreign_kept f.shows f.kept f.sound f.moment f.left_since (names_at c.args.held.now)
+    c.args.store.events.journal.medium.folder c.write_saved.new.folder
+    c.write_saved.ensures.stays)
+    (foreign_beside f.shows f.kept c.write_saved.new.folder c.roll.new.journal.medium.folder
+    c.roll.ensures.others))
+    (foreign_kept f.shows f.kept f.sound f.moment f.left_since _ c.roll.new.journal.medium.folder
+    c.sweep_apart.new.folder c.sweep_apart.ensures.kept)

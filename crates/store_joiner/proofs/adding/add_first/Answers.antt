@@ -1,0 +1,53 @@
+use Rattle.std.proofs.Common.{map}
+use Rattle.block_folder.specs.declared.values.Values.TheVariants.{Whole}
+use Rattle.data_folder.proofs.Foreign.{foreign_then}
+use Rattle.head.specs.Blocks.{part_in}
+use Rattle.store_folder.specs.Origins.{beginning}
+use Rattle.store_folder.specs.States.{origin_of}
+use Rattle.store_joiner.specs.Adds.{with_beneath}
+use Rattle.store_joiner.specs.Stores.{IsAddedTo}
+use Rattle.store_joiner.proofs.Changing.{finds_first, first_changed, origin_again}
+use Rattle.store_joiner.proofs.Stores.{if_ok, match_so}
+use Rattle.store_joiner.proofs.adding.add_first.Goals as goal
+
+pub returns-in-Ok-clause-any_moment : goal.returns-in-Ok-clause-any_moment
+returns-in-Ok-clause-any_moment g c tells =
+    let f = g.F.Folder in
+    let o = c.args.opening.now in
+    let x = c.in-Ok.found in
+    let head = x.store.journal.head in
+    let parts = map part_in x.store.blocks.items in
+    let is = origin_again (beginning Whole) head parts (c.in-Ok.ensures.after tells) in
+    match_so c.add_found.result _ _ _ _
+    (λ y leaves. first_changed f.moment f.left_since c.args.folder x.folder y.1
+    (IsAddedTo o.blocks o.floor) (origin_of head parts) x.store.journal.events.items
+    c.in-Ok.ensures.any_moment is c.in-Ok.ensures.saved leaves)
+    (λ e leaves. first_changed f.moment f.left_since c.args.folder x.folder e.1
+    (IsAddedTo o.blocks o.floor) (origin_of head parts) x.store.journal.events.items
+    c.in-Ok.ensures.any_moment is c.in-Ok.ensures.saved leaves)
+    (c.add_found.ensures.any_moment tells)
+
+pub returns-in-Ok-clause-finds : goal.returns-in-Ok-clause-finds
+returns-in-Ok-clause-finds g c tells =
+    let f = g.F.Folder in
+    let o = c.args.opening.now in
+    let x = c.in-Ok.found in
+    let head = x.store.journal.head in
+    let parts = map part_in x.store.blocks.items in
+    let is = origin_again (beginning Whole) head parts (c.in-Ok.ensures.after tells) in
+    if_ok c.add_found.result _ _
+    (λ y z. finds_first f.moment f.left_since y.1 (with_beneath o.blocks o.floor)
+    (origin_of head parts) x.store.journal.events.items z.0 is c.in-Ok.ensures.saved z.1 z.2)
+    (c.add_found.ensures.finds tells)
+
+pub returns-in-Ok-clause-blocks : goal.returns-in-Ok-clause-blocks
+returns-in-Ok-clause-blocks g c has = absurd (c.in-Ok.ensures.blocks has)
+
+pub returns-in-Ok-clause-foreign : goal.returns-in-Ok-clause-foreign
+returns-in-Ok-clause-foreign g c =
+    let f = g.F.Folder in
+    match_so c.add_found.result _ _ _ _
+    (λ y k. foreign_then f.shows f.kept c.args.folder c.in-Ok.found.folder y.1
+    c.in-Ok.ensures.foreign k)
+    (λ e k. foreign_then f.shows f.kept c.args.folder c.in-Ok.found.folder e.1
+    c.in-Ok.ensures.foreign k) c.add_found.ensures.foreign

@@ -1,0 +1,67 @@
+use Rattle.std.proofs.Common.{map}
+use Rattle.head.specs.Blocks.{part_in}
+use Rattle.head.specs.Heads.{world_of}
+use Rattle.store_folder.specs.States.{origin_of, started}
+use Rattle.store_joiner.specs.Adds.{with_beneath}
+use Rattle.store_joiner.specs.Stores.{IsAddedTo}
+use Rattle.store_joiner.proofs.Stores.{finds_then, if_err, if_ok, match_so, means_so}
+use Rattle.store_joiner.proofs.Stores.{then_finds}
+use Rattle.data_folder.proofs.Foreign.{foreign_then}
+use Rattle.store_joiner.proofs.adding.add_found.Goals as goal
+
+pub returns-in-Ok-clause-any_moment : goal.returns-in-Ok-clause-any_moment
+returns-in-Ok-clause-any_moment g c tells =
+    let f = g.F.Folder in
+    let s = c.args.found.store in
+    let first = origin_of s.journal.head (map part_in s.blocks.items) in
+    let x = c.in-Ok.saved in
+    let head = x.store.journal.head in
+    let parts = map part_in x.store.blocks.items in
+    match_so c.add_saved.result _ _ _ _
+    (λ y leaves. then_finds f.moment f.left_since c.args.found.folder x.folder y.1 first head
+    parts s.journal.events.items (IsAddedTo c.args.opening.now.blocks c.args.opening.now.floor)
+    c.in-Ok.ensures.any_moment (c.in-Ok.ensures.after tells)
+    leaves)
+    (λ e leaves. then_finds f.moment f.left_since c.args.found.folder x.folder e.1 first head
+    parts s.journal.events.items (IsAddedTo c.args.opening.now.blocks c.args.opening.now.floor)
+    c.in-Ok.ensures.any_moment (c.in-Ok.ensures.after tells)
+    leaves) c.add_saved.ensures.any_moment
+
+pub returns-in-Ok-clause-finds : goal.returns-in-Ok-clause-finds
+returns-in-Ok-clause-finds g c tells =
+    let f = g.F.Folder in
+    let x = c.in-Ok.saved in
+    let w = world_of (started x.store.journal.head (map part_in x.store.blocks.items)) in
+    let after = c.in-Ok.ensures.after tells in
+    if_ok c.add_saved.result _ _
+    (λ y finds. (
+      w,
+      after.world,
+      means_so f.moment f.left_since y.1
+          (with_beneath c.args.opening.now.blocks c.args.opening.now.floor w)
+          c.args.found.store.journal.head.values x.store.journal.head.values after.values finds,
+    ))
+    c.add_saved.ensures.finds
+
+pub returns-in-Ok-clause-stays : goal.returns-in-Ok-clause-stays
+returns-in-Ok-clause-stays g c tells =
+    let f = g.F.Folder in
+    let met = g.met.F.Folder in
+    let s = c.args.found.store in
+    let first = origin_of s.journal.head (map part_in s.blocks.items) in
+    let x = c.in-Ok.saved in
+    let head = x.store.journal.head in
+    let parts = map part_in x.store.blocks.items in
+    if_err c.add_saved.result _ _
+    (λ e found unless. finds_then f.shows f.kept f.sound f.moment f.left_since met.only_now
+    met.earlier e.1 first head parts s.journal.events.items (c.in-Ok.ensures.after tells) (found unless))
+    c.add_saved.ensures.stays
+
+pub returns-in-Ok-clause-foreign : goal.returns-in-Ok-clause-foreign
+returns-in-Ok-clause-foreign g c =
+    let f = g.F.Folder in
+    match_so c.add_saved.result _ _ _ _
+    (λ y k. foreign_then f.shows f.kept c.args.found.folder c.in-Ok.saved.folder y.1
+    c.in-Ok.ensures.foreign k)
+    (λ e k. foreign_then f.shows f.kept c.args.found.folder c.in-Ok.saved.folder e.1
+    c.in-Ok.ensures.foreign k) c.add_saved.ensures.foreign

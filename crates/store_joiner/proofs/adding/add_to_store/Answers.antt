@@ -1,0 +1,280 @@
+use Rattle.std.proofs.Common.{Some, subst}
+use Rattle.head.specs.Worlds.{Event}
+use Rattle.data_folder.specs.Folders.{LeavesOnly}
+use Rattle.std.specs.Prelude.{List, Ok, Option, Result}
+use Rattle.store_folder.specs.Faults.{GivesStore, IsStoreOf}
+use Rattle.store_folder.specs.Origins.{Origin}
+use Rattle.store_folder.specs.States.{origin_of}
+use Rattle.store_folder.specs.declared.error.StartError.{StartError}
+use Rattle.store_folder.specs.declared.reading.FoundStore.{FoundStore}
+use Rattle.store_joiner.specs.Stores.{IsAddedTo, StandsOrFinds, StaysNow}
+use Rattle.store_joiner.proofs.Stores.{as_found, has_for, if_err, match_so, stays, stays_now}
+use Rattle.store_joiner.proofs.Stores.{then_stays, untouched_finds}
+use Rattle.std.proofs.Common.{◌≡◌, [], None, inl, inr, map, refl, rules}
+use Rattle.head.specs.Blocks.{part_in}
+use Rattle.head.specs.Worlds.{replayed}
+use Rattle.store_folder.specs.Starting.{nothing_saved}
+use Rattle.store_folder.specs.Finding.{IsFoundStore}
+use Rattle.store_joiner.specs.Adds.{with_beneath}
+use Rattle.store_joiner.specs.Finds.{FindsNow, other_of}
+use Rattle.data_folder.proofs.Foreign.{foreign_beside, foreign_then}
+use Rattle.store_joiner.proofs.Stores.{if_ok}
+use Rattle.store_joiner.proofs.Changing.{changes_found, first_rests, none_left, not_none}
+use Rattle.store_joiner.proofs.Changing.{plain_changed, plain_found, plain_rests, some_of}
+use Rattle.head.specs.Worlds.{World}
+use Rattle.data_folder.proofs.Moments.{joined, untouched_on}
+use Rattle.store_joiner.specs.Stores.{NoneOrFinds}
+use Rattle.store_joiner.proofs.adding.add_to_store.Goals as goal
+
+abbrev found : Option FoundStore → Result (Option FoundStore) StartError
+found o = Ok o
+
+-- a store was found
+
+pub returns-in-Some-clause-any_moment : goal.returns-in-Some-clause-any_moment
+returns-in-Some-clause-any_moment g c tells saved parts events h plain =
+    let f = g.F.Folder in
+    let met = g.met.F.Folder in
+    let first = origin_of saved parts in
+    let old = c.args.folder in
+    let mid = c.open_store.new.folder in
+    let is : IsStoreOf saved parts events c.in-Some.store =
+    subst (λ (o : Option FoundStore). GivesStore (f.failed c.open_store.new.folder) saved parts
+    events (found o)) c.in-Some.is
+    (c.in-Ok.ensures.only tells h.file saved parts events h.has plain h.journal h.blocks) in
+    let before = untouched_finds f.shows f.kept f.sound f.moment f.left_since met.only_now
+    met.earlier first events old mid (has_for f.shows f.kept saved parts events old h)
+    (c.open_store.ensures.whole tells (Some h.file) h.has.shown plain) in
+    match_so c.add_found.result _ _ _ _
+    (λ x leaves. then_stays f.moment f.left_since old mid x.1 first events
+    (IsAddedTo c.args.opening.now.blocks c.args.opening.now.floor) before
+    (as_found (λ (w : Origin) (es : List Event). LeavesOnly f.moment f.left_since mid x.1
+    (StandsOrFinds w es (IsAddedTo c.args.opening.now.blocks c.args.opening.now.floor))) saved parts events c.in-Some.store is leaves))
+    (λ e leaves. then_stays f.moment f.left_since old mid e.1 first events
+    (IsAddedTo c.args.opening.now.blocks c.args.opening.now.floor) before
+    (as_found (λ (w : Origin) (es : List Event). LeavesOnly f.moment f.left_since mid e.1
+    (StandsOrFinds w es (IsAddedTo c.args.opening.now.blocks c.args.opening.now.floor))) saved parts events c.in-Some.store is leaves))
+    (c.add_found.ensures.any_moment tells)
+
+pub returns-in-Some-clause-stays : goal.returns-in-Some-clause-stays
+returns-in-Some-clause-stays g c tells saved parts events h plain =
+    let f = g.F.Folder in
+    let is : IsStoreOf saved parts events c.in-Some.store =
+    subst (λ (o : Option FoundStore). GivesStore (f.failed c.open_store.new.folder) saved parts
+    events (found o)) c.in-Some.is
+    (c.in-Ok.ensures.only tells h.file saved parts events h.has plain h.journal h.blocks) in
+    if_err c.add_found.result _ _
+    (λ e found unless. as_found (λ (w : Origin) (es : List Event).
+    StaysNow f.moment f.left_since e.1 w es) saved parts events c.in-Some.store is
+    (found unless)) (c.add_found.ensures.stays tells)
+
+-- it was not opened
+
+pub returns-in-Err-clause-any_moment : goal.returns-in-Err-clause-any_moment
+returns-in-Err-clause-any_moment g c tells saved parts events h plain =
+    let f = g.F.Folder in
+    let met = g.met.F.Folder in
+    let first = origin_of saved parts in
+    let old = c.args.folder in
+    let new = c.open_store.new.folder in
+    stays f.moment f.left_since old new first events
+    (IsAddedTo c.args.opening.now.blocks c.args.opening.now.floor)
+    (untouched_finds f.shows f.kept f.sound f.moment f.left_since met.only_now met.earlier first
+    events old new (has_for f.shows f.kept saved parts events old h)
+    (c.open_store.ensures.whole tells (Some h.file) h.has.shown plain))
+
+pub returns-in-Err-clause-stays : goal.returns-in-Err-clause-stays
+returns-in-Err-clause-stays g c tells saved parts events h plain unless =
+    let f = g.F.Folder in
+    let met = g.met.F.Folder in
+    let old = c.args.folder in
+    let new = c.open_store.new.folder in
+    stays_now f.shows f.kept f.sound f.moment f.left_since met.only_now met.earlier old new
+    (origin_of saved parts) events
+    (untouched_finds f.shows f.kept f.sound f.moment f.left_since met.only_now met.earlier
+    (origin_of saved parts) events old new
+    (has_for f.shows f.kept saved parts events old h)
+    (c.open_store.ensures.whole tells (Some h.file) h.has.shown plain))
+
+pub returns-in-Some-clause-foreign : goal.returns-in-Some-clause-foreign
+returns-in-Some-clause-foreign g c =
+    let f = g.F.Folder in
+    match_so c.add_found.result _ _ _ _
+    (λ y k. foreign_then f.shows f.kept c.args.folder c.open_store.new.folder y.1
+    (foreign_beside f.shows f.kept c.args.folder c.open_store.new.folder c.open_store.ensures.others) k)
+    (λ e k. foreign_then f.shows f.kept c.args.folder c.open_store.new.folder e.1
+    (foreign_beside f.shows f.kept c.args.folder c.open_store.new.folder c.open_store.ensures.others) k)
+    c.add_found.ensures.foreign
+
+pub returns-in-Err-clause-foreign : goal.returns-in-Err-clause-foreign
+returns-in-Err-clause-foreign g c =
+    let f = g.F.Folder in
+    foreign_beside f.shows f.kept c.args.folder c.open_store.new.folder c.open_store.ensures.others
+
+-- what is changed is a store that was there
+
+pub returns-in-Some-clause-safe : goal.returns-in-Some-clause-safe
+returns-in-Some-clause-safe g c tells file shown other =
+    let f = g.F.Folder in
+    let old = c.args.folder in
+    let mid = c.open_store.new.folder in
+    let s = c.in-Some.store in
+    let parts = map part_in s.blocks.items in
+    let is : IsFoundStore f.shows f.kept s.journal parts mid = search rules in
+    let before = c.open_store.ensures.whole tells (Some file) shown other in
+    match_so c.add_found.result _ _ _ _
+    (λ y leaves. changes_found f.shows f.kept f.moment f.left_since
+    (IsAddedTo c.args.opening.now.blocks c.args.opening.now.floor) old mid y.1 s.journal parts before is leaves)
+    (λ e leaves. inr (changes_found f.shows f.kept f.moment f.left_since
+    (IsAddedTo c.args.opening.now.blocks c.args.opening.now.floor) old mid e.1 s.journal parts before is leaves))
+    (c.add_found.ensures.any_moment tells)
+
+pub returns-in-Err-clause-safe : goal.returns-in-Err-clause-safe
+returns-in-Err-clause-safe g c tells file shown other =
+    inl (c.open_store.ensures.whole tells (Some file) shown other)
+
+-- a journal of events alone
+
+pub returns-in-Some-clause-plain : goal.returns-in-Some-clause-plain
+returns-in-Some-clause-plain g c tells file has plain =
+    let f = g.F.Folder in
+    let old = c.args.folder in
+    let mid = c.open_store.new.folder in
+    let s = c.in-Some.store in
+    let is : IsFoundStore f.shows f.kept s.journal (map part_in s.blocks.items) mid =
+    search rules in
+    let found = some_of c.in-Ok.opened s _ c.in-Some.is
+    (c.in-Ok.ensures.plain tells file has.shown plain) in
+    let store = plain_found f.shows f.kept mid s is found.1 in
+    let before = c.open_store.ensures.any_moment tells file has in
+    match_so c.add_found.result _ _ _ _
+    (λ y leaves. plain_changed f.moment f.left_since old mid y.1 file s
+    (IsAddedTo c.args.opening.now.blocks c.args.opening.now.floor) before found.0 store leaves)
+    (λ e leaves. plain_changed f.moment f.left_since old mid e.1 file s
+    (IsAddedTo c.args.opening.now.blocks c.args.opening.now.floor) before found.0 store leaves)
+    (c.add_found.ensures.any_moment tells)
+
+pub returns-in-Err-clause-plain : goal.returns-in-Err-clause-plain
+returns-in-Err-clause-plain g c tells file has plain =
+    let f = g.F.Folder in
+    plain_rests f.moment f.left_since c.args.folder c.open_store.new.folder file
+    (IsAddedTo c.args.opening.now.blocks c.args.opening.now.floor)
+    (c.open_store.ensures.any_moment tells file has)
+
+pub returns-in-Some-clause-plain_finds : goal.returns-in-Some-clause-plain_finds
+returns-in-Some-clause-plain_finds g c tells file shown plain =
+    let f = g.F.Folder in
+    let mid = c.open_store.new.folder in
+    let s = c.in-Some.store in
+    let o = c.args.opening.now in
+    let is : IsFoundStore f.shows f.kept s.journal (map part_in s.blocks.items) mid =
+    search rules in
+    let found = some_of c.in-Ok.opened s _ c.in-Some.is
+    (c.in-Ok.ensures.plain tells file shown plain) in
+    let store = plain_found f.shows f.kept mid s is found.1 in
+    if_ok c.add_found.result _ _
+    (λ x y. (let r = as_found (λ (first : Origin) (es : List Event). (replayed first.world es ≡ Ok y.0)
+    × FindsNow f.moment f.left_since x.1 (other_of first (with_beneath o.blocks o.floor y.0)))
+    nothing_saved [] s.journal.events.items s store (y.1, y.2) in
+    (s.journal.events.items, y.0, found.0, r.0, r.1)))
+    (c.add_found.ensures.finds tells)
+
+-- where no journal is
+
+pub returns-in-Some-clause-first : goal.returns-in-Some-clause-first
+returns-in-Some-clause-first g c tells shown durable =
+    let f = g.F.Folder in
+    let mid = c.open_store.new.folder in
+    let s = c.in-Some.store in
+    let is : IsFoundStore f.shows f.kept s.journal (map part_in s.blocks.items) mid =
+    search rules in
+    absurd (not_none f.shows f.kept f.moment f.left_since tells c.args.folder mid is.file shown
+    (c.open_store.ensures.whole tells None shown refl) is.has)
+
+pub returns-in-Some-clause-first_finds : goal.returns-in-Some-clause-first_finds
+returns-in-Some-clause-first_finds g c tells shown =
+    let f = g.F.Folder in
+    let mid = c.open_store.new.folder in
+    let s = c.in-Some.store in
+    let is : IsFoundStore f.shows f.kept s.journal (map part_in s.blocks.items) mid =
+    search rules in
+    absurd (not_none f.shows f.kept f.moment f.left_since tells c.args.folder mid is.file shown
+    (c.open_store.ensures.whole tells None shown refl) is.has)
+
+pub returns-in-Some-clause-blocks : goal.returns-in-Some-clause-blocks
+returns-in-Some-clause-blocks g c tells shown has =
+    let f = g.F.Folder in
+    let mid = c.open_store.new.folder in
+    let s = c.in-Some.store in
+    let is : IsFoundStore f.shows f.kept s.journal (map part_in s.blocks.items) mid =
+    search rules in
+    absurd (not_none f.shows f.kept f.moment f.left_since tells c.args.folder mid is.file shown
+    (c.open_store.ensures.whole tells None shown refl) is.has)
+
+pub returns-in-Err-clause-first : goal.returns-in-Err-clause-first
+returns-in-Err-clause-first g c tells shown durable =
+    let f = g.F.Folder in
+    first_rests f.moment f.left_since c.args.folder c.open_store.new.folder
+    (IsAddedTo c.args.opening.now.blocks c.args.opening.now.floor)
+    (none_left f.shows f.kept f.moment f.left_since g.met.F.Folder.only_now c.args.folder c.open_store.new.folder
+    shown durable (c.open_store.ensures.whole tells None shown refl))
+
+pub returns-in-Err-clause-blocks : goal.returns-in-Err-clause-blocks
+returns-in-Err-clause-blocks g c tells shown has = c.open_store.ensures.whole tells None shown refl
+
+pub returns-in-Some-clause-finds : goal.returns-in-Some-clause-finds
+returns-in-Some-clause-finds g c tells saved parts events h plain =
+    let f = g.F.Folder in
+    let b = c.args.opening.now in
+    let is : IsStoreOf saved parts events c.in-Some.store =
+    subst (λ (o : Option FoundStore). GivesStore (f.failed c.open_store.new.folder) saved parts
+    events (found o)) c.in-Some.is
+    (c.in-Ok.ensures.only tells h.file saved parts events h.has plain h.journal h.blocks) in
+    if_ok c.add_found.result _ _
+    (λ x finds. as_found (λ (o : Origin) (es : List Event). (w : World)
+    × (replayed o.world es ≡ Ok w)
+    × FindsNow f.moment f.left_since x.1 (other_of o (with_beneath b.blocks b.floor w)))
+    saved parts events c.in-Some.store is finds)
+    (c.add_found.ensures.finds tells)
+
+-- a store is begun
+
+pub returns-in-None-clause-blocks : goal.returns-in-None-clause-blocks
+returns-in-None-clause-blocks g c tells shown has =
+    let f = g.F.Folder in
+    let earlier = g.met.F.Folder.earlier in
+    let old = c.args.folder in
+    let mid = c.open_store.new.folder in
+    let before = c.open_store.ensures.whole tells None shown refl in
+    match_so c.add_first.result _ _ _ _ (λ x none. none)
+    (λ e u. untouched_on f.shows f.kept f.moment f.left_since earlier old mid e.1 before u)
+    (c.add_first.ensures.blocks (λ other names u listed. has other names
+    (untouched_on f.shows f.kept f.moment f.left_since earlier old mid other before u) listed))
+
+pub returns-in-None-clause-first : goal.returns-in-None-clause-first
+returns-in-None-clause-first g c tells shown durable =
+    let f = g.F.Folder in
+    let old = c.args.folder in
+    let mid = c.open_store.new.folder in
+    let before = first_rests f.moment f.left_since old mid
+    (IsAddedTo c.args.opening.now.blocks c.args.opening.now.floor)
+    (none_left f.shows f.kept f.moment f.left_since g.met.F.Folder.only_now old mid shown durable
+    (c.open_store.ensures.whole tells None shown refl)) in
+    match_so c.add_first.result _ _ _ _
+    (λ x k. joined f.moment f.left_since old mid x.1
+    (NoneOrFinds (IsAddedTo c.args.opening.now.blocks c.args.opening.now.floor))
+    before k)
+    (λ e k. joined f.moment f.left_since old mid e.1
+    (NoneOrFinds (IsAddedTo c.args.opening.now.blocks c.args.opening.now.floor))
+    before k)
+    (c.add_first.ensures.any_moment tells)
+
+pub returns-in-None-clause-foreign : goal.returns-in-None-clause-foreign
+returns-in-None-clause-foreign g c =
+    let f = g.F.Folder in
+    let old = c.args.folder in
+    let mid = c.open_store.new.folder in
+    let before = foreign_beside f.shows f.kept old mid c.open_store.ensures.others in
+    match_so c.add_first.result _ _ _ _
+    (λ x k. foreign_then f.shows f.kept old mid x.1 before k)
+    (λ e k. foreign_then f.shows f.kept old mid e.1 before k) c.add_first.ensures.foreign

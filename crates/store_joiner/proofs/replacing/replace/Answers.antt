@@ -1,0 +1,106 @@
+use Rattle.std.proofs.Common.{◌≡◌, ◌⊎◌, ap, inl, map, refl, subst, sym}
+use Rattle.head.specs.Blocks.{part_in}
+use Rattle.head.specs.Heads.{world_of}
+use Rattle.store_folder.specs.Holding.{HoldsAt}
+use Rattle.store_folder.specs.Origins.{Origin}
+use Rattle.store_folder.specs.declared.error.RollFault.{RollFault}
+use Rattle.store_joiner.specs.declared.error.ChangeFault.{ChangeFault}
+use Rattle.store_joiner.specs.declared.error.ChangeFault.TheVariants as faults
+use Rattle.store_joiner.proofs.Stores.{finds_all, now_first, replaced}
+use Rattle.data_folder.proofs.Foreign.{foreign_beside, foreign_then}
+use Rattle.store_joiner.proofs.replacing.replace.Goals as goal
+
+abbrev rolled : RollFault → ChangeFault
+rolled fault = faults.Roll fault
+
+pub resume-requires-clause-values : goal.resume-requires-clause-values
+resume-requires-clause-values g c = sym (ap (λ (x : Origin). x.values) c.requires.first)
+
+pub replace_store-requires-clause-held : goal.replace_store-requires-clause-held
+replace_store-requires-clause-held g c =
+    let f = g.F.Folder in
+    let first = g.N.Beginning.first in
+    let store = c.args.found.store in
+    let parts = map part_in store.blocks.items in
+    let j = c.in-Ok.journal.events.journal in (
+      parts,
+      subst (λ events. HoldsAt f.shows f.kept f.sound f.moment f.left_since first j.medium j.len
+          j.closed events c.places.result.now parts) c.requires.saved
+          (subst (λ places. HoldsAt f.shows f.kept f.sound f.moment f.left_since first j.medium
+          j.len j.closed store.journal.events.items places parts) (sym c.places.ensures)
+          (c.in-Ok.ensures.holds parts c.requires.found c.requires.first)),
+    )
+
+-- where the journal does not go on
+
+pub returns-in-Err-clause-any_moment : goal.returns-in-Err-clause-any_moment
+returns-in-Err-clause-any_moment g c =
+    let f = g.F.Folder in
+    let store = c.args.found.store in
+    let first = g.N.Beginning.first in
+    finds_all f.moment f.left_since c.args.found.folder c.in-Err.folder first
+    store.journal.events.items (λ v. (v ≡ first.world) ⊎ (v ≡ world_of c.args.next.now))
+    c.requires.saved (inl refl)
+    (c.in-Err.ensures.any_moment (map part_in store.blocks.items) c.requires.found
+    c.requires.first)
+
+pub returns-in-Err-clause-stays : goal.returns-in-Err-clause-stays
+returns-in-Err-clause-stays g c unless =
+    let f = g.F.Folder in
+    let met = g.met.F.Folder in
+    let store = c.args.found.store in
+    now_first f.shows f.kept f.sound f.moment f.left_since met.only_now met.earlier
+    c.args.found.folder c.in-Err.folder g.N.Beginning.first store.journal.events.items
+    c.requires.saved
+    (c.in-Err.ensures.any_moment (map part_in store.blocks.items) c.requires.found
+    c.requires.first)
+
+-- where it does
+
+pub returns-in-Ok-replace_store-clause-any_moment : goal.returns-in-Ok-replace_store-clause-any_moment
+returns-in-Ok-replace_store-clause-any_moment g c =
+    let f = g.F.Folder in
+    let store = c.args.found.store in
+    let first = g.N.Beginning.first in
+    replaced f.moment f.left_since c.args.found.folder
+    c.in-Ok.journal.events.journal.medium.folder c.in-Ok-replace_store.replaced.folder first
+    (world_of c.args.next.now) store.journal.events.items c.requires.saved
+    (c.in-Ok.ensures.any_moment (map part_in store.blocks.items) c.requires.found
+    c.requires.first) c.in-Ok-replace_store.ensures.any_moment
+
+pub returns-clause-any_moment : goal.returns-clause-any_moment
+returns-clause-any_moment g c =
+    let f = g.F.Folder in
+    let store = c.args.found.store in
+    let first = g.N.Beginning.first in
+    replaced f.moment f.left_since c.args.found.folder
+    c.in-Ok.journal.events.journal.medium.folder c.in-Err-replace_store.folder first
+    (world_of c.args.next.now) store.journal.events.items c.requires.saved
+    (c.in-Ok.ensures.any_moment (map part_in store.blocks.items) c.requires.found
+    c.requires.first) c.in-Err-replace_store.ensures.any_moment
+
+pub returns-clause-stays : goal.returns-clause-stays
+returns-clause-stays g c unless =
+    c.in-Err-replace_store.ensures.stays
+    (λ e. unless (ap (λ (x : RollFault). rolled x) e))
+
+pub returns-in-Err-clause-foreign : goal.returns-in-Err-clause-foreign
+returns-in-Err-clause-foreign g c =
+    let f = g.F.Folder in
+    foreign_beside f.shows f.kept c.args.found.folder c.in-Err.folder c.in-Err.ensures.others
+
+pub returns-in-Ok-replace_store-clause-foreign : goal.returns-in-Ok-replace_store-clause-foreign
+returns-in-Ok-replace_store-clause-foreign g c =
+    let f = g.F.Folder in
+    foreign_then f.shows f.kept c.args.found.folder c.in-Ok.journal.events.journal.medium.folder
+    c.in-Ok-replace_store.replaced.folder
+    (foreign_beside f.shows f.kept c.args.found.folder c.in-Ok.journal.events.journal.medium.folder
+    c.in-Ok.ensures.others) c.in-Ok-replace_store.ensures.foreign
+
+pub returns-clause-foreign : goal.returns-clause-foreign
+returns-clause-foreign g c =
+    let f = g.F.Folder in
+    foreign_then f.shows f.kept c.args.found.folder c.in-Ok.journal.events.journal.medium.folder
+    c.in-Err-replace_store.folder
+    (foreign_beside f.shows f.kept c.args.found.folder c.in-Ok.journal.events.journal.medium.folder
+    c.in-Ok.ensures.others) c.in-Err-replace_store.ensures.foreign

@@ -1,0 +1,127 @@
+-- A store that lies in a folder, and what is left of it while it is changed.
+use Rattle.std.specs.Prelude.{◌≡◌, ◌⊎◌, ◌++◌, ℕ, ℤ, true, List, [], Option, None, Ok, codes}
+use Rattle.block_folder.specs.declared.values.Values.TheVariants.{Whole}
+use Rattle.data_folder.specs.Folders.{HasFile, Left, LeavesOnly, Untouched}
+use Rattle.data_folder.specs.JournalFile.{journal_name}
+use Rattle.event_journal.specs.Holding.{Stands}
+use Rattle.head.specs.Heads.{BlockPart}
+use Rattle.head.specs.Worlds.{Event, World, replayed}
+use Rattle.head_record.specs.Saved.{Saved}
+use Rattle.store_folder.specs.Holding.{AreAt}
+use Rattle.store_folder.specs.Journals.{IsJournalOf}
+use Rattle.store_folder.specs.Origins.{Origin, beginning}
+use Rattle.store_folder.specs.Plain.{HasEither}
+use Rattle.store_folder.specs.States.{IsAfter, StandsFor, origin_of}
+use Rattle.store_folder.specs.Sweeps.{has_number}
+use Rattle.store_joiner.specs.Adds.{with_beneath}
+use Rattle.store_joiner.specs.Finds.{Finds}
+use Rattle.store_joiner.specs.Joins.{with_blocks}
+use Rattle.store_joiner.specs.declared.error.ChangeFault.{ChangeFault}
+use Rattle.store_joiner.specs.declared.error.ChangeFault.TheVariants as faults
+
+-- in the folder lies, for good, the store of this head, these blocks, and these events after the
+-- head
+pub record HasStore {F : Type 0} (shows : F → List ℕ → Option (List ℕ) → Type 0)
+    (kept : F → List ℕ → ℕ → Type 0) (saved : Saved) (parts : List BlockPart)
+    (events : List Event) (f : F) : Type 0 where
+  pub file : List ℕ
+  pub has : HasFile shows kept journal_name file f
+  pub journal : IsJournalOf file saved events
+  pub blocks : AreAt shows kept saved.places parts f
+
+-- in the folder lies, for good, a store that stands for these events since it began
+pub record HasStoreFor {F : Type 0} (shows : F → List ℕ → Option (List ℕ) → Type 0)
+    (kept : F → List ℕ → ℕ → Type 0) (first : Origin) (events : List Event) (f : F)
+    : Type 0 where
+  pub saved : Saved
+  pub parts : List BlockPart
+  pub early : List Event
+  pub late : List Event
+  pub all : events ≡ early ++ late
+  pub begins : IsAfter first early saved parts
+  pub store : HasStore shows kept saved parts late f
+
+-- What is left stands for these events; or they are accepted, and a start finds a world that is so
+-- to the world that they make, in which the values mean what they meant.
+abbrev pub StandsOrFinds : Origin → List Event → (World → World → Type 0) → Left → Type 0
+StandsOrFinds first events P left =
+    StandsFor first events left
+    ⊎ ((w : World) × (replayed first.world events ≡ Ok w) × Finds first.values (P w) left)
+
+-- a crash at any moment since old leaves that
+abbrev pub StaysOrFinds : {F : Type 0} → (F → ℕ) → (F → ℕ → Left → Type 0) → F → F → Origin
+    → List Event → (World → World → Type 0) → Type 0
+StaysOrFinds moment left_since old new first events P =
+    LeavesOnly moment left_since old new (StandsOrFinds first events P)
+
+-- From old to new the store that lies in the folder was changed: it was opened, before which
+-- nothing was changed; and a crash since then leaves what stands for its events, or a store of a
+-- world that is so to theirs.
+pub record Changes {F : Type 0} (shows : F → List ℕ → Option (List ℕ) → Type 0)
+    (kept : F → List ℕ → ℕ → Type 0) (moment : F → ℕ) (left_since : F → ℕ → Left → Type 0)
+    (P : World → World → Type 0) (old new : F) : Type 0 where
+  pub opened : F
+  pub saved : Saved
+  pub parts : List BlockPart
+  pub events : List Event
+  pub untouched : Untouched shows kept moment left_since old opened
+  pub store : HasStore shows kept saved parts events opened
+  pub stays : StaysOrFinds moment left_since opened new (origin_of saved parts) events P
+
+-- nothing was changed, or the store that lies in the folder was
+abbrev pub MayChange : {F : Type 0} → (F → List ℕ → Option (List ℕ) → Type 0)
+    → (F → List ℕ → ℕ → Type 0) → (F → ℕ) → (F → ℕ → Left → Type 0)
+    → (World → World → Type 0) → F → F → Type 0
+MayChange shows kept moment left_since P old new =
+    Untouched shows kept moment left_since old new
+    ⊎ Changes shows kept moment left_since P old new
+
+-- What is left has the journal of events alone as it was, or with a head in front of them; or it
+-- stands for these events, or is a store of a world that is so to theirs.
+abbrev pub PlainOrFinds : List ℕ → (World → World → Type 0) → Left → Type 0
+PlainOrFinds file P left =
+    HasEither file left
+    ⊎ ((events : List Event) × Stands [] file events
+    × StandsOrFinds (beginning Whole) events P left)
+
+-- what is left has no journal, or is a store that has nothing
+abbrev pub NoneOrStands : Left → Type 0
+NoneOrStands left = (left journal_name ≡ None) ⊎ StandsFor (beginning Whole) [] left
+
+-- what is left has no journal, or is a store that has nothing, or one of a world that is so to it
+abbrev pub NoneOrFinds : (World → World → Type 0) → Left → Type 0
+NoneOrFinds P left = (left journal_name ≡ None) ⊎ StandsOrFinds (beginning Whole) [] P left
+
+-- whenever nothing was changed, some name of a number is listed in the folder of blocks
+abbrev pub HasBlocks : {F : Type 0} → (F → List ℕ → Option (List ℕ) → Type 0)
+    → (F → List ℕ → List (List ℕ) → Type 0) → (F → List ℕ → ℕ → Type 0) → (F → ℕ)
+    → (F → ℕ → Left → Type 0) → F → Type 0
+HasBlocks {F} shows lists kept moment left_since old =
+    (f : F) (names : List (List ℕ)) → Untouched shows kept moment left_since old f
+    → lists f (codes "blocks") names → has_number names ≡ true
+
+-- a crash now leaves what stands for these events, or a store of their world and meaning
+abbrev pub StaysNow : {F : Type 0} → (F → ℕ) → (F → ℕ → Left → Type 0) → F → Origin
+    → List Event → Type 0
+StaysNow moment left_since f first events =
+    (left : Left) → left_since f (moment f) left
+    → StandsOrFinds first events (λ (w : World) (v : World). v ≡ w) left
+
+-- the same world, in some number of blocks
+abbrev pub IsJoinedTo : World → World → Type 0
+IsJoinedTo w v = v ≡ with_blocks v.blocks w
+
+-- the same world, or the one laid over these blocks
+abbrev pub IsAddedTo : List BlockPart → ℤ → World → World → Type 0
+IsAddedTo blocks floor w v = (v ≡ w) ⊎ (v ≡ with_beneath blocks floor w)
+
+-- a fault after the store of a folder was opened
+abbrev pub IsLater : ChangeFault → Type 0
+IsLater faults.NoStore = ⊥
+IsLater (faults.Open e) = ⊥
+IsLater (faults.Resume e) = Unit {0}
+IsLater (faults.Begin e) = Unit {0}
+IsLater (faults.Roll e) = Unit {0}
+IsLater (faults.Again e) = Unit {0}
+IsLater faults.Changed = Unit {0}
+IsLater (faults.Unfit e n) = Unit {0}

@@ -1,0 +1,330 @@
+//! Blocks that are added to the store of a folder.
+
+ghost use Rattle.std.specs.Prelude.{◌≡◌, ℕ, List, [], IfErr, IfOk, MatchResult, None, Ok, Some};
+ghost use Rattle.std.specs.Prelude.{false, map, true};
+ghost use Rattle.block_folder.specs.declared.values.Values.TheVariants.{Whole};
+ghost use Rattle.data_folder.specs.Folders.{HasFile, LeavesOnly, Untouched};
+ghost use Rattle.data_folder.specs.JournalFile.{journal_name};
+ghost use Rattle.data_folder.specs.Sweeping.{KeepsForeign};
+ghost use Rattle.event_journal.specs.Holding.{Stands};
+ghost use Rattle.head.specs.Blocks.{part_in};
+ghost use Rattle.head.specs.Heads.{BlockPart};
+ghost use Rattle.head.specs.Worlds.{Event as Change, World, replayed};
+ghost use Rattle.head_record.specs.Saved.{Saved};
+ghost use Rattle.store_folder.specs.Faults.{TellsFiles};
+ghost use Rattle.store_folder.specs.Finding.{IsFoundStore};
+ghost use Rattle.store_folder.specs.Origins.{beginning};
+ghost use Rattle.store_folder.specs.Plain.{begins_plain};
+ghost use Rattle.store_folder.specs.Starting.{IsNoneOrNothing};
+ghost use Rattle.store_folder.specs.States.{IsAfter, origin_of};
+ghost use Rattle.store_joiner.specs.Adds.{with_beneath};
+ghost use Rattle.store_joiner.specs.Finds.{FindsEither, FindsNow, other_of};
+ghost use Rattle.store_joiner.specs.Stores.{Changes, HasBlocks, HasStore, HasStoreFor, IsAddedTo};
+ghost use Rattle.store_joiner.specs.Stores.{IsLater, MayChange, NoneOrFinds, NoneOrStands};
+ghost use Rattle.store_joiner.specs.Stores.{PlainOrFinds, StaysNow, StaysOrFinds};
+
+use crate::added::added_snapshot;
+use crate::error::ChangeFault;
+use crate::opened::{Found, read_again, save};
+use crate::replacing::replace;
+use block_folder::Values;
+use data_folder::{Folder, RollError};
+use head::Snapshot;
+use std::alloc::Global;
+use std::marker::Brand;
+use store_folder::{
+    Beginning, RollFault, StartError, StartedStore, begin_store, has_blocks, open_store,
+};
+
+/// Adds the blocks of an opening to a store of which the journal has no events. How many blocks it
+/// then has.
+fn add_saved<N: Beginning, F: Folder + Drop>(
+    alloc: Global,
+    found: Found<F>,
+    opening: &Snapshot,
+) -> Result<(usize, F), (ChangeFault, F)>
+    requires sound { F.sound found.folder ≡ true }
+    requires found { IsFoundStore F.shows F.kept found.store.journal
+        (map part_in found.store.blocks.items) found.folder }
+    requires saved { found.store.journal.events.items ≡ [] }
+    requires first { N.first ≡ origin_of found.store.journal.head
+        (map part_in found.store.blocks.items) }
+    ensures any_moment { MatchResult result
+        (λ x. FindsEither F.moment F.left_since found.folder x.1 N.first
+        (with_beneath opening.now.blocks opening.now.floor N.first.world))
+        (λ e. FindsEither F.moment F.left_since found.folder e.1 N.first
+        (with_beneath opening.now.blocks opening.now.floor N.first.world)) }
+    ensures finds { IfOk result (λ x. FindsNow F.moment F.left_since x.1 (other_of N.first
+        (with_beneath opening.now.blocks opening.now.floor N.first.world))) }
+    ensures stays { IfErr result (λ e.
+        (e.0 ≡ ChangeFault.Roll (RollFault.Folder RollError.Lost) → ⊥)
+        → FindsNow F.moment F.left_since e.1 N.first) }
+    ensures later { IfErr result (λ e. IsLater e.0) }
+    ensures foreign { MatchResult result
+        (λ x. KeepsForeign F.shows F.kept found.folder x.1)
+        (λ e. KeepsForeign F.shows F.kept found.folder e.1) }
+{
+    let count = found
+        .store
+        .blocks
+        .len()
+        .saturating_add(opening.blocks().len());
+    let next = match added_snapshot(alloc, opening, &found.store) {
+        Ok(next) => next,
+        Err(error) => return Err((ChangeFault::Unfit(error, count), found.folder)),
+    };
+    match replace::<N, F>(alloc, found, &next) {
+        Ok(folder) => Ok((count, folder)),
+        Err(fault) => Err(fault),
+    }
+}
+
+/// Adds the blocks of an opening to a store that was found, after what its journal has was saved.
+fn add_found<F: Folder + Drop>(
+    alloc: Global,
+    found: Found<F>,
+    opening: &Snapshot,
+) -> Result<(usize, F), (ChangeFault, F)>
+    requires sound { F.sound found.folder ≡ true }
+    requires found { IsFoundStore F.shows F.kept found.store.journal
+        (map part_in found.store.blocks.items) found.folder }
+    ensures any_moment { TellsFiles F.shows → MatchResult result
+        (λ x. StaysOrFinds F.moment F.left_since found.folder x.1
+        (origin_of found.store.journal.head (map part_in found.store.blocks.items))
+        found.store.journal.events.items
+        (IsAddedTo opening.now.blocks opening.now.floor))
+        (λ e. StaysOrFinds F.moment F.left_since found.folder e.1
+        (origin_of found.store.journal.head (map part_in found.store.blocks.items))
+        found.store.journal.events.items
+        (IsAddedTo opening.now.blocks opening.now.floor)) }
+    ensures finds { TellsFiles F.shows → IfOk result (λ x. (w : World) × (replayed
+        (origin_of found.store.journal.head (map part_in found.store.blocks.items)).world
+        found.store.journal.events.items ≡ Ok w)
+        × FindsNow F.moment F.left_since x.1 (other_of
+        (origin_of found.store.journal.head (map part_in found.store.blocks.items))
+        (with_beneath opening.now.blocks opening.now.floor w))) }
+    ensures stays { TellsFiles F.shows → IfErr result (λ e.
+        (e.0 ≡ ChangeFault.Roll (RollFault.Folder RollError.Lost) → ⊥)
+        → StaysNow F.moment F.left_since e.1
+        (origin_of found.store.journal.head (map part_in found.store.blocks.items))
+        found.store.journal.events.items) }
+    ensures later { IfErr result (λ e. IsLater e.0) }
+    ensures foreign { MatchResult result
+        (λ x. KeepsForeign F.shows F.kept found.folder x.1)
+        (λ e. KeepsForeign F.shows F.kept found.folder e.1) }
+{
+    match save(alloc, found) {
+        Ok(saved) => add_saved::<Brand, F>(alloc, saved, opening),
+        Err(fault) => Err(fault),
+    }
+}
+
+/// Begins the store of a folder that has none, of whole numbers. The folder.
+fn begin<N: Beginning, F: Folder + Drop>(alloc: Global, folder: F) -> Result<F, (ChangeFault, F)>
+    requires sound { F.sound folder ≡ true }
+    requires none { F.shows folder journal_name None × F.kept folder journal_name 0 }
+    requires first { N.first ≡ beginning Whole }
+    ensures sound { IfOk result (λ folder. F.sound folder ≡ true) }
+    ensures later { IfErr result (λ e. IsLater e.0) }
+    ensures any_moment { MatchResult result
+        (λ x. LeavesOnly F.moment F.left_since folder x (IsNoneOrNothing Whole))
+        (λ e. LeavesOnly F.moment F.left_since folder e.1 (IsNoneOrNothing Whole)) }
+    ensures has { IfOk result (λ x. HasStoreFor F.shows F.kept N.first [] x) }
+    ensures foreign { MatchResult result
+        (λ x. KeepsForeign F.shows F.kept folder x)
+        (λ e. KeepsForeign F.shows F.kept folder e.1) }
+{
+    let begun: StartedStore<N, F> = match begin_store(alloc, folder, Values::Whole, 0) {
+        Ok(begun) => begun,
+        Err((error, folder)) => return Err((ChangeFault::Begin(error), folder)),
+    };
+    let StartedStore { keeper, .. } = begun;
+    Ok(keeper.store.events.journal.medium.folder)
+}
+
+/// Begins the store of a folder that has no journal, and reads it again.
+fn begin_again<F: Folder + Drop>(alloc: Global, folder: F) -> Result<Found<F>, (ChangeFault, F)>
+    requires sound { F.sound folder ≡ true }
+    requires none { F.shows folder journal_name None × F.kept folder journal_name 0 }
+    ensures sound { IfOk result (λ x. F.sound x.folder ≡ true) }
+    ensures found { IfOk result (λ x. IsFoundStore F.shows F.kept x.store.journal
+        (map part_in x.store.blocks.items) x.folder) }
+    ensures later { IfErr result (λ e. IsLater e.0) }
+    ensures saved { IfOk result (λ x. x.store.journal.events.items ≡ []) }
+    ensures any_moment { MatchResult result
+        (λ x. LeavesOnly F.moment F.left_since folder x.folder NoneOrStands)
+        (λ e. LeavesOnly F.moment F.left_since folder e.1 NoneOrStands) }
+    ensures after { TellsFiles F.shows → IfOk result (λ x. IsAfter (beginning Whole) []
+        x.store.journal.head (map part_in x.store.blocks.items)) }
+    ensures foreign { MatchResult result
+        (λ x. KeepsForeign F.shows F.kept folder x.folder)
+        (λ e. KeepsForeign F.shows F.kept folder e.1) }
+{
+    match begin::<Brand, F>(alloc, folder) {
+        Ok(folder) => read_again(alloc, folder),
+        Err(fault) => Err(fault),
+    }
+}
+
+/// Begins the store of a folder that has no journal, if it has no blocks either: who has lost a
+/// journal shall not lose the blocks as well.
+fn begin_found<F: Folder + Drop>(alloc: Global, folder: F) -> Result<Found<F>, (ChangeFault, F)>
+    requires sound { F.sound folder ≡ true }
+    requires none { F.shows folder journal_name None × F.kept folder journal_name 0 }
+    ensures sound { IfOk result (λ found. F.sound found.folder ≡ true) }
+    ensures found { IfOk result (λ found. IsFoundStore F.shows F.kept found.store.journal
+        (map part_in found.store.blocks.items) found.folder) }
+    ensures later { IfErr result (λ e. (cause : StartError) → e.0 ≡ ChangeFault.Open cause → ⊥) }
+    ensures none { IfErr result (λ e. e.0 ≡ ChangeFault.NoStore
+        → F.shows e.1 journal_name None) }
+    ensures saved { IfOk result (λ x. x.store.journal.events.items ≡ []) }
+    ensures any_moment { MatchResult result
+        (λ x. LeavesOnly F.moment F.left_since folder x.folder NoneOrStands)
+        (λ e. LeavesOnly F.moment F.left_since folder e.1 NoneOrStands) }
+    ensures after { TellsFiles F.shows → IfOk result (λ x. IsAfter (beginning Whole) []
+        x.store.journal.head (map part_in x.store.blocks.items)) }
+    // Where a block lies, nothing is changed.
+    ensures blocks { HasBlocks F.shows F.lists F.kept F.moment F.left_since folder
+        → MatchResult result (λ x. ⊥)
+        (λ e. Untouched F.shows F.kept F.moment F.left_since folder e.1) }
+    ensures foreign { MatchResult result
+        (λ x. KeepsForeign F.shows F.kept folder x.folder)
+        (λ e. KeepsForeign F.shows F.kept folder e.1) }
+{
+    let mut folder = folder;
+    match has_blocks(alloc, &mut folder) {
+        Ok(false) => begin_again(alloc, folder),
+        _ => Err((ChangeFault::NoStore, folder)),
+    }
+}
+
+/// Begins the store of a folder that has neither a journal nor blocks, and adds the blocks of an
+/// opening to it.
+fn add_first<F: Folder + Drop>(
+    alloc: Global,
+    folder: F,
+    opening: &Snapshot,
+) -> Result<(usize, F), (ChangeFault, F)>
+    requires sound { F.sound folder ≡ true }
+    requires none { F.shows folder journal_name None × F.kept folder journal_name 0 }
+    ensures later { IfErr result (λ e. (cause : StartError) → e.0 ≡ ChangeFault.Open cause → ⊥) }
+    ensures none { IfErr result (λ e. e.0 ≡ ChangeFault.NoStore
+        → F.shows e.1 journal_name None) }
+    ensures any_moment { TellsFiles F.shows → MatchResult result
+        (λ x. LeavesOnly F.moment F.left_since folder x.1
+        (NoneOrFinds (IsAddedTo opening.now.blocks opening.now.floor)))
+        (λ e. LeavesOnly F.moment F.left_since folder e.1
+        (NoneOrFinds (IsAddedTo opening.now.blocks opening.now.floor))) }
+    ensures finds { TellsFiles F.shows → IfOk result (λ x. FindsNow F.moment F.left_since x.1
+        (other_of (beginning Whole)
+        (with_beneath opening.now.blocks opening.now.floor (beginning Whole).world))) }
+    ensures blocks { HasBlocks F.shows F.lists F.kept F.moment F.left_since folder
+        → MatchResult result (λ x. ⊥)
+        (λ e. Untouched F.shows F.kept F.moment F.left_since folder e.1) }
+    ensures foreign { MatchResult result
+        (λ x. KeepsForeign F.shows F.kept folder x.1)
+        (λ e. KeepsForeign F.shows F.kept folder e.1) }
+{
+    match begin_found(alloc, folder) {
+        Ok(found) => add_found(alloc, found, opening),
+        Err(fault) => Err(fault),
+    }
+}
+
+/// Adds the blocks of an opening to the store of a folder, before its own: where both have a sample
+/// of one label set at one time, the store's stands. What its journal has is saved first. A folder
+/// that has neither a journal nor blocks gets a store of whole numbers. How many blocks it then
+/// has, and the folder, which an `Err` gives back too. `Unfit` if they are more than 63, or if the
+/// floor would stand above samples of the head.
+pub fn add_to_store<F: Folder + Drop>(
+    alloc: Global,
+    folder: F,
+    opening: &Snapshot,
+) -> Result<(usize, F), (ChangeFault, F)>
+    requires { F.sound folder ≡ true }
+    // The folder tells what its files have, and a store with a head lies there. A crash at any
+    // moment of the call leaves what stands for its events; or these are accepted, and a start
+    // finds their world, or it laid over the blocks. The values mean what they meant.
+    ensures any_moment { TellsFiles F.shows → (saved : Saved) (parts : List BlockPart)
+        (events : List Change) → (s : HasStore F.shows F.kept saved parts events folder)
+        → begins_plain s.file ≡ false → MatchResult result
+        (λ x. StaysOrFinds F.moment F.left_since folder x.1 (origin_of saved parts)
+        events (IsAddedTo opening.now.blocks opening.now.floor))
+        (λ e. StaysOrFinds F.moment F.left_since folder e.1 (origin_of saved parts)
+        events (IsAddedTo opening.now.blocks opening.now.floor)) }
+    // After `Ok` it finds their world laid over the blocks.
+    ensures finds { TellsFiles F.shows → (saved : Saved) (parts : List BlockPart)
+        (events : List Change) → (s : HasStore F.shows F.kept saved parts events folder)
+        → begins_plain s.file ≡ false → IfOk result (λ x. (w : World)
+        × (replayed (origin_of saved parts).world events ≡ Ok w)
+        × FindsNow F.moment F.left_since x.1 (other_of (origin_of saved parts)
+        (with_beneath opening.now.blocks opening.now.floor w))) }
+    // After an `Err` it finds the store as it was, unless the journal was lost.
+    ensures stays { TellsFiles F.shows → (saved : Saved) (parts : List BlockPart)
+        (events : List Change) → (s : HasStore F.shows F.kept saved parts events folder)
+        → begins_plain s.file ≡ false → IfErr result (λ e.
+        (e.0 ≡ ChangeFault.Roll (RollFault.Folder RollError.Lost) → ⊥)
+        → StaysNow F.moment F.left_since e.1 (origin_of saved parts) events) }
+    // Of a folder that is refused, nothing is changed.
+    ensures unchanged { IfErr result (λ e. (cause : StartError) → e.0 ≡ ChangeFault.Open cause
+        → (cause ≡ StartError.Medium → ⊥)
+        → Untouched F.shows F.kept F.moment F.left_since folder e.1) }
+    // That there is no store is told only of a folder that has no journal.
+    ensures none { IfErr result (λ e. e.0 ≡ ChangeFault.NoStore
+        → F.shows e.1 journal_name None) }
+    // Where the journal is not one of events alone, what is changed is a store that was there. So a
+    // folder with a damaged journal, or without a file of a block that the journal names, stays as
+    // it is.
+    ensures safe { TellsFiles F.shows → (file : List ℕ)
+        → F.shows folder journal_name (Some file) → begins_plain file ≡ false
+        → MatchResult result
+        (λ y. Changes F.shows F.kept F.moment F.left_since
+        (IsAddedTo opening.now.blocks opening.now.floor) folder y.1)
+        (λ e. MayChange F.shows F.kept F.moment F.left_since
+        (IsAddedTo opening.now.blocks opening.now.floor) folder e.1) }
+    // Of a journal of events alone, a crash at any moment of the call leaves it as it was or with a
+    // head; or a start finds the world of its events, or it laid over the blocks.
+    ensures plain { TellsFiles F.shows → (file : List ℕ)
+        → HasFile F.shows F.kept journal_name file folder → begins_plain file ≡ true
+        → MatchResult result
+        (λ y. LeavesOnly F.moment F.left_since folder y.1
+        (PlainOrFinds file (IsAddedTo opening.now.blocks opening.now.floor)))
+        (λ e. LeavesOnly F.moment F.left_since folder e.1
+        (PlainOrFinds file (IsAddedTo opening.now.blocks opening.now.floor))) }
+    ensures plain_finds { TellsFiles F.shows → (file : List ℕ)
+        → F.shows folder journal_name (Some file) → begins_plain file ≡ true
+        → IfOk result (λ x. (events : List Change) × (w : World) × Stands [] file events
+        × (replayed (beginning Whole).world events ≡ Ok w)
+        × FindsNow F.moment F.left_since x.1 (other_of (beginning Whole)
+        (with_beneath opening.now.blocks opening.now.floor w))) }
+    // In a folder without a journal, where a block lies nothing is changed: who has lost a journal
+    // shall not lose the blocks as well.
+    ensures blocks { TellsFiles F.shows → F.shows folder journal_name None
+        → HasBlocks F.shows F.lists F.kept F.moment F.left_since folder
+        → MatchResult result (λ x. ⊥)
+        (λ e. Untouched F.shows F.kept F.moment F.left_since folder e.1) }
+    // Else a crash at any moment of the call leaves no journal, or that of a store that has nothing
+    // or has the blocks; and after `Ok` a start finds these.
+    ensures first { TellsFiles F.shows → F.shows folder journal_name None
+        → F.kept folder journal_name 0 → MatchResult result
+        (λ x. LeavesOnly F.moment F.left_since folder x.1
+        (NoneOrFinds (IsAddedTo opening.now.blocks opening.now.floor)))
+        (λ e. LeavesOnly F.moment F.left_since folder e.1
+        (NoneOrFinds (IsAddedTo opening.now.blocks opening.now.floor))) }
+    ensures first_finds { TellsFiles F.shows → F.shows folder journal_name None
+        → IfOk result (λ x. FindsNow F.moment F.left_since x.1 (other_of (beginning Whole)
+        (with_beneath opening.now.blocks opening.now.floor (beginning Whole).world))) }
+    // What stands at the top and is none of the store's stays.
+    ensures foreign { MatchResult result
+        (λ x. KeepsForeign F.shows F.kept folder x.1)
+        (λ e. KeepsForeign F.shows F.kept folder e.1) }
+{
+    let mut folder = folder;
+    match open_store(alloc, &mut folder) {
+        Ok(opened) => match opened {
+            Some(store) => add_found(alloc, Found { folder, store }, opening),
+            None => add_first(alloc, folder, opening),
+        },
+        Err(error) => Err((ChangeFault::Open(error), folder)),
+    }
+}

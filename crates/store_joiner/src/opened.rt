@@ -1,0 +1,146 @@
+//! The store of a folder, with what its journal has saved.
+
+ghost use Rattle.std.specs.Prelude.{◌≡◌, List, [], IfErr, IfOk, MatchResult, Ok, map, true};
+ghost use Rattle.data_folder.specs.Folders.{Untouched};
+ghost use Rattle.data_folder.specs.Sweeping.{KeepsForeign};
+ghost use Rattle.head.specs.Blocks.{part_in};
+ghost use Rattle.head.specs.Heads.{BlockPart};
+ghost use Rattle.head.specs.Worlds.{Event as Change};
+ghost use Rattle.head_record.specs.Saved.{Saved};
+ghost use Rattle.store_folder.specs.Faults.{IsStoreOf, TellsFiles};
+ghost use Rattle.store_folder.specs.Finding.{IsFoundStore};
+ghost use Rattle.store_folder.specs.Starting.{StartFinds};
+ghost use Rattle.store_folder.specs.States.{IsAfter, origin_of};
+ghost use Rattle.store_joiner.specs.Stores.{HasStoreFor, HasStore, IsLater};
+
+use crate::error::ChangeFault;
+use data_folder::Folder;
+use std::alloc::Global;
+use std::marker::Brand;
+use store_folder::{Beginning, FoundStore, StartedStore, read_store, resume_store};
+
+/// A folder, and the store that was found in it.
+#[derive(Drop)]
+pub(crate) struct Found<F: Drop> {
+    pub(crate) folder: F,
+    pub(crate) store: FoundStore,
+}
+
+/// The store of a folder, of which the journal has no events. Nothing is changed.
+pub(crate) fn read_again<F: Folder + Drop>(
+    alloc: Global,
+    folder: F,
+) -> Result<Found<F>, (ChangeFault, F)>
+    requires { F.sound folder ≡ true }
+    ensures sound { IfOk result (λ found. F.sound found.folder ≡ true) }
+    ensures found { IfOk result (λ found. IsFoundStore F.shows F.kept found.store.journal
+        (map part_in found.store.blocks.items) found.folder) }
+    ensures saved { IfOk result (λ found. found.store.journal.events.items ≡ []) }
+    ensures untouched { MatchResult result
+        (λ found. Untouched F.shows F.kept F.moment F.left_since folder found.folder)
+        (λ e. Untouched F.shows F.kept F.moment F.left_since folder e.1) }
+    // Of a folder that tells what its files have it is the store that lies there.
+    ensures only { TellsFiles F.shows → (saved : Saved) (parts : List BlockPart)
+        (events : List Change) → HasStore F.shows F.kept saved parts events folder
+        → IfOk result (λ found. IsStoreOf saved parts events found.store) }
+    ensures later { IfErr result (λ e. IsLater e.0) }
+{
+    let mut folder = folder;
+    match read_store(alloc, &mut folder) {
+        Ok(found) => match found {
+            Some(store) => {
+                if store.journal.events.is_empty() {
+                    Ok(Found { folder, store })
+                } else {
+                    Err((ChangeFault::Changed, folder))
+                }
+            }
+            None => Err((ChangeFault::Changed, folder)),
+        },
+        Err(error) => Err((ChangeFault::Again(error), folder)),
+    }
+}
+
+/// Saves what the events of a store's journal make, in their place. The folder.
+fn save_events<N: Beginning, F: Folder + Drop>(
+    alloc: Global,
+    found: Found<F>,
+) -> Result<F, (ChangeFault, F)>
+    requires sound { F.sound found.folder ≡ true }
+    requires found { IsFoundStore F.shows F.kept found.store.journal
+        (map part_in found.store.blocks.items) found.folder }
+    requires first { N.first ≡ origin_of found.store.journal.head
+        (map part_in found.store.blocks.items) }
+    ensures sound { IfOk result (λ folder. F.sound folder ≡ true) }
+    // A crash at any moment of the call leaves what stands for the same events.
+    ensures any_moment { MatchResult result
+        (λ folder. StartFinds F.moment F.left_since found.folder folder N.first
+        found.store.journal.events.items)
+        (λ e. StartFinds F.moment F.left_since found.folder e.1 N.first
+        found.store.journal.events.items) }
+    ensures has { IfOk result (λ folder. HasStoreFor F.shows F.kept N.first
+        found.store.journal.events.items folder) }
+    ensures later { IfErr result (λ e. IsLater e.0) }
+    ensures foreign { MatchResult result
+        (λ x. KeepsForeign F.shows F.kept found.folder x)
+        (λ e. KeepsForeign F.shows F.kept found.folder e.1) }
+{
+    let Found { folder, store } = found;
+    let kept: StartedStore<N, F> = match resume_store(alloc, folder, store, 0) {
+        Ok(kept) => kept,
+        Err((error, folder)) => return Err((ChangeFault::Resume(error), folder)),
+    };
+    let StartedStore {
+        snapshot,
+        keeper,
+        ..
+    } = kept;
+    let mut keeper = keeper;
+    match keeper.roll(alloc, &snapshot) {
+        Ok(_) => Ok(keeper.store.events.journal.medium.folder),
+        Err(fault) => Err((
+            ChangeFault::Roll(fault),
+            keeper.store.events.journal.medium.folder,
+        )),
+    }
+}
+
+/// A store with what its journal has saved: the journal has no events.
+pub(crate) fn save<F: Folder + Drop>(
+    alloc: Global,
+    found: Found<F>,
+) -> Result<Found<F>, (ChangeFault, F)>
+    requires sound { F.sound found.folder ≡ true }
+    requires found { IsFoundStore F.shows F.kept found.store.journal
+        (map part_in found.store.blocks.items) found.folder }
+    ensures sound { IfOk result (λ x. F.sound x.folder ≡ true) }
+    ensures found { IfOk result (λ x. IsFoundStore F.shows F.kept x.store.journal
+        (map part_in x.store.blocks.items) x.folder) }
+    ensures saved { IfOk result (λ x. x.store.journal.events.items ≡ []) }
+    // A crash at any moment of the call leaves what stands for the same events.
+    ensures any_moment { MatchResult result
+        (λ x. StartFinds F.moment F.left_since found.folder x.folder
+        (origin_of found.store.journal.head (map part_in found.store.blocks.items))
+        found.store.journal.events.items)
+        (λ e. StartFinds F.moment F.left_since found.folder e.1
+        (origin_of found.store.journal.head (map part_in found.store.blocks.items))
+        found.store.journal.events.items) }
+    // Of a folder that tells what its files have, the store then begins with the world that the
+    // events make, and its values mean what they meant.
+    ensures after { TellsFiles F.shows → IfOk result (λ x. IsAfter
+        (origin_of found.store.journal.head (map part_in found.store.blocks.items))
+        found.store.journal.events.items x.store.journal.head
+        (map part_in x.store.blocks.items)) }
+    ensures later { IfErr result (λ e. IsLater e.0) }
+    ensures foreign { MatchResult result
+        (λ x. KeepsForeign F.shows F.kept found.folder x.folder)
+        (λ e. KeepsForeign F.shows F.kept found.folder e.1) }
+{
+    if found.store.journal.events.is_empty() {
+        return Ok(found);
+    }
+    match save_events::<Brand, F>(alloc, found) {
+        Ok(folder) => read_again(alloc, folder),
+        Err(fault) => Err(fault),
+    }
+}
