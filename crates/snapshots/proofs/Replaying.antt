@@ -1,5 +1,5 @@
 -- One event more after a replay.
-use Rattle.std.proofs.Common.{◌≡◌, ℤ, List, [], ◌∷◌, ◌++◌, map, Result, Ok, Err, IfErr, OnErr, refl, sym, ap, ◌∙◌, subst, inl, inr}
+use Rattle.std.proofs.Common.{◌≡◌, ℤ, List, [], ◌∷◌, ◌++◌, map, Option, Some, Result, Ok, Err, IfErr, OnErr, refl, sym, ap, ◌∙◌, subst, inl, inr}
 use Rattle.std.proofs.lemmas.List.{map_push}
 use mathlib.Core.List.{IsPrefix}
 use Rattle.head.specs.Kept.{KeepsBlocks, frame_of}
@@ -14,7 +14,7 @@ use Rattle.matchers.specs.Views.{MatcherView}
 use Rattle.snapshots.specs.declared.entry.Entry.{Entry}
 use Rattle.logbook.specs.Pages.{Book}
 use Rattle.snapshots.specs.Grows.{Shows}
-use Rattle.snapshots.specs.Replays.{events_in, IsAfter, Steps, Leads, KeepsFrames, IsEventRefusal, IsOfStore, IsRefusedAfter}
+use Rattle.snapshots.specs.Replays.{events_in, IsAfter, Steps, Leads, KeepsFrames, IsEventRefusal, IsOfStore, IsRefusedAfter, IsRefusedBy}
 use Rattle.snapshots.specs.Seats.{SeatView, IsMetBy}
 use Rattle.snapshots.specs.Views.{Edition, Ledger}
 use Rattle.snapshots.proofs.Prefixes.{prefix_self, prefix_trans}
@@ -90,6 +90,25 @@ refused_met opening seat seat_after event old new (Err e) kept after refused met
       met = met other;
       step = refused other;
     }
+
+-- what refuses it refuses it after the list of a receipt of all that was tried
+pub refused_at : (opening : SnapshotParts) (seat : SeatView) (event : Event) (e : CommitError)
+    (old new : Ledger) → new ≡ old → IsAfter opening new.entries new.parts
+    → IsEventRefusal e old.parts event → (¬ IsOfStore e → IsMetBy seat old.entries)
+    → (list : List Entry) → list ≡ old.entries → IsRefusedBy opening seat e event (Some list)
+refused_at opening seat event e old new kept after refused met list is = λ other. record {
+  snapshot = old.parts;
+  after = subst (λ (es : List Entry). IsAfter opening es old.parts) (sym is)
+      (subst (λ (l : Ledger). IsAfter opening l.entries l.parts) kept after);
+  met = subst (λ (es : List Entry). IsMetBy seat es) (sym is) (met other);
+  step = refused other;
+}
+
+-- a refusal of the store's own wants no receipt
+pub refused_by_store : (opening : SnapshotParts) (seat : SeatView) (event : Event)
+    (e : CommitError) (met : Option (List Entry)) → IsOfStore e
+    → IsRefusedBy opening seat e event met
+refused_by_store opening seat event e met is = λ other. absurd (other is)
 
 -- the step of a deletion refuses nothing
 pub deletion_refused : (opening : SnapshotParts) (seat : SeatView) (e : CommitError)

@@ -19,7 +19,7 @@ use Rattle.snapshots.specs.Views.{Edition, Ledger}
 use Rattle.snapshots.proofs.Accepts.{accepted_begins, accepted_begins_tried, accepted_seal, accepted_try, accepted_void, known, list_begins, list_done, list_seal, list_try, tried_done, tried_seal, tried_try}
 use Rattle.snapshots.proofs.Counting.{counts_next}
 use Rattle.snapshots.proofs.Keeps.{kept_more, spell_nothing}
-use Rattle.snapshots.proofs.Prefixes.{prefix_length, prefix_trans, prefix_whole}
+use Rattle.snapshots.proofs.Prefixes.{prefix_length, prefix_self, prefix_trans, prefix_whole}
 use Rattle.snapshots.proofs.Replaying.{after-snoc}
 
 -- the list that the next event is tried after is all that was tried, unless that is given up
@@ -257,6 +257,10 @@ group_as opening idle log other s t m n old new a b d e is_group =
 pub seen_begins : (waits : Bool) (xs ys : List Mark) (seen : List Entry) → IsPrefix seen (accepted xs) → IsPrefix xs ys → IsPrefix seen (current waits ys)
 seen_begins true xs ys seen is p = prefix_trans seen (accepted ys) (tried_of ys) (known xs ys seen is p) (accepted_begins_tried ys)
 seen_begins false xs ys seen is p = known xs ys seen is p
+
+pub published_begins : (waits : Bool) (log : List Mark) → IsPrefix (accepted log) (current waits log)
+published_begins true log = accepted_begins_tried log
+published_begins false log = prefix_self (accepted log)
 
 cancel : {A : Type 0} (xs ys zs : List A) → xs ++ ys ≡ xs ++ zs → ys ≡ zs
 cancel [] ys zs e = e

@@ -1,5 +1,5 @@
 -- What a list of published events makes of the opening snapshot.
-use Rattle.std.specs.Prelude.{◌≡◌, ℕ, List, [], ◌∷◌, ◌++◌, Ok, map}
+use Rattle.std.specs.Prelude.{◌≡◌, ℕ, List, [], ◌∷◌, ◌++◌, Ok, Option, MatchOption, map}
 use mathlib.Core.List.{IsPrefix}
 use Rattle.head.specs.Batches.{CopiesFew}
 use Rattle.head.specs.Kept.{KeepsBlocks, frame_of}
@@ -78,6 +78,21 @@ pub record IsRefusedOnceMet (opening : SnapshotParts) (seat : SeatView) (e : Com
   pub after : IsAfter opening before snapshot
   pub met : IsMetBy seat before
   pub step : IsStepRefusal e (stepped (world_of snapshot) event)
+
+-- the event's step is refused so after this very list, which the seat may meet
+pub record IsRefusedAt (opening : SnapshotParts) (seat : SeatView) (e : CommitError)
+    (event : Event) (list : List Entry) : Type 0 where
+  pub snapshot : SnapshotParts
+  pub after : IsAfter opening list snapshot
+  pub met : IsMetBy seat list
+  pub step : IsStepRefusal e (stepped (world_of snapshot) event)
+
+-- The refusal is the store's own, or there is a receipt, and the event's step is refused so after
+-- the receipt's list: what others have published, and no list that never was.
+abbrev pub IsRefusedBy : SnapshotParts → SeatView → CommitError → Event → Option (List Entry)
+    → Type 0
+IsRefusedBy opening seat e event met =
+    ¬ IsOfStore e → MatchOption met ⊥ (λ list. IsRefusedAt opening seat e event list)
 
 -- The refusal is one that a store can give, whatever others have published: its own, of which no
 -- more is said, or that of the event's step after a list that the seat may meet.

@@ -9,7 +9,8 @@ ghost use Rattle.labels.specs.Contents.{is_time};
 ghost use Rattle.head.specs.BatchRows.{batch_of_rows};
 ghost use Rattle.head.specs.Batches.{is_deletion};
 ghost use Rattle.head.specs.Worlds.{batch, deletion, cut, matchers_of};
-ghost use Rattle.snapshots.specs.Replays.{EndsWith, AreAccepted, IsRefusedAfter, IsOfStore};
+ghost use Rattle.snapshots.specs.Replays.{EndsWith, AreAccepted, IsRefusedAfter, IsRefusedBy};
+ghost use Rattle.snapshots.specs.Replays.{IsOfStore};
 ghost use Rattle.snapshots.specs.Seats.{HasOneMoreEvent};
 ghost use Rattle.snapshots.specs.Sifts.{IsSiftedOnceMet};
 ghost use Rattle.snapshots.specs.Trials.{list_in, published_in};
@@ -21,6 +22,7 @@ use crate::keeping::record_of;
 use crate::naming::Naming;
 use crate::prefix::LogPrefix;
 use crate::receipt::Receipt;
+use crate::refused::Refused;
 use crate::seat::Seat;
 use crate::sift::{Screened, Trial};
 use crate::sifted::Sifted;
@@ -142,19 +144,22 @@ impl<J: Naming, R: Wait + Drop, K: Keeper + Drop> Committer<J, R, K> {
         rt: &W,
         seat: &mut Seat<J>,
         change: C,
-    ) -> Result<Receipt<J>, (C, CommitError)>
+    ) -> Result<Receipt<J>, (C, Refused<J>)>
         ensures ends { IfOk result (λ r. EndsWith (C.event change) seat.old.number r) }
         ensures accepted { IfOk result (λ r. AreAccepted J.opening r) }
         ensures held { IfOk result (λ r. AreHeld K.holds J.before r) }
         ensures counted { IfOk result (λ r. HasOneMoreEvent seat.old seat.new r) }
         ensures kept { IfErr result (λ e. (e.0 ≡ change) × (seat.new ≡ seat.old)) }
         ensures refused { IfErr result (λ e.
-            IsRefusedAfter J.opening seat.old e.1 (C.event change)) }
-        ensures journal { IfErr result (λ e. e.1 ≡ CommitError.Journal → K.idle ≡ false) }
+            IsRefusedAfter J.opening seat.old e.1.error (C.event change)) }
+        ensures met { IfErr result (λ e.
+            IsRefusedBy J.opening seat.old e.1.error (C.event change) e.1.met) }
+        ensures known { IfErr result (λ e. IfSome e.1.met (λ r. AreHeld K.holds J.before r)) }
+        ensures journal { IfErr result (λ e. e.1.error ≡ CommitError.Journal → K.idle ≡ false) }
     {
         let bytes = match record_of::<C, K>(self.alloc, &change) {
             Ok(bytes) => bytes,
-            Err(error) => return Err((change, error)),
+            Err(error) => return Err((change, Refused { error, met: None })),
         };
         let mut tip = self.tip.lock(rt);
         match tip.step(rt, seat, &change, &bytes) {
@@ -163,15 +168,27 @@ impl<J: Naming, R: Wait + Drop, K: Keeper + Drop> Committer<J, R, K> {
                     seat.add_one(&receipt);
                     Ok(receipt)
                 }
-                Err(error) => Err((change, error)),
+                Err(error) => Err((change, Refused { error, met: None })),
             },
-            Err(error) => match tip.trial() {
-                None => Err((change, error)),
-                Some(trial) => match self.settle(rt, tip, &trial) {
-                    Ok(_) => Err((change, error)),
-                    Err(given_up) => Err((change, given_up)),
-                },
-            },
+            Err(error) => {
+                let before = tip.standing();
+                match self.receipt_of(rt, tip, before) {
+                    Ok(receipt) => Err((
+                        change,
+                        Refused {
+                            error,
+                            met: Some(receipt),
+                        },
+                    )),
+                    Err(given_up) => Err((
+                        change,
+                        Refused {
+                            error: given_up,
+                            met: None,
+                        },
+                    )),
+                }
+            }
         }
     }
 
@@ -179,29 +196,32 @@ impl<J: Naming, R: Wait + Drop, K: Keeper + Drop> Committer<J, R, K> {
     /// begins with that of the seat's last receipt and ends with the batch. A keeper holds it by
     /// then (`held`), and each pass that learns the receipt sees it from then on. Its refusals are
     /// memory's, `E7`, where the seat's count is not the store's, `E8`, if the batch is not kept,
-    /// and `E1` to `E4`. With each of those four the batch's step is refused after some list of
-    /// accepted events that begins with the list of the seat's last receipt and has no event more
-    /// under the seat's number. A refusal gives the appender back and leaves the seat. It waits for
-    /// the committer's lock, until its batch is kept, which others may do with theirs, and for the
-    /// readers of the version before.
+    /// and `E1` to `E4`. With each of those four comes the receipt of the list after which the
+    /// batch's step is refused (`met`), which a keeper holds too (`known`). It begins with the list
+    /// of the seat's last receipt and has no event more under the seat's number. A refusal gives
+    /// the appender back and leaves the seat. It waits for the committer's lock, until its batch is
+    /// kept, which others may do with theirs, and for the readers of the version before.
     pub fn commit(
         &self,
         rt: &impl Wait,
         seat: &mut Seat<J>,
         appender: Appender,
-    ) -> Result<Receipt<J>, (Appender, CommitError)>
+    ) -> Result<Receipt<J>, (Appender, Refused<J>)>
         ensures ends { IfOk result (λ r. EndsWith (batch appender) seat.old.number r) }
         ensures accepted { IfOk result (λ r. AreAccepted J.opening r) }
         ensures held { IfOk result (λ r. AreHeld K.holds J.before r) }
         ensures counted { IfOk result (λ r. HasOneMoreEvent seat.old seat.new r) }
         ensures kept { IfErr result (λ e. (e.0 ≡ appender) × (seat.new ≡ seat.old)) }
         ensures refused { IfErr result (λ e.
-            IsRefusedAfter J.opening seat.old e.1 (batch appender)) }
-        ensures journal { IfErr result (λ e. e.1 ≡ CommitError.Journal → K.idle ≡ false) }
+            IsRefusedAfter J.opening seat.old e.1.error (batch appender)) }
+        ensures met { IfErr result (λ e.
+            IsRefusedBy J.opening seat.old e.1.error (batch appender) e.1.met) }
+        ensures known { IfErr result (λ e. IfSome e.1.met (λ r. AreHeld K.holds J.before r)) }
+        ensures journal { IfErr result (λ e. e.1.error ≡ CommitError.Journal → K.idle ≡ false) }
     {
         match self.step(rt, seat, appender.into_event()) {
             Ok(receipt) => Ok(receipt),
-            Err((event, refusal)) => Err((Appender::of_batch(event), refusal)),
+            Err((event, refused)) => Err((Appender::of_batch(event), refused)),
         }
     }
 
@@ -213,7 +233,7 @@ impl<J: Naming, R: Wait + Drop, K: Keeper + Drop> Committer<J, R, K> {
         rt: &impl Wait,
         seat: &mut Seat<J>,
         rows: RowBatch,
-    ) -> Result<Receipt<J>, (RowBatch, CommitError)>
+    ) -> Result<Receipt<J>, (RowBatch, Refused<J>)>
         ensures ends { IfOk result (λ r.
             EndsWith (batch (batch_of_rows rows)) seat.old.number r) }
         ensures accepted { IfOk result (λ r. AreAccepted J.opening r) }
@@ -221,8 +241,11 @@ impl<J: Naming, R: Wait + Drop, K: Keeper + Drop> Committer<J, R, K> {
         ensures counted { IfOk result (λ r. HasOneMoreEvent seat.old seat.new r) }
         ensures kept { IfErr result (λ e. (e.0 ≡ rows) × (seat.new ≡ seat.old)) }
         ensures refused { IfErr result (λ e.
-            IsRefusedAfter J.opening seat.old e.1 (batch (batch_of_rows rows))) }
-        ensures journal { IfErr result (λ e. e.1 ≡ CommitError.Journal → K.idle ≡ false) }
+            IsRefusedAfter J.opening seat.old e.1.error (batch (batch_of_rows rows))) }
+        ensures met { IfErr result (λ e.
+            IsRefusedBy J.opening seat.old e.1.error (batch (batch_of_rows rows)) e.1.met) }
+        ensures known { IfErr result (λ e. IfSome e.1.met (λ r. AreHeld K.holds J.before r)) }
+        ensures journal { IfErr result (λ e. e.1.error ≡ CommitError.Journal → K.idle ≡ false) }
     {
         self.step(rt, seat, rows)
     }
@@ -298,34 +321,31 @@ impl<J: Naming, R: Wait + Drop, K: Keeper + Drop> Committer<J, R, K> {
     {
         match self.step(rt, seat, Event::deletion(matchers, from, to)) {
             Ok(receipt) => Ok(receipt),
-            Err((event, refusal)) => Err((matchers_in(event), refusal)),
+            Err((event, refused)) => Err((matchers_in(event), refused.error)),
         }
     }
 
     /// Publishes a cut at a time, in milliseconds, under the seat's number: the head's samples
     /// below it become a block, and from then on none below it is committed. Its refusals are
-    /// memory's, `E7`, `E8`, and three that hold after such a list as [`Committer::commit`] names:
+    /// memory's, `E7`, `E8`, and three that come with a receipt as those of [`Committer::commit`]:
     /// `E5` where the time is not above the floor, `E6` where there are 63 blocks, `E4` where a
     /// file of the block would be too long. After a refusal the seat stays. It waits as
     /// [`Committer::commit`] does.
-    pub fn cut(
-        &self,
-        rt: &impl Wait,
-        seat: &mut Seat<J>,
-        at: i64,
-    ) -> Result<Receipt<J>, CommitError>
+    pub fn cut(&self, rt: &impl Wait, seat: &mut Seat<J>, at: i64) -> Result<Receipt<J>, Refused<J>>
         requires { IsTrue (is_time at) }
         ensures ends { IfOk result (λ r. EndsWith (cut at) seat.old.number r) }
         ensures accepted { IfOk result (λ r. AreAccepted J.opening r) }
         ensures held { IfOk result (λ r. AreHeld K.holds J.before r) }
         ensures counted { IfOk result (λ r. HasOneMoreEvent seat.old seat.new r) }
         ensures kept { OnErr result (seat.new ≡ seat.old) }
-        ensures refused { IfErr result (λ e. IsRefusedAfter J.opening seat.old e (cut at)) }
-        ensures journal { IfErr result (λ e. e ≡ CommitError.Journal → K.idle ≡ false) }
+        ensures refused { IfErr result (λ e. IsRefusedAfter J.opening seat.old e.error (cut at)) }
+        ensures met { IfErr result (λ e. IsRefusedBy J.opening seat.old e.error (cut at) e.met) }
+        ensures known { IfErr result (λ e. IfSome e.met (λ r. AreHeld K.holds J.before r)) }
+        ensures journal { IfErr result (λ e. e.error ≡ CommitError.Journal → K.idle ≡ false) }
     {
         match self.step(rt, seat, Event::cut(at)) {
             Ok(receipt) => Ok(receipt),
-            Err((_event, refusal)) => Err(refusal),
+            Err((_event, refused)) => Err(refused),
         }
     }
 

@@ -92,7 +92,7 @@ impl<J: Naming, K: Keeper> Tip<J, K> {
     }
 
     /// All that was tried, if anything waits; else what is published.
-    fn standing(&mut self) -> Trial<J>
+    pub(crate) fn standing(&mut self) -> Trial<J>
         ensures list { list_in result ≡ self.old.entries }
         ensures held { IfSome (published_in result) (λ r. AreHeld K.holds J.before r) }
         ensures same { self.new ≡ self.old }

@@ -324,6 +324,8 @@ impl<J: Naming, K: Keeper> Tip<J, K> {
         // What is given up is not published.
         ensures gone { IfErr result (λ e.
             ¬ IsPrefix (tried_of trial.now) self.old.published) }
+        // And it does not wait, so that it is never published, unless it is tried anew.
+        ensures lost { IfErr result (λ e. ¬ IsPrefix (tried_of trial.now) self.old.entries) }
         ensures refused { IfErr result (λ e. IsFailure K.idle e) }
         ensures same { self.new ≡ self.old }
     {
@@ -426,6 +428,8 @@ impl<J: Naming, K: Keeper> Tip<J, K> {
         ensures published { MatchOption result (self.new.published ≡ self.old.published)
             (λ log. self.new.published ≡ accepted log) }
         ensures tried { self.new.entries ≡ self.old.entries }
+        // Nothing is published but what waited.
+        ensures ordered { IsPrefix self.new.published self.new.entries }
     {
         let Group {
             log,

@@ -1,6 +1,6 @@
 //! The moves of what is published and of what waits.
 
-ghost use Rattle.std.specs.Prelude.{◌≡◌, MatchBool, OnOk, OnErr};
+ghost use Rattle.std.specs.Prelude.{◌≡◌, false, MatchBool, OnOk, OnErr};
 ghost use Rattle.std.specs.Arc.{arc_value};
 ghost use Rattle.snapshots.specs.Marks.{accepted, tried_of};
 ghost use Rattle.snapshots.specs.Standings.{StandsFor, current};
@@ -15,7 +15,7 @@ use std::alloc::{AllocError, Global};
 
 /// Whether what waited was given up, and not all who tried know it yet.
 pub fn is_given_up<J: Naming>(waits: bool, log: &LogPrefix<J>) -> bool
-    ensures { MatchBool result (Unit {0})
+    ensures { MatchBool result (waits ≡ false)
         (MatchBool waits (Unit {0}) (accepted log.now ≡ tried_of log.now)) }
 {
     if waits {

@@ -3,7 +3,7 @@ use Rattle.std.specs.Arc.{arc_value}
 use Rattle.snapshots.specs.Marks.{accepted, list_of}
 use Rattle.snapshots.specs.Views.{Ledger}
 use Rattle.snapshots.proofs.Held.{held_as}
-use Rattle.snapshots.proofs.Tips.{accepted_done, behind_kept, behind_while, done_behind, done_current, done_stands, listed, stands_tried}
+use Rattle.snapshots.proofs.Tips.{accepted_done, behind_kept, behind_while, done_behind, done_current, done_stands, listed, published_begins, stands_tried}
 use Rattle.snapshots.proofs.tip.Tip.publish.Goals as goal
 
 pub invariant_of-self-2 : goal.invariant_of-self-2
@@ -48,3 +48,18 @@ add_done-requires-clause-held g c =
     (listed g.J.Naming.book g.J.Naming.opening g.K.Keeper.idle group.log t.log (arc_value group.standing.snapshot) group.standing.counts.items group.records.items
     c.requires.group c.if-not-lists.ensures.lists)
     c.requires.held
+
+pub returns-then-not-self-clause-ordered : goal.returns-then-not-self-clause-ordered
+returns-then-not-self-clause-ordered g c = published_begins c.self.inside.waits c.self.inside.log
+
+pub returns-then-not-has_room-clause-ordered : goal.returns-then-not-has_room-clause-ordered
+returns-then-not-has_room-clause-ordered g c = published_begins c.self.inside.waits c.self.inside.log
+
+pub returns-then-not-lists-clause-ordered : goal.returns-then-not-lists-clause-ordered
+returns-then-not-lists-clause-ordered g c = published_begins c.self.inside.waits c.self.inside.log
+
+pub returns-then-not-published-clause-ordered : goal.returns-then-not-published-clause-ordered
+returns-then-not-published-clause-ordered g c = published_begins c.self.inside.waits c.self.inside.log
+
+pub returns-clause-ordered : goal.returns-clause-ordered
+returns-clause-ordered g c = published_begins (not c.is_settled.result) c.add_done.new.self
