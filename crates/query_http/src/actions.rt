@@ -179,7 +179,7 @@ fn write<J: Naming, C: Wait + Drop, K: Keeper + Drop>(
             pass.learn(&receipt);
             Ok(done)
         }
-        Err((_rows, error)) => event_refusal_reply(alloc, error),
+        Err((_rows, refused)) => event_refusal_reply(alloc, refused.error),
     }
 }
 
@@ -231,7 +231,7 @@ fn cut_at<J: Naming, C: Wait + Drop, K: Keeper + Drop>(
             pass.learn(&receipt);
             Ok(done)
         }
-        Err(error) => event_refusal_reply(alloc, error),
+        Err(refused) => event_refusal_reply(alloc, refused.error),
     }
 }
 

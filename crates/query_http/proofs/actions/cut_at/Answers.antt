@@ -9,7 +9,7 @@ use Rattle.query_http.proofs.actions.cut_at.Goals as goal
 pub returns-in-Err-clause-reply : goal.returns-in-Err-clause-reply
 returns-in-Err-clause-reply g c =
     event_refused g.J.Naming.opening g.K.Keeper.idle (cut c.args.at) (worker c.args.pass.now c.args.seat.now) _
-    c.in-Err.error c.event_refusal_reply.result
+    c.in-Err.refused.error c.event_refusal_reply.result
     (ap (worker _) c.in-Err.ensures.kept)
     (rw (to_z-of_z w64 c.args.at c.ranges.at) at c.in-Err.ensures.refused)
     c.in-Err.ensures.journal

@@ -9,7 +9,7 @@ use Rattle.query_http.proofs.actions.write.Goals as goal
 pub returns-in-Err-clause-reply : goal.returns-in-Err-clause-reply
 returns-in-Err-clause-reply g c =
     event_refused g.J.Naming.opening g.K.Keeper.idle (batch (batch_of_rows c.args.rows.items))
-    (worker c.args.pass.now c.args.seat.now) _ c.in-Err.error c.event_refusal_reply.result
+    (worker c.args.pass.now c.args.seat.now) _ c.in-Err.refused.error c.event_refusal_reply.result
     (ap (worker _) c.in-Err.ensures.kept.1)
     (rw c.new.ensures at c.in-Err.ensures.refused)
     c.in-Err.ensures.journal
