@@ -4,6 +4,7 @@ pub mod Fillings
 pub mod Sums
 pub mod Publishes
 pub mod Kept
+pub mod Listed
 pub mod Answered
 pub mod Means
 pub mod Served

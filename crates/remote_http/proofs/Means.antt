@@ -15,11 +15,14 @@ use Rattle.head.specs.BatchRows.{batch_of_rows, pairs_with}
 use Rattle.remote_write.specs.Format.{SampleValue, SeriesValue}
 use Rattle.remote_requests.specs.declared.asked.Asked.{Asked}
 use Rattle.remote_requests.specs.declared.asked.Asked.TheVariants.{Write, Read, BuildInfo}
+use Rattle.remote_requests.specs.declared.asked.Asked.TheVariants.{List as ListAsked}
 use Rattle.remote_requests.specs.declared.asked.Received.{Received}
 use Rattle.remote_requests.specs.declared.path.Path.{Path}
 use Rattle.remote_requests.specs.declared.path.Path.TheVariants as paths
 use Rattle.remote_requests.specs.declared.refusal.Refusal.{Refusal}
 use Rattle.remote_requests.specs.declared.refusal.Refusal.TheVariants as refusals
+use Rattle.remote_requests.specs.Asking.{ListingMeans, SelectorsMean, WantedMeans}
+use Rattle.remote_requests.specs.Parameters.{Wanted, wanted_of}
 use Rattle.remote_requests.specs.Admitting.{admission, refusal_of, refused_by}
 use Rattle.remote_requests.specs.Meaning.{AdmittedMeans, BodyMeans, FormMeans, MeansUnder, PathMeans, PostMeans}
 use Rattle.remote_requests.specs.Series.{are_few, day, has_row, is_kept, IsRowOf, IsSampleOf, kept_of, labels_in, points_in, points_of}
@@ -127,50 +130,79 @@ write_fits : (now : ℤ) (body : List ℕ) (asked : Asked) → WriteMeans now bo
 write_fits now body (Write received) m = received_fits now m.0 received m.1.few m.2
 write_fits now body (Read readings) m = absurd m
 write_fits now body BuildInfo m = absurd m
+write_fits now body (ListAsked listing) m = absurd m
 
 read_fits : (body : List ℕ) (asked : Asked) → ReadMeans body (Ok asked) → IsFit asked
 read_fits body (Write received) m = absurd m
 read_fits body (Read readings) m = tt
 read_fits body BuildInfo m = absurd m
+read_fits body (ListAsked listing) m = absurd m
 
 build_fits : (asked : Asked) → ok_of asked ≡ ok_of BuildInfo → IsFit asked
 unfolding ok_of
 build_fits (Write received) e = absurd (cc)
 build_fits (Read readings) e = tt
 build_fits BuildInfo e = tt
+build_fits (ListAsked listing) e = tt
 
-body_fits : (path : Path) (now : ℤ) (body : List ℕ) (asked : Asked) → BodyMeans path now body (Ok asked) → IsFit asked
+wanted_fits : (wanted : Result Wanted Refusal) (pairs : List (List ℕ × List ℕ)) (asked : Asked)
+    → WantedMeans wanted pairs (Ok asked) → IsFit asked
 unfolding ok_of
-body_fits paths.Write now body asked m = write_fits now body asked m
-body_fits paths.Read now body asked m = read_fits body asked m
-body_fits paths.BuildInfo now body asked m = build_fits asked m
+wanted_fits (Err refusal) pairs asked m = absurd (no_refusal asked refusal m)
+wanted_fits (Ok wanted) pairs (Write received) m = absurd m
+wanted_fits (Ok wanted) pairs (Read readings) m = absurd m
+wanted_fits (Ok wanted) pairs BuildInfo m = absurd m
+wanted_fits (Ok wanted) pairs (ListAsked listing) m = tt
 
-form_fits : (form : Result (Unit {0}) Refusal) (path : Path) (now : ℤ) (body : List ℕ) (asked : Asked)
-    → FormMeans form path now body (Ok asked) → IsFit asked
-unfolding ok_of
-form_fits (Err refusal) path now body asked m = absurd (no_refusal asked refusal m)
-form_fits (Ok fits) path now body asked m = body_fits path now body asked m
+listing_fits : (path : Path) (target body : List ℕ) (asked : Asked)
+    → ListingMeans path target body (Ok asked) → IsFit asked
+listing_fits path target body asked m = wanted_fits (wanted_of path target) _ asked m
 
-post_fits : (path : Path) (size : Result ℕ Refusal) (form : Result (Unit {0}) Refusal) (now : ℤ) (rest : List ℕ)
-    (asked : Asked) → PostMeans path size form now rest (Ok asked) → IsFit asked
+body_fits : (path : Path) (target : List ℕ) (now : ℤ) (body : List ℕ) (asked : Asked)
+    → BodyMeans path target now body (Ok asked) → IsFit asked
 unfolding ok_of
-post_fits path (Err refusal) form now rest asked m = absurd (no_refusal asked refusal m)
-post_fits path (Ok n) form now rest asked (inl m) = absurd (no_refusal asked refusals.BadLength m.1)
-post_fits path (Ok n) form now rest asked (inr m) = form_fits form path now (take n rest) asked m.1
+body_fits paths.Write target now body asked m = write_fits now body asked m
+body_fits paths.Read target now body asked m = read_fits body asked m
+body_fits paths.BuildInfo target now body asked m = build_fits asked m
+body_fits paths.Labels target now body asked m = listing_fits paths.Labels target body asked m
+body_fits paths.LabelsByForm target now body asked m = listing_fits paths.LabelsByForm target body asked m
+body_fits paths.Values target now body asked m = listing_fits paths.Values target body asked m
+body_fits paths.Series target now body asked m = listing_fits paths.Series target body asked m
+body_fits paths.SeriesByForm target now body asked m = listing_fits paths.SeriesByForm target body asked m
 
-path_fits : (path : Result Path Refusal) (size : Result ℕ Refusal) (form : Result (Unit {0}) Refusal) (now : ℤ)
-    (rest : List ℕ) (asked : Asked) → PathMeans path size form now rest (Ok asked) → IsFit asked
+form_fits : (form : Result (Unit {0}) Refusal) (path : Path) (target : List ℕ) (now : ℤ) (body : List ℕ)
+    (asked : Asked) → FormMeans form path target now body (Ok asked) → IsFit asked
 unfolding ok_of
-path_fits (Err refusal) size form now rest asked m = absurd (no_refusal asked refusal m)
-path_fits (Ok paths.BuildInfo) size form now rest asked m = build_fits asked m
-path_fits (Ok paths.Write) size form now rest asked m = post_fits paths.Write size form now rest asked m
-path_fits (Ok paths.Read) size form now rest asked m = post_fits paths.Read size form now rest asked m
+form_fits (Err refusal) path target now body asked m = absurd (no_refusal asked refusal m)
+form_fits (Ok fits) path target now body asked m = body_fits path target now body asked m
+
+post_fits : (path : Path) (target : List ℕ) (size : Result ℕ Refusal) (form : Result (Unit {0}) Refusal) (now : ℤ)
+    (rest : List ℕ) (asked : Asked) → PostMeans path target size form now rest (Ok asked) → IsFit asked
+unfolding ok_of
+post_fits path target (Err refusal) form now rest asked m = absurd (no_refusal asked refusal m)
+post_fits path target (Ok n) form now rest asked (inl m) = absurd (no_refusal asked refusals.BadLength m.1)
+post_fits path target (Ok n) form now rest asked (inr m) = form_fits form path target now (take n rest) asked m.1
+
+path_fits : (path : Result Path Refusal) (target : List ℕ) (size : Result ℕ Refusal) (form : Result (Unit {0}) Refusal)
+    (now : ℤ) (rest : List ℕ) (asked : Asked) → PathMeans path target size form now rest (Ok asked) → IsFit asked
+unfolding ok_of
+path_fits (Err refusal) target size form now rest asked m = absurd (no_refusal asked refusal m)
+path_fits (Ok paths.BuildInfo) target size form now rest asked m = build_fits asked m
+path_fits (Ok paths.Write) target size form now rest asked m = post_fits paths.Write target size form now rest asked m
+path_fits (Ok paths.Read) target size form now rest asked m = post_fits paths.Read target size form now rest asked m
+path_fits (Ok paths.Labels) target size form now rest asked m = listing_fits paths.Labels target [] asked m
+path_fits (Ok paths.LabelsByForm) target size form now rest asked m =
+    post_fits paths.LabelsByForm target size form now rest asked m
+path_fits (Ok paths.Values) target size form now rest asked m = listing_fits paths.Values target [] asked m
+path_fits (Ok paths.Series) target size form now rest asked m = listing_fits paths.Series target [] asked m
+path_fits (Ok paths.SeriesByForm) target size form now rest asked m =
+    post_fits paths.SeriesByForm target size form now rest asked m
 
 admitted_fits : (admitted : Result (Unit {0}) Refusal) (h : RequestHead) (now : ℤ) (rest : List ℕ) (asked : Asked)
     → AdmittedMeans admitted h now rest (Ok asked) → IsFit asked
 unfolding ok_of
 admitted_fits (Err refusal) h now rest asked m = absurd (no_refusal asked refusal m)
-admitted_fits (Ok u) h now rest asked m = path_fits _ _ _ now rest asked m
+admitted_fits (Ok u) h now rest asked m = path_fits _ h.target _ _ now rest asked m
 
 -- what is asked can be done
 pub means_fit : (rules : Rules) (now : ℤ) (bytes : List ℕ) (asked : Asked) → MeansUnder rules now bytes (Ok asked)

@@ -9,5 +9,6 @@ pub mod Workers
 pub mod Writing
 pub mod Reading
 pub mod Answering
+pub mod Listing
 pub mod Fitting
 pub mod Serving

@@ -8,6 +8,7 @@ use Rattle.head.specs.BatchRows.{batch_of_rows}
 use Rattle.head.specs.Heads.{SnapshotParts}
 use Rattle.remote_requests.specs.declared.asked.Asked.{Asked}
 use Rattle.remote_requests.specs.declared.asked.Asked.TheVariants.{Write, Read, BuildInfo}
+use Rattle.remote_requests.specs.declared.asked.Asked.TheVariants.{List as ListAsked}
 use Rattle.remote_requests.specs.declared.came.Came.{Came}
 use Rattle.remote_requests.specs.declared.refusal.Refusal.{Refusal}
 use Rattle.remote_requests.specs.declared.status.Status.{Status}
@@ -15,6 +16,7 @@ use Rattle.remote_requests.specs.declared.status.Status.TheVariants.{Done}
 use Rattle.remote_requests.specs.Admitting.{claims_of}
 use Rattle.remote_requests.specs.Meaning.{MeansUnder, HasEnded}
 use Rattle.remote_http.specs.declared.engine.TheConstants.{EARLIEST}
+use Rattle.remote_http.specs.Listing.{IsListReply}
 use Rattle.remote_http.specs.Reading.{IsReadReply}
 use Rattle.remote_http.specs.Text.{build_text}
 use Rattle.remote_http.specs.Workers.{Worker, IsIdle}
@@ -34,6 +36,8 @@ IsAskedReply version now opening idle (Read readings) before after status text =
     IsReadReply opening readings.items before.known after.known status text × IsIdle before after
 IsAskedReply version now opening idle BuildInfo before after status text =
     IsBuildReply version status text × (after ≡ before)
+IsAskedReply version now opening idle (ListAsked listing) before after status text =
+    IsListReply opening listing before.known after.known status text × IsIdle before after
 
 -- the bytes that came are refused by their first failing check, and nothing changed
 pub record TurnsAway (rules : Rules) (now : ℤ) (came : Came) (before after : Worker)
@@ -67,6 +71,7 @@ HasFront opening (Write received) before after =
     PublishesFront opening (batch_of_rows received.rows.items) before after
 HasFront opening (Read readings) before after = IsIdle before after
 HasFront opening BuildInfo before after = after ≡ before
+HasFront opening (ListAsked listing) before after = IsIdle before after
 
 -- there was no memory for the reply to what the bytes ask
 pub record BreaksOff (rules : Rules) (now : ℤ) (came : Came) (opening : SnapshotParts)

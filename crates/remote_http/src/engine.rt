@@ -9,6 +9,7 @@ ghost use Rattle.remote_http.specs.Serving.{HasFront, IsAskedReply, IsBarred, Is
 ghost use Rattle.remote_http.specs.Workers.{worker, IsIdle};
 ghost use Rattle.remote_http.specs.Writing.{IsReplyOfRefusal};
 
+use crate::list::list;
 use crate::read::read;
 use crate::reply::{Reply, build_reply, refusal_reply};
 use crate::write::write;
@@ -58,6 +59,7 @@ fn act<J: Naming, C: Wait + Drop, K: Keeper + Drop>(
         Asked::Write(received) => write(rt, alloc, received, EARLIEST, now, pass, seat, committer),
         Asked::Read(readings) => read(rt, alloc, readings.as_slice(), pass),
         Asked::BuildInfo => build_reply(alloc, version),
+        Asked::List(listing) => list(alloc, &listing, pass),
     }
 }
 
@@ -140,7 +142,8 @@ fn reply_to<J: Naming, C: Wait + Drop, K: Keeper + Drop>(
 /// part is not kept or the clock is before [`EARLIEST`]. The parts before one that is not kept
 /// stand, also if it is for memory and there is no reply; the sender repeats all, and what stands
 /// is held then. A read takes the pass's next snapshot, one for all its queries, each answered as
-/// by [`answers::ask_by`] of it.
+/// by [`answers::ask_by`] of it. A listing takes the next snapshot too, and tells of it exactly the
+/// names, values or label sets of the series that answer one of its queries (`specs/Listing.antt`).
 ///
 /// The version is told as it is. A request that the rules do not admit changes nothing (`barred`).
 /// It waits as [`Committer::sift`] does, and takes memory for the rows and for one answer beside

@@ -1,7 +1,7 @@
 -- Counts of one series more, and whether they are few.
 use Rattle.std.proofs.Common.{◌≡◌, ◌<◌, ◌≤◌, ◌+◌, ◌-◌, ◌^◌, ℕ, List, [], ◌∷◌, ◌++◌, length, true}
-use Rattle.std.proofs.Common.{false, Bool, sym, ap, ◌∙◌, refl, subst, arith, Result, Ok, Err}
-use Rattle.std.specs.Prelude.{◌&&◌, nat_le, min, if◌then◌else◌}
+use Rattle.std.proofs.Common.{false, Bool, sym, ap, ◌∙◌, refl, arith, Result, Ok, Err}
+use Rattle.std.specs.Prelude.{◌&&◌, nat_le, min}
 use Rattle.std.proofs.lemmas.Bool.{and_parts, leb-true}
 use Rattle.std.proofs.lemmas.Bool.Decides.{nat_tests}
 use Rattle.std.proofs.lemmas.List.{length-append}

@@ -1,7 +1,7 @@
 -- What the labels of a series give, one after another, and as a set.
-use Rattle.std.proofs.Common.{◌≡◌, ◌≢◌, ◌<◌, ◌≤◌, ◌+◌, ℕ, List, [], ◌∷◌, ◌++◌, length, map, take, drop}
+use Rattle.std.proofs.Common.{◌≡◌, ◌<◌, ◌+◌, ℕ, List, [], ◌∷◌, ◌++◌, length, map, take, drop}
 use Rattle.std.proofs.Common.{get_or, true, false, Bool, Option, None, Some, Result, Ok, Err, refl}
-use Rattle.std.proofs.Common.{IfSome, IfNone, sym, ap, ◌∙◌, arith, drop-cons, add-one, subst, codes}
+use Rattle.std.proofs.Common.{IfSome, IfNone, sym, ap, ◌∙◌, subst, codes}
 use Rattle.std.specs.Prelude.{◌&&◌, nat_lt, if◌then◌else◌}
 use Rattle.std.specs.List.{list_all}
 use Rattle.std.proofs.Common.{IsUtf8, String, Global, string_bytes}
@@ -10,7 +10,7 @@ use Rattle.std.proofs.lemmas.List.{map-append}
 use Rattle.std.proofs.lemmas.List.Folds.{list_all-append}
 use Rattle.labels.specs.declared.error.LabelError.{LabelError}
 use Rattle.labels.specs.declared.error.LabelError.TheVariants as labels
-use Rattle.labels.specs.Labels.{Labels, value_of}
+use Rattle.labels.specs.Labels.{Labels}
 use Rattle.labels.specs.LabelSets.{refusal_of, IsMadeOf}
 use Rattle.remote_write.specs.Reading.{label_seen}
 use Rattle.remote_write.specs.declared.label.Label.{Label}

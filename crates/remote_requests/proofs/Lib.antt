@@ -11,3 +11,4 @@ pub mod LengthTexts
 pub mod WriteLaws
 pub mod QueryLaws
 pub mod HeadFronts
+pub mod ListingTurns

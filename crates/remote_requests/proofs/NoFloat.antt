@@ -3,7 +3,9 @@ use Rattle.std.proofs.Common.{◌≡◌, ℕ, List, Option, None, Some, false, r
 use Rattle.serde_json.specs.Written.{has_float}
 use Rattle.remote_requests.specs.Replies.{refusal_data}
 
-pub no_float_in_refusal : (code : List ℕ) (cause : Option (List ℕ))
-    → has_float (refusal_data code cause) ≡ false
-no_float_in_refusal code None = refl
-no_float_in_refusal code (Some cause) = refl
+pub no_float_in_refusal : (code : List ℕ) (cause error : Option (List ℕ))
+    → has_float (refusal_data code cause error) ≡ false
+no_float_in_refusal code None None = refl
+no_float_in_refusal code None (Some error) = refl
+no_float_in_refusal code (Some cause) None = refl
+no_float_in_refusal code (Some cause) (Some error) = refl

@@ -1,25 +1,19 @@
 -- What the steps of a read give the whole.
-use Rattle.std.proofs.Common.{◌≡◌, ◌<◌, ◌≤◌, ℕ, List, length, true, false, Result, Ok, Err, refl, inl}
-use Rattle.std.proofs.Common.{inr, arith, lt-ltb, sym, ◌∙◌, subst}
+use Rattle.std.proofs.Common.{◌≡◌, ◌<◌, ℕ, List, length, true, Result, Ok, Err, refl, inl}
+use Rattle.std.proofs.Common.{lt-ltb, sym, subst}
 use Rattle.std.specs.Prelude.{nat_lt}
-use Rattle.std.specs.List.{AllZip}
-use Rattle.snappy.specs.Format.{IsStream}
 use Rattle.snappy.specs.Reading.{text_at}
-use Rattle.wire.specs.Outcome.{◌>>=◌, Fails}
+use Rattle.wire.specs.Outcome.{Fails}
 use Rattle.protobuf_fields.specs.Reading as fields
-use Rattle.remote_read.specs.Format.{QueryValue, IsRequest}
+use Rattle.remote_read.specs.Format.{QueryValue}
 use Rattle.remote_read.specs.Reading.{request_at}
 use Rattle.remote_write.specs.Reading.{is_memory, or_error}
 use Rattle.remote_write.specs.declared.error.ReadError as write_errors
-use Rattle.remote_requests.specs.declared.asked.Reading.{Reading}
 use Rattle.remote_requests.specs.declared.asked.ReadError.{ReadError}
 use Rattle.remote_requests.specs.declared.asked.ReadError.TheVariants.{Closed, Lost, Memory}
 use Rattle.remote_requests.specs.declared.asked.ReadError.TheVariants.{Refused}
-use Rattle.remote_requests.specs.declared.refusal.QueryFault.{QueryFault}
-use Rattle.remote_requests.specs.declared.refusal.Refusal.{Refusal}
-use Rattle.remote_requests.specs.declared.refusal.Refusal.TheVariants.{BadQuery, TooMany}
-use Rattle.remote_requests.specs.Queries.{IsReadingOf, HasQueryFault}
-use Rattle.remote_requests.specs.Reading.{AreAsked, ReadMeans, body_queries, if_few_queries}
+use Rattle.remote_requests.specs.declared.refusal.Refusal.TheVariants.{TooMany}
+use Rattle.remote_requests.specs.Reading.{ReadMeans, body_queries, if_few_queries}
 use Rattle.remote_requests.specs.Reading.{queries_in}
 use Rattle.remote_requests.specs.Writing.{IsTold, Told, misspelled, packed, spelled}
 use Rattle.remote_requests.proofs.CountTurns.{told_fault, told_past}

@@ -1,6 +1,6 @@
 -- What matchers and queries give, one after another.
-use Rattle.std.proofs.Common.{◌≡◌, ◌<◌, ◌≤◌, ◌+◌, ℕ, ℤ, List, [], ◌∷◌, ◌++◌, length, map, take, drop}
-use Rattle.std.proofs.Common.{get_or, true, false, Bool, Option, None, Some, sym, ap, ◌∙◌, refl}
+use Rattle.std.proofs.Common.{◌≡◌, ◌<◌, ◌≤◌, ℕ, ℤ, List, ◌∷◌, ◌++◌, length}
+use Rattle.std.proofs.Common.{true, false, Bool, Some, sym, ap, ◌∙◌, refl}
 use Rattle.std.proofs.Common.{Err, IsErrOf, IsUtf8, subst}
 use Rattle.std.specs.List.{AllZip}
 use Rattle.std.specs.Prelude.{int_lt, pos, negsuc, ◌&&◌, if◌then◌else◌}
@@ -22,7 +22,6 @@ use Rattle.remote_read.specs.Format.{MatcherValue, QueryValue}
 use Rattle.remote_requests.specs.declared.asked.Reading.{Reading}
 use Rattle.remote_requests.specs.declared.reads.NoQuery.{NoQuery}
 use Rattle.remote_requests.specs.declared.reads.NoQuery.TheVariants.{Memory, Fault}
-use Rattle.remote_requests.specs.declared.refusal.QueryFault.{QueryFault}
 use Rattle.remote_requests.specs.declared.refusal.QueryFault.TheVariants as faults
 use Rattle.remote_requests.specs.NoQueries.{OrMemory}
 use Rattle.remote_requests.specs.Queries.{IsMatcherOf, IsMatcherFault, HasMatcherFault}

@@ -1,8 +1,8 @@
 -- What one series more gives.
-use Rattle.std.proofs.Common.{◌≡◌, ◌<◌, ◌≤◌, ◌+◌, ◌^◌, ℕ, ℤ, List, [], ◌∷◌, ◌++◌, length, map, true}
-use Rattle.std.proofs.Common.{false, Bool, Option, None, Some, sym, ap, ◌∙◌, refl, subst, arith}
+use Rattle.std.proofs.Common.{◌≡◌, ◌<◌, ◌≤◌, ◌+◌, ℕ, ℤ, List, [], ◌∷◌, ◌++◌, length, map, true}
+use Rattle.std.proofs.Common.{false, Option, None, Some, sym, ap, ◌∙◌, refl, subst, arith}
 use Rattle.std.proofs.Common.{append_assoc, lt-ltb}
-use Rattle.std.specs.Prelude.{filter, ◌&&◌, nat_le, nat_lt, is_none}
+use Rattle.std.specs.Prelude.{filter, ◌&&◌, nat_le, nat_lt}
 use Rattle.std.specs.List.{AllZip}
 use Rattle.std.proofs.lemmas.Bool.{and_parts, leb-true}
 use Rattle.std.proofs.lemmas.List.{append-nil, length-append}
@@ -11,7 +11,7 @@ use Rattle.std.proofs.lemmas.List.Sums.{sum_by-cons}
 use Rattle.labels.specs.Labels.{Labels}
 use Rattle.labels.specs.LabelSets.{IsMadeOf}
 use Rattle.labels.specs.Rows.{Row}
-use Rattle.std.proofs.Common.{Result, Ok, Err, take, get_or}
+use Rattle.std.proofs.Common.{Ok, take, get_or}
 use Rattle.remote_write.specs.Format.{SampleValue, SeriesValue}
 use Rattle.remote_write.specs.Reading.{label_seen, sample_seen, series_seen}
 use Rattle.remote_write.specs.declared.label.Label.{Label}
@@ -28,7 +28,7 @@ use Rattle.remote_requests.specs.Series.{labels_refused, label_pairs, points_of,
 use Rattle.remote_requests.specs.Series.{are_few, IsSampleOf, IsRowOf, IsRowIn, IsLabelled}
 use Rattle.remote_requests.specs.Writing.{IsReceived}
 use Rattle.remote_requests.proofs.Lists.{zip_more, zip_length, map_turn, map_end}
-use Rattle.remote_requests.proofs.Tallies.{adds_nothing, adds_then, length-times}
+use Rattle.remote_requests.proofs.Tallies.{adds_then, length-times}
 
 -- labels that are none
 pub no_row_by_labels : (now : ℤ) (s : SeriesValue) (why : LeftOut)

@@ -1,6 +1,6 @@
 -- What one sample more gives.
 use Rattle.std.proofs.Common.{◌≡◌, ◌+◌, ◌<◌, ◌≤◌, ℕ, ℤ, List, [], ◌∷◌, ◌++◌, length, map, take}
-use Rattle.std.proofs.Common.{get_or, sym, ap, ◌∙◌, refl, subst, Bool, true, false, append_assoc}
+use Rattle.std.proofs.Common.{get_or, sym, ap, ◌∙◌, refl, subst}
 use Rattle.std.proofs.Common.{Option, None, Some}
 use Rattle.std.specs.Prelude.{filter}
 use Rattle.std.specs.List.{AllZip}

@@ -1,14 +1,14 @@
 -- What one reason more does to a tally.
 use Rattle.std.proofs.Common.{◌≡◌, ◌≢◌, ◌<◌, ◌≤◌, ◌+◌, ◌-◌, ◌^◌, ℕ, zero, suc, List, [], ◌∷◌, ◌++◌}
 use Rattle.std.proofs.Common.{length, get_or, sym, ap, ◌∙◌, refl, subst, append_assoc, arith, Bool}
-use Rattle.std.proofs.Common.{true, false, Option, None, Some, add_assoc, add-one}
+use Rattle.std.proofs.Common.{true, false, Option}
 use Rattle.std.specs.Prelude.{◌==◌, if◌then◌else◌, min}
 use Rattle.std.proofs.lemmas.Bool.{eqb-true, eqb-false}
 use Rattle.std.proofs.lemmas.List.{append-nil, length-append, get_or-set_same, get_or-set_other}
 use Rattle.std.proofs.Math.ListN.{set}
 use Rattle.remote_requests.specs.declared.left.LeftOut.{LeftOut}
 use Rattle.remote_requests.specs.declared.left.Left.{Left}
-use Rattle.remote_requests.specs.Left.{place_of, how_many, first_of_reasons, first_after, times, counted}
+use Rattle.remote_requests.specs.Left.{place_of, how_many, first_of_reasons, first_after, times}
 use Rattle.remote_requests.specs.Left.{IsTally, Adds}
 
 pub adds_nothing : (left : Left) → Adds left left []

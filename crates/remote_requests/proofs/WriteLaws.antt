@@ -1,8 +1,7 @@
 -- What the steps of a write give the whole.
-use Rattle.std.proofs.Common.{◌≡◌, ◌≤◌, ℕ, ℤ, List, length, map, true, Result, Ok, Err, refl, subst}
+use Rattle.std.proofs.Common.{◌≡◌, ◌≤◌, ℕ, ℤ, List, length, map, true, Ok, Err, subst}
 use Rattle.snappy.specs.Format.{IsStream}
 use Rattle.snappy.specs.Reading.{text_at}
-use Rattle.wire.specs.Outcome.{◌>>=◌}
 use Rattle.remote_write.specs.Format.{SeriesValue, IsRequest}
 use Rattle.remote_write.specs.Reading.{request_at, series_seen}
 use Rattle.remote_write.specs.declared.series.Series.{Series}
@@ -11,10 +10,9 @@ use Rattle.remote_requests.specs.declared.asked.ReadError.{ReadError}
 use Rattle.remote_requests.specs.declared.asked.ReadError.TheVariants.{Closed, Lost, Memory}
 use Rattle.remote_requests.specs.declared.asked.ReadError.TheVariants.{Refused}
 use Rattle.remote_requests.specs.declared.asked.Received.{Received}
-use Rattle.remote_requests.specs.declared.refusal.Refusal.{Refusal}
 use Rattle.remote_requests.specs.Series.{are_few, points_in}
 use Rattle.remote_requests.specs.Writing.{IsTold, Told, WriteMeans, IsReceived, body_series}
-use Rattle.remote_requests.specs.Writing.{most_written, packed, points_at, series_in}
+use Rattle.remote_requests.specs.Writing.{packed, points_at, series_in}
 use Rattle.remote_requests.proofs.CountTurns.{points_back, series_told, told_past}
 
 told_write : (now : ℤ) (body : List ℕ) (e : ReadError) → IsTold e (body_series body)

@@ -1,6 +1,6 @@
 -- Counts of what a body has, each at most 2^64 - 1.
 use Rattle.std.specs.Prelude.{◌≡◌, ◌-◌, ◌^◌, ℕ, Bool, List, length, min, nat_le, ◌&&◌, Result, Ok}
-use Rattle.std.specs.Prelude.{Err, ⊤}
+use Rattle.std.specs.Prelude.{Err}
 use Rattle.remote_write.specs.Format.{SeriesValue}
 use Rattle.remote_write.specs.Reading.{request_at}
 use Rattle.remote_requests.specs.declared.asked.ReadError.{ReadError}

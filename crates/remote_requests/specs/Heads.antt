@@ -20,6 +20,7 @@ pub record IsHeadIn (buf : List ℕ) (head : Head) (h : RequestHead) : Type 0 wh
   pub within : head.end ≤ length buf
   pub few : length h.fields ≤ 64
   pub claims : claimed head.claims ≡ claims_of h
+  pub target : head.target.now ≡ h.target
   pub path : head.path ≡ path_asked h.method h.target
   pub length : head.length ≡ length_asked (fields_of h)
   pub form : head.form ≡ form_of (path_asked h.method h.target) (fields_of h)

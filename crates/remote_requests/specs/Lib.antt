@@ -1,4 +1,5 @@
 pub mod Admitting
+pub mod Asking
 pub mod Counts
 pub mod Fields
 pub mod Heads
@@ -6,6 +7,7 @@ pub mod Left
 pub mod Meaning
 pub mod Names
 pub mod NoQueries
+pub mod Parameters
 pub mod Paths
 pub mod Queries
 pub mod Reading

@@ -16,48 +16,66 @@ use Rattle.remote_requests.specs.declared.came.End.{End}
 use Rattle.remote_requests.specs.declared.came.End.TheVariants as ends
 use Rattle.remote_requests.specs.declared.path.Path.{Path}
 use Rattle.remote_requests.specs.declared.path.Path.TheVariants.{Write, Read, BuildInfo}
+use Rattle.remote_requests.specs.declared.path.Path.TheVariants.{Labels, LabelsByForm, Values}
+use Rattle.remote_requests.specs.declared.path.Path.TheVariants.{Series, SeriesByForm}
 use Rattle.remote_requests.specs.declared.refusal.Refusal.{Refusal}
 use Rattle.remote_requests.specs.declared.refusal.Refusal.TheVariants.{BadHead, HeadTooLong}
 use Rattle.remote_requests.specs.declared.refusal.Refusal.TheVariants.{BadLength}
 use Rattle.remote_requests.specs.Admitting.{admission}
+use Rattle.remote_requests.specs.Asking.{ListingMeans}
 use Rattle.remote_requests.specs.Fields.{form_of, length_asked}
 use Rattle.remote_requests.specs.Paths.{path_asked}
 use Rattle.remote_requests.specs.Reading.{ReadMeans}
 use Rattle.remote_requests.specs.Writing.{Meaning, WriteMeans}
 
 -- what a body asks of a path
-abbrev pub BodyMeans : Path → ℤ → List ℕ → Meaning → Type 0
-BodyMeans Write now body meaning = WriteMeans now body meaning
-BodyMeans Read now body meaning = ReadMeans body meaning
-BodyMeans BuildInfo now body meaning = meaning ≡ Ok asks.BuildInfo
+abbrev pub BodyMeans : Path → List ℕ → ℤ → List ℕ → Meaning → Type 0
+BodyMeans Write target now body meaning = WriteMeans now body meaning
+BodyMeans Read target now body meaning = ReadMeans body meaning
+BodyMeans BuildInfo target now body meaning = meaning ≡ Ok asks.BuildInfo
+BodyMeans Labels target now body meaning = ListingMeans Labels target body meaning
+BodyMeans LabelsByForm target now body meaning = ListingMeans LabelsByForm target body meaning
+BodyMeans Values target now body meaning = ListingMeans Values target body meaning
+BodyMeans Series target now body meaning = ListingMeans Series target body meaning
+BodyMeans SeriesByForm target now body meaning = ListingMeans SeriesByForm target body meaning
 
 -- the same, where the body is packed and spelled as its path takes it
-abbrev pub FormMeans : Result (Unit {0}) Refusal → Path → ℤ → List ℕ → Meaning → Type 0
-FormMeans (Err refusal) path now body meaning = meaning ≡ Err refusal
-FormMeans (Ok fits) path now body meaning = BodyMeans path now body meaning
+abbrev pub FormMeans : Result (Unit {0}) Refusal → Path → List ℕ → ℤ → List ℕ → Meaning → Type 0
+FormMeans (Err refusal) path target now body meaning = meaning ≡ Err refusal
+FormMeans (Ok fits) path target now body meaning = BodyMeans path target now body meaning
 
 -- what follows a head is as long as it says, and asks this; else it is refused
-abbrev pub PostMeans : Path → Result ℕ Refusal → Result (Unit {0}) Refusal → ℤ → List ℕ → Meaning
-    → Type 0
-PostMeans path (Err refusal) form now rest meaning = meaning ≡ Err refusal
-PostMeans path (Ok n) form now rest meaning =
+abbrev pub PostMeans : Path → List ℕ → Result ℕ Refusal → Result (Unit {0}) Refusal → ℤ → List ℕ
+    → Meaning → Type 0
+PostMeans path target (Err refusal) form now rest meaning = meaning ≡ Err refusal
+PostMeans path target (Ok n) form now rest meaning =
     ((length rest < n) × (meaning ≡ Err BadLength))
-    ⊎ ((n ≤ length rest) × FormMeans form path now (take n rest) meaning)
+    ⊎ ((n ≤ length rest) × FormMeans form path target now (take n rest) meaning)
 
--- what a path asks, with the length of its body, its form and what follows the head
-abbrev pub PathMeans : Result Path Refusal → Result ℕ Refusal → Result (Unit {0}) Refusal → ℤ
-    → List ℕ → Meaning → Type 0
-PathMeans (Err refusal) length form now rest meaning = meaning ≡ Err refusal
-PathMeans (Ok BuildInfo) length form now rest meaning = meaning ≡ Ok asks.BuildInfo
-PathMeans (Ok Write) length form now rest meaning = PostMeans Write length form now rest meaning
-PathMeans (Ok Read) length form now rest meaning = PostMeans Read length form now rest meaning
+-- what a path asks, with its query string, the length of its body, its form and what follows the
+-- head
+abbrev pub PathMeans : Result Path Refusal → List ℕ → Result ℕ Refusal → Result (Unit {0}) Refusal
+    → ℤ → List ℕ → Meaning → Type 0
+PathMeans (Err refusal) target length form now rest meaning = meaning ≡ Err refusal
+PathMeans (Ok BuildInfo) target length form now rest meaning = meaning ≡ Ok asks.BuildInfo
+PathMeans (Ok Write) target length form now rest meaning =
+    PostMeans Write target length form now rest meaning
+PathMeans (Ok Read) target length form now rest meaning =
+    PostMeans Read target length form now rest meaning
+PathMeans (Ok Labels) target length form now rest meaning = ListingMeans Labels target [] meaning
+PathMeans (Ok LabelsByForm) target length form now rest meaning =
+    PostMeans LabelsByForm target length form now rest meaning
+PathMeans (Ok Values) target length form now rest meaning = ListingMeans Values target [] meaning
+PathMeans (Ok Series) target length form now rest meaning = ListingMeans Series target [] meaning
+PathMeans (Ok SeriesByForm) target length form now rest meaning =
+    PostMeans SeriesByForm target length form now rest meaning
 
 -- what a head asks with what follows it, if it is admitted: path and method first, then the length
 -- of the body, then its form, then the body
 abbrev pub AdmittedMeans : Result (Unit {0}) Refusal → RequestHead → ℤ → List ℕ → Meaning → Type 0
 AdmittedMeans (Err refusal) h now rest meaning = meaning ≡ Err refusal
 AdmittedMeans (Ok admitted) h now rest meaning =
-    PathMeans (path_asked h.method h.target) (length_asked (fields_of h))
+    PathMeans (path_asked h.method h.target) h.target (length_asked (fields_of h))
     (form_of (path_asked h.method h.target) (fields_of h)) now rest meaning
 
 -- a head of at most 64 fields and 8,192 bytes, and what it asks with what follows it

@@ -7,7 +7,6 @@ use Rattle.remote_read.specs.Format.{QueryValue, IsRequest}
 use Rattle.remote_read.specs.Reading.{request_at}
 use Rattle.snappy.specs.Format.{IsStream}
 use Rattle.snappy.specs.Reading.{text_at}
-use Rattle.remote_requests.specs.declared.asked.Asked.{Asked}
 use Rattle.remote_requests.specs.declared.asked.Asked.TheVariants.{Read}
 use Rattle.remote_requests.specs.declared.refusal.QueryFault.{QueryFault}
 use Rattle.remote_requests.specs.declared.refusal.Refusal.{Refusal}

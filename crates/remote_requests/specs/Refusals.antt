@@ -1,5 +1,6 @@
 -- The numbers of refusals, their statuses and the numbers behind them.
 use Rattle.std.specs.Prelude.{ℕ, List, Option, None, Some, codes}
+use Rattle.matchers.specs.Errors.{selector_code}
 use Rattle.protobuf_fields.specs.Codes as protobuf_codes
 use Rattle.snappy.specs.Codes as snappy_codes
 use Rattle.remote_requests.specs.declared.status.Status.{Status}
@@ -37,6 +38,10 @@ code_of refusals.Form = codes "G4"
 code_of (refusals.BadBody fault) = codes "G6"
 code_of refusals.TooMany = codes "G7"
 code_of (refusals.BadQuery fault) = codes "G8"
+code_of refusals.NoLabel = codes "G12"
+code_of refusals.NoMatch = codes "G13"
+code_of refusals.BadParameter = codes "G14"
+code_of (refusals.BadSelector error) = codes "G15"
 code_of refusals.NoMetric = codes "G9"
 code_of refusals.ClockBehind = codes "G10"
 code_of refusals.Unavailable = codes "H10"
@@ -56,6 +61,10 @@ status_of refusals.Form = status.UnsupportedMediaType
 status_of (refusals.BadBody fault) = status.BadRequest
 status_of refusals.TooMany = status.BadRequest
 status_of (refusals.BadQuery fault) = status.BadRequest
+status_of refusals.NoLabel = status.BadRequest
+status_of refusals.NoMatch = status.BadRequest
+status_of refusals.BadParameter = status.BadRequest
+status_of (refusals.BadSelector error) = status.BadRequest
 status_of refusals.NoMetric = status.BadRequest
 status_of refusals.ClockBehind = status.ServiceUnavailable
 status_of refusals.Unavailable = status.ServiceUnavailable
@@ -75,7 +84,37 @@ cause_of refusals.Form = None
 cause_of (refusals.BadBody fault) = Some (body_fault_code fault)
 cause_of refusals.TooMany = None
 cause_of (refusals.BadQuery fault) = Some (query_fault_code fault)
+cause_of refusals.NoLabel = None
+cause_of refusals.NoMatch = None
+cause_of refusals.BadParameter = None
+cause_of (refusals.BadSelector error) = Some (selector_code error)
 cause_of refusals.NoMetric = None
 cause_of refusals.ClockBehind = None
 cause_of refusals.Unavailable = None
 cause_of refusals.NotKept = None
+
+-- what is wrong with what is asked of a listing, in words; none for other refusals
+abbrev pub error_of : Refusal → Option (List ℕ)
+error_of refusals.BadHead = None
+error_of refusals.HeadTooLong = None
+error_of refusals.Guarded = None
+error_of refusals.NoSuchPath = None
+error_of refusals.Method = None
+error_of refusals.NoLength = None
+error_of refusals.BadLength = None
+error_of refusals.Encoding = None
+error_of refusals.Form = None
+error_of (refusals.BadBody fault) = None
+error_of refusals.TooMany = None
+error_of (refusals.BadQuery fault) = None
+error_of refusals.NoLabel = Some (codes "G12: the name in the path is no label name")
+error_of refusals.NoMatch = Some (codes "G13: series are asked for by at least one match[]")
+error_of refusals.BadParameter =
+    Some
+    (codes "G14: start and end are seconds, perhaps with a point, and limit is a whole number")
+error_of (refusals.BadSelector error) =
+    Some (codes "G15: a match[] is refused for its cause")
+error_of refusals.NoMetric = None
+error_of refusals.ClockBehind = None
+error_of refusals.Unavailable = None
+error_of refusals.NotKept = None

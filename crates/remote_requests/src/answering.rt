@@ -8,6 +8,7 @@ ghost use Rattle.remote_requests.specs.Writing.{Told};
 
 use crate::body::write;
 use crate::head::{Head, head_in};
+use crate::listings::listing;
 use crate::reads::read;
 use crate::{Asked, Came, End, Path, ReadError, Refusal};
 use guard::{Denial, Rules};
@@ -23,13 +24,24 @@ fn refusal_of(denial: Denial) -> Refusal
     }
 }
 
-fn body_asked(alloc: Global, now: i64, path: Path, body: &[u8]) -> Result<Asked, ReadError>
-    ensures { Told (BodyMeans path now body.now) result }
+fn body_asked(
+    alloc: Global,
+    now: i64,
+    path: Path,
+    target: &[u8],
+    body: &[u8],
+) -> Result<Asked, ReadError>
+    ensures { Told (BodyMeans path target.now now body.now) result }
 {
     match path {
         Path::Write => write(alloc, now, body),
         Path::Read => read(alloc, body),
         Path::BuildInfo => Ok(Asked::BuildInfo),
+        Path::Labels => listing(alloc, Path::Labels, target, body),
+        Path::LabelsByForm => listing(alloc, Path::LabelsByForm, target, body),
+        Path::Values => listing(alloc, Path::Values, target, body),
+        Path::Series => listing(alloc, Path::Series, target, body),
+        Path::SeriesByForm => listing(alloc, Path::SeriesByForm, target, body),
     }
 }
 
@@ -42,7 +54,8 @@ fn post_asked(
     head: &Head<'_>,
     rest: &[u8],
 ) -> Result<Asked, ReadError>
-    ensures { Told (PostMeans path head.now.length head.now.form now rest.now) result }
+    ensures { Told (PostMeans path head.now.target.now head.now.length head.now.form now rest.now)
+        result }
 {
     let length = match head.length {
         Ok(length) => length,
@@ -52,18 +65,24 @@ fn post_asked(
         return Err(ReadError::Refused(Refusal::BadLength));
     }
     match head.form {
-        Ok(()) => body_asked(alloc, now, path, &rest[..length]),
+        Ok(()) => body_asked(alloc, now, path, head.target, &rest[..length]),
         Err(refusal) => Err(ReadError::Refused(refusal)),
     }
 }
 
 fn path_asked(alloc: Global, now: i64, head: &Head<'_>, rest: &[u8]) -> Result<Asked, ReadError>
-    ensures { Told (PathMeans head.now.path head.now.length head.now.form now rest.now) result }
+    ensures { Told (PathMeans head.now.path head.now.target.now head.now.length head.now.form now
+        rest.now) result }
 {
     match head.path {
         Ok(Path::Write) => post_asked(alloc, now, Path::Write, head, rest),
         Ok(Path::Read) => post_asked(alloc, now, Path::Read, head, rest),
         Ok(Path::BuildInfo) => Ok(Asked::BuildInfo),
+        Ok(Path::Labels) => listing(alloc, Path::Labels, head.target, &[]),
+        Ok(Path::LabelsByForm) => post_asked(alloc, now, Path::LabelsByForm, head, rest),
+        Ok(Path::Values) => listing(alloc, Path::Values, head.target, &[]),
+        Ok(Path::Series) => listing(alloc, Path::Series, head.target, &[]),
+        Ok(Path::SeriesByForm) => post_asked(alloc, now, Path::SeriesByForm, head, rest),
         Err(refusal) => Err(ReadError::Refused(refusal)),
     }
 }

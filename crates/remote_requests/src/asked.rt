@@ -19,6 +19,31 @@ pub enum Asked {
     Read(Vec<Reading>),
     /// The version of the program.
     BuildInfo,
+    /// Names of labels, values of a label or label sets are to be listed.
+    List(Listing),
+}
+
+/// What a listing lists.
+#[derive(Drop)]
+pub enum Listed {
+    /// The names of labels.
+    Names,
+    /// The values of the label of this name.
+    Values(String),
+    /// Label sets.
+    Series,
+}
+
+/// What is to be listed, and of which series.
+#[derive(Drop)]
+pub struct Listing {
+    pub wanted: Listed,
+    /// A series is looked at if one of these asks for it: at most 64, one for each selector, or
+    /// that of all series where there is none. There are none where the range has no time of the
+    /// store.
+    pub queries: Vec<Query>,
+    /// How many names, values or label sets are told at most; never 0.
+    pub limit: Option<usize>,
 }
 
 /// What a write brings.

@@ -4,9 +4,11 @@ ghost use Rattle.std.specs.Prelude.{◌≡◌, length, map, All};
 ghost use Rattle.httparse.specs.Spans.{IsHeaderWithin, header_bytes};
 ghost use Rattle.remote_requests.specs.Fields.{length_told, length_asked, is_packed, is_form_of};
 ghost use Rattle.remote_requests.specs.Fields.{same_text, version_field, is_version, fits_version};
-ghost use Rattle.remote_requests.specs.Fields.{has_form, form_asked, form_of};
+ghost use Rattle.remote_requests.specs.Fields.{has_form, form_asked, form_of, is_form_type};
+ghost use Rattle.remote_requests.specs.Fields.{is_packed_for};
 ghost use Rattle.requests.specs.Fields.{is_decimal};
-ghost use Rattle.std.specs.List.{list_all};
+ghost use Rattle.std.specs.Prelude.{◌==◌, position};
+ghost use Rattle.std.specs.List.{before_first, list_all};
 ghost use Rattle.std.specs.Char.{is_ascii_digit};
 
 use crate::{Path, Refusal};
@@ -22,7 +24,7 @@ fn are_digits(text: &[u8]) -> bool
     text.iter().all(|byte| byte.is_ascii_digit())
 }
 
-fn is_decimal(value: &[u8]) -> bool
+pub fn is_decimal(value: &[u8]) -> bool
     ensures { result ≡ is_decimal value.now }
 {
     !value.is_empty() && are_digits(value)
@@ -80,6 +82,43 @@ fn is_packed(buf: &[u8], headers: &[HeaderSpan]) -> bool
     }
 }
 
+/// Whether the body is compressed as its path takes it: a form is not.
+fn is_packed_for(path: Path, buf: &[u8], headers: &[HeaderSpan]) -> bool
+    requires { All (IsHeaderWithin (length buf.now)) headers.now }
+    ensures { result ≡ is_packed_for path (map (header_bytes buf.now) headers.now) }
+{
+    match path {
+        Path::LabelsByForm | Path::SeriesByForm => !has_field(buf, headers, b"content-encoding"),
+        Path::Write | Path::Read | Path::BuildInfo | Path::Labels | Path::Values | Path::Series =>
+            is_packed(buf, headers),
+    }
+}
+
+fn semicolon_in(value: &[u8]) -> Option<usize>
+    ensures { result ≡ position (λ byte. byte == 59) value.now }
+{
+    value.iter().position(|byte| *byte == b';')
+}
+
+/// The value up to its first `;`.
+fn before_parameters(value: &[u8]) -> &[u8]
+    ensures { result.now ≡ before_first (λ byte. byte == 59) value.now }
+{
+    match semicolon_in(value) {
+        Some(at) => &value[..at],
+        None => value,
+    }
+}
+
+fn is_form_type(value: &[u8]) -> bool
+    ensures { result ≡ is_form_type value.now }
+{
+    same_text(
+        before_parameters(value),
+        b"application/x-www-form-urlencoded",
+    )
+}
+
 fn is_form_of(path: Path, value: &[u8]) -> bool
     ensures { result ≡ is_form_of path (Some value.now) }
 {
@@ -96,7 +135,8 @@ fn is_form_of(path: Path, value: &[u8]) -> bool
                 )
         }
         Path::Read => same_text(value, b"application/x-protobuf"),
-        Path::BuildInfo => false,
+        Path::LabelsByForm | Path::SeriesByForm => is_form_type(value),
+        Path::BuildInfo | Path::Labels | Path::Values | Path::Series => false,
     }
 }
 
@@ -106,7 +146,12 @@ fn version_field(path: Path) -> &'static [u8]
     match path {
         Path::Write => b"x-prometheus-remote-write-version",
         Path::Read => b"x-prometheus-remote-read-version",
-        Path::BuildInfo => b"",
+        Path::BuildInfo
+        | Path::Labels
+        | Path::LabelsByForm
+        | Path::Values
+        | Path::Series
+        | Path::SeriesByForm => b"",
     }
 }
 
@@ -145,7 +190,7 @@ fn form_asked(path: Path, buf: &[u8], headers: &[HeaderSpan]) -> Result<(), Refu
     requires { All (IsHeaderWithin (length buf.now)) headers.now }
     ensures { result ≡ form_asked path (map (header_bytes buf.now) headers.now) }
 {
-    if !is_packed(buf, headers) {
+    if !is_packed_for(path, buf, headers) {
         return Err(Refusal::Encoding);
     }
     if !has_form(path, buf, headers) {

@@ -2,6 +2,7 @@
 
 ghost use Rattle.std.specs.Prelude.{◌≡◌, ◌<◌, ◌≤◌, length, IfOk, IfErr};
 ghost use Rattle.httparse.specs.Grammar.{RequestHead, print_request};
+ghost use Rattle.httparse.specs.Spans.{IsRequestOf, IsRequestWithin};
 ghost use Rattle.remote_requests.specs.Heads.{IsHeadIn, IsNoHead, IsParsed};
 
 use crate::fields::{form_of, length_asked};
@@ -9,7 +10,7 @@ use crate::path::{is_write, path_asked};
 use crate::{Path, Refusal};
 use guard::Claims;
 use httparse::Status;
-use httparse::spans::{EMPTY_HEADER_SPAN, parse_request};
+use httparse::spans::{EMPTY_HEADER_SPAN, HeaderSpan, RequestSpans, parse_request};
 use requests::claims_among;
 
 /// The most bytes of a head.
@@ -19,6 +20,8 @@ const MAX_HEAD: usize = 8192;
 #[derive(Drop)]
 pub struct Head<'b> {
     pub claims: Claims<'b>,
+    /// What is asked for, with the query string.
+    pub target: &'b [u8],
     /// The path, or why none is taken.
     pub path: Result<Path, Refusal>,
     /// The length of the body, or why none is told.
@@ -37,23 +40,31 @@ pub enum Parsed<'b> {
     Never,
 }
 
+/// The head that was parsed.
+fn head_of<'b>(buf: &'b [u8], spans: RequestSpans, headers: &[HeaderSpan; 64]) -> Head<'b>
+    requires within { IsRequestWithin buf.now headers.now spans }
+    requires parsed { IsRequestOf buf.now headers.now spans }
+    ensures { (h : RequestHead) × IsHeadIn buf.now result h }
+{
+    let fields = &headers[..spans.headers];
+    let target = spans.path.of(buf);
+    let path = path_asked(spans.method.of(buf), target);
+    Head {
+        claims: claims_among(buf, is_write(target), fields),
+        target,
+        path,
+        length: length_asked(buf, fields),
+        form: form_of(path, buf, fields),
+        end: spans.len,
+    }
+}
+
 fn parse(buf: &[u8]) -> Parsed<'_>
     ensures { IsParsed buf.now result }
 {
     let mut headers = [EMPTY_HEADER_SPAN; 64];
     match parse_request(buf, &mut headers) {
-        Ok(Status::Complete(spans)) => {
-            let fields = &headers[..spans.headers];
-            let target = spans.path.of(buf);
-            let path = path_asked(spans.method.of(buf), target);
-            Parsed::Whole(Head {
-                claims: claims_among(buf, is_write(target), fields),
-                path,
-                length: length_asked(buf, fields),
-                form: form_of(path, buf, fields),
-                end: spans.len,
-            })
-        }
+        Ok(Status::Complete(spans)) => Parsed::Whole(head_of(buf, spans, &headers)),
         Ok(Status::Partial) => Parsed::More,
         Err(_) => Parsed::Never,
     }

@@ -27,6 +27,7 @@ mod fields;
 mod head;
 mod label_sets;
 mod left;
+mod listings;
 mod path;
 mod reads;
 mod refusal;
@@ -36,7 +37,7 @@ mod series;
 mod status;
 
 pub use answering::answer;
-pub use asked::{Asked, ReadError, Reading, Received};
+pub use asked::{Asked, Listed, Listing, ReadError, Reading, Received};
 pub use came::{Came, End};
 pub use label_sets::names_metric;
 pub use left::{Left, LeftOut};

@@ -115,7 +115,7 @@ fn to_of(end: i64) -> i64
 }
 
 /// The query of these matchers over the times of the store in a range, if it has one.
-fn query_over(matchers: Vec<Matcher>, start: i64, end: i64) -> Option<Query>
+pub fn query_over(matchers: Vec<Matcher>, start: i64, end: i64) -> Option<Query>
     requires { length matchers.items ≤ 16 }
     ensures { result ≡ query_over matchers.items start end }
 {

@@ -2,9 +2,10 @@
 
 ghost use Rattle.std.specs.Prelude.{◌≡◌, option_map};
 ghost use Rattle.remote_requests.specs.Refusals.{code_of, status_of, cause_of};
-ghost use Rattle.remote_requests.specs.Refusals.{body_fault_code, query_fault_code};
+ghost use Rattle.remote_requests.specs.Refusals.{body_fault_code, query_fault_code, error_of};
 
 use crate::Status;
+use matchers::SelectorError;
 use std::error::Error;
 use std::fmt;
 
@@ -83,7 +84,7 @@ pub enum Refusal {
     NoLength,
     /// `G2`: the body has more than 16,777,216 bytes, or ends before its length.
     BadLength,
-    /// `G3`: the only `Content-Encoding` is not `snappy`.
+    /// `G3`: the only `Content-Encoding` is not `snappy`, or a form has one.
     Encoding,
     /// `G4`: the only `Content-Type` is not that of the path, or the version of the protocol does
     /// not begin with `0.1.`.
@@ -91,10 +92,18 @@ pub enum Refusal {
     /// `G6`: the bytes of the body are refused.
     BadBody(BodyFault),
     /// `G7`: the body has more than 65,536 series, 65,536 samples and histograms, 1,048,576 labels
-    /// or 64 queries.
+    /// or 64 queries, or a listing is asked for with more than 64 `match[]`.
     TooMany,
     /// `G8`: a query is refused.
     BadQuery(QueryFault),
+    /// `G12`: the name in the path of a label's values is no label name.
+    NoLabel,
+    /// `G13`: label sets are asked for without a `match[]`.
+    NoMatch,
+    /// `G14`: the `start`, the `end` or the `limit` of a listing is not of its form.
+    BadParameter,
+    /// `G15`: the first `match[]` that cannot be made is refused.
+    BadSelector(SelectorError),
     /// `G9`: a row of the answer has a `__name__` that names no metric.
     NoMetric,
     /// `G10`: the clock is before the day on which the program was made.
@@ -123,6 +132,10 @@ impl Refusal {
             Refusal::BadBody(_) => "G6",
             Refusal::TooMany => "G7",
             Refusal::BadQuery(_) => "G8",
+            Refusal::NoLabel => "G12",
+            Refusal::NoMatch => "G13",
+            Refusal::BadParameter => "G14",
+            Refusal::BadSelector(_) => "G15",
             Refusal::NoMetric => "G9",
             Refusal::ClockBehind => "G10",
             Refusal::Unavailable => "H10",
@@ -140,6 +153,10 @@ impl Refusal {
             | Refusal::BadBody(_)
             | Refusal::TooMany
             | Refusal::BadQuery(_)
+            | Refusal::NoLabel
+            | Refusal::NoMatch
+            | Refusal::BadParameter
+            | Refusal::BadSelector(_)
             | Refusal::NoMetric => Status::BadRequest,
             Refusal::HeadTooLong => Status::HeadTooLarge,
             Refusal::Guarded => Status::Forbidden,
@@ -152,13 +169,29 @@ impl Refusal {
         }
     }
 
-    /// The number of the refusal behind `G6` and `G8`.
+    /// The number of the refusal behind `G6`, `G8` and `G15`.
     pub fn cause(&self) -> Option<&'static str>
         ensures { option_map (λ code. code.now) result ≡ cause_of self.now }
     {
         match self {
             Refusal::BadBody(fault) => Some(fault.code()),
             Refusal::BadQuery(fault) => Some(fault.code()),
+            Refusal::BadSelector(error) => Some(error.code()),
+            _ => None,
+        }
+    }
+
+    /// What is wrong with what is asked of a listing, in words; none for other refusals.
+    pub fn error(&self) -> Option<&'static str>
+        ensures { option_map (λ text. text.now) result ≡ error_of self.now }
+    {
+        match self {
+            Refusal::NoLabel => Some("G12: the name in the path is no label name"),
+            Refusal::NoMatch => Some("G13: series are asked for by at least one match[]"),
+            Refusal::BadParameter => Some(
+                "G14: start and end are seconds, perhaps with a point, and limit is a whole number",
+            ),
+            Refusal::BadSelector(_) => Some("G15: a match[] is refused for its cause"),
             _ => None,
         }
     }

@@ -1,4 +1,4 @@
-use Rattle.std.proofs.Common.{◌≡◌, ◌∙◌, List, Result, sym, subst}
+use Rattle.std.proofs.Common.{◌∙◌, List, Result, sym, subst}
 use Rattle.protobuf_fields.specs.Reading as fields
 use Rattle.remote_write.specs.Format.{SeriesValue}
 use Rattle.remote_write.specs.Reading.{is_memory, or_error, request_at}

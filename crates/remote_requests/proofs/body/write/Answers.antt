@@ -1,4 +1,4 @@
-use Rattle.std.proofs.Common.{◌≡◌, List, ℕ, true, map, rules, sym, subst, SFits, w64, to_z, of_z}
+use Rattle.std.proofs.Common.{◌≡◌, List, true, map, rules, sym, subst, SFits, w64, to_z, of_z}
 use Rattle.std.proofs.lemmas.Int.{to_z-of_z}
 use Rattle.std.proofs.lemmas.Result.{err_from_is_err_and}
 use Rattle.remote_write.specs.Reading.{series_seen}

@@ -1,4 +1,3 @@
-use Rattle.std.proofs.Common.{◌≡◌}
 use Rattle.labels.specs.declared.error.LabelError.TheVariants as labels
 use Rattle.remote_requests.proofs.LabelTurns.{set_made, set_unnamed, set_refused}
 use Rattle.remote_requests.proofs.label_sets.label_set.Goals as goal

@@ -1,4 +1,4 @@
-use Rattle.std.proofs.Common.{◌∙◌, refl, subst, IsUtf8}
+use Rattle.std.proofs.Common.{◌∙◌, refl}
 use Rattle.remote_requests.proofs.LabelTurns.{pairs_fault, pairs_turn}
 use Rattle.remote_requests.proofs.ReadTurns.{name_fault, value_fault}
 use Rattle.remote_requests.proofs.label_sets.text_pairs.Goals as goal

@@ -1,4 +1,4 @@
-use Rattle.std.proofs.Common.{◌≡◌, map, take, drop, refl, ◌+◌, get_or}
+use Rattle.std.proofs.Common.{map, refl}
 use Rattle.std.proofs.lemmas.Result.{err_from_is_err_and}
 use Rattle.remote_read.specs.Reading.{matcher_seen}
 use Rattle.remote_requests.specs.Queries.{IsMatcherOf}

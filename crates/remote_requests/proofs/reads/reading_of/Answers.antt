@@ -1,4 +1,4 @@
-use Rattle.std.proofs.Common.{◌≡◌, ◌≤◌, length, map, arith, rules}
+use Rattle.std.proofs.Common.{map, arith, rules}
 use Rattle.std.proofs.lemmas.List.{length-map}
 use Rattle.remote_read.specs.Reading.{matcher_seen}
 use Rattle.remote_requests.specs.Queries.{IsMatcherOf}

@@ -1,4 +1,4 @@
-use Rattle.std.proofs.Common.{◌≡◌, map, take, drop, ◌+◌, get_or}
+use Rattle.std.proofs.Common.{map}
 use Rattle.std.proofs.lemmas.Result.{err_from_is_err_and}
 use Rattle.remote_read.specs.Reading.{query_seen}
 use Rattle.remote_requests.specs.Queries.{IsReadingOf}

@@ -7,5 +7,5 @@ use Rattle.remote_requests.proofs.reply.refusal_line.Goals as goal
 pub returns : goal.returns
 returns c =
     let made = c.in_ok-refusal_value.ensures in
-    IfOk-weaker c.to_vec.result _ _ (λ b h. h (ap has_float made ∙ no_float_in_refusal _ _)
+    IfOk-weaker c.to_vec.result _ _ (λ b h. h (ap has_float made ∙ no_float_in_refusal _ _ _)
     ∙ ap compact_text made) c.to_vec.ensures.text

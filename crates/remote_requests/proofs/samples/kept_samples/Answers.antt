@@ -1,4 +1,4 @@
-use Rattle.std.proofs.Common.{◌≡◌, rules, refl, sym, SFits, w64, to_z, of_z}
+use Rattle.std.proofs.Common.{rules, refl, sym, SFits, w64, to_z, of_z}
 use Rattle.std.proofs.lemmas.Int.{to_z-of_z}
 use Rattle.remote_requests.proofs.SampleTurns.{keep_turn, leave_turn, all_left}
 use Rattle.remote_requests.proofs.samples.kept_samples.Goals as goal

@@ -1,4 +1,4 @@
-use Rattle.std.proofs.Common.{◌≡◌, rules, refl, sym, SFits, w64, to_z, of_z}
+use Rattle.std.proofs.Common.{rules, refl, SFits, w64, to_z, of_z}
 use Rattle.std.proofs.lemmas.Int.{to_z-of_z}
 use Rattle.remote_requests.proofs.RowTurns.{some_turn, none_turn, all_received}
 use Rattle.remote_requests.proofs.series.received.Goals as goal

@@ -1,0 +1,5 @@
+pub mod Folds
+pub mod Found
+pub mod TextSets
+pub mod Written
+pub mod InOrder
