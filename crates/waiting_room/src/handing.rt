@@ -46,8 +46,12 @@ impl Reply {
 
 /// What makes replies.
 pub trait Work<M: Meaning> {
+    // What the work takes, as that threads may share what starts them.
+    ghost is_ready: { Type 0 };
+
     /// The reply to what came. An error is that there is no memory.
     fn reply(&mut self, bytes: &[u8], end: End) -> Result<Reply, AllocError>
+        requires ready { is_ready }
         ensures { IfOk result (λ reply.
             M.made bytes.now end (reply.head.items ++ reply.body.items)) };
 }
@@ -83,7 +87,9 @@ pub struct Asked<M: Meaning> {
 }
 
 /// Has the reply made to what was asked, and leaves it in the slot that came with it.
-pub fn answer<M: Meaning, W: Work<M>>(rt: &impl Wait, work: &mut W, asked: Asked<M>) {
+pub fn answer<M: Meaning, W: Work<M>>(rt: &impl Wait, work: &mut W, asked: Asked<M>)
+    requires ready { W.is_ready }
+{
     let Asked { came, slot } = asked;
     if let Ok(reply) = work.reply(came.bytes.as_slice(), came.end) {
         let _ = slot.send(rt, Made::new(came, reply));

@@ -25,6 +25,8 @@
 //! }
 //!
 //! impl Work<Brand> for Counter {
+//!     ghost is_ready = { ⊤ };
+//!
 //!     fn reply(&mut self, bytes: &[u8], end: End) -> Result<Reply, AllocError> {
 //!         let body = format!(in self.alloc; "{} bytes", bytes.len())?.into_bytes();
 //!         let head = format!(in self.alloc;

@@ -1,6 +1,7 @@
 //! The threads of a room over a listening socket: those that wait, and the workers.
 
-ghost use Rattle.std.specs.Prelude.{◌≡◌, ◌+◌, IfOk, IfSome};
+ghost use Rattle.std.specs.Prelude.{◌≡◌, ◌+◌, IfOk, IfSome, vec_len};
+ghost use Rattle.std.specs.Thread.{IsSync};
 
 use crate::budget::{Budget, Money, Pool};
 use crate::connection::{Outcome, Terms, attend};
@@ -58,7 +59,8 @@ pub trait Observer {
 pub struct Ended<W> {
     /// The workers, in their order.
     pub workers: Vec<W>,
-    /// What is left of the budget, in bytes: all of it. None if a thread did not give its part back.
+    /// What is left of the budget, in bytes: all of it. None if a thread did not give its part
+    /// back.
     pub left: Option<u64>,
 }
 
@@ -153,7 +155,9 @@ fn wait_at<L: Budget, M: Meaning, H: Observer, R: Wait + Clock>(
 }
 
 /// Answers what is asked until nobody asks any more.
-fn work_on<M: Meaning, W: Work<M> + Drop>(rt: &impl Wait, job: Job<M, W>) -> W {
+fn work_on<M: Meaning, W: Work<M> + Drop>(rt: &impl Wait, job: Job<M, W>) -> W
+    requires ready { W.is_ready }
+{
     let Job {
         mut worker,
         requests,
@@ -256,7 +260,9 @@ fn jobs_of<M: Meaning, W: Drop>(
     alloc: Global,
     workers: Vec<W>,
     from: Receiver<Asked<M>, Global>,
-) -> Result<Vec<Job<M, W>>, AllocError> {
+) -> Result<Vec<Job<M, W>>, AllocError>
+    ensures { IfOk result (λ jobs. vec_len jobs ≡ vec_len workers) }
+{
     let mut jobs = Vec::new(alloc);
     for worker in workers {
         let requests = from.clone()?;
@@ -269,8 +275,17 @@ fn jobs_of<M: Meaning, W: Drop>(
 fn run_working<M: Meaning + Send + Sync, W: Work<M> + Send + Drop, R: Threads + Wait + Sync>(
     rt: &R,
     jobs: Vec<Job<M, W>>,
-) -> Result<Vec<W>, AllocError> {
-    map_vec(rt, jobs, &|job: Job<M, W>| -> W { work_on(rt, job) })
+) -> Result<Vec<W>, AllocError>
+    requires ready { W.is_ready }
+    ensures { IfOk result (λ workers. vec_len workers ≡ vec_len jobs) }
+{
+    map_vec(
+        rt,
+        jobs,
+        &|job: Job<M, W>| -> W
+            requires { W.is_ready }
+        { work_on(rt, job) },
+    )
 }
 
 /// Runs the workers and those that wait, until all have ended: the parts and the workers.
@@ -290,10 +305,16 @@ fn run_threads<
     workers: Vec<W>,
     observer: &H,
     terms: Terms,
-) -> io::Result<(Vec<Part<L>>, Vec<W>)> {
+) -> io::Result<(Vec<Part<L>>, Vec<W>)>
+    requires ready { W.is_ready }
+    ensures { IfOk result (λ ended. vec_len ended.1 ≡ vec_len workers) }
+{
     let (to, from) = bounded::<Asked<M>, Global>(alloc, parts.len().max(1))?;
     let jobs = jobs_of(alloc, workers, from)?;
-    let apart = || run_working(rt, jobs);
+    let apart = || -> Result<Vec<W>, AllocError>
+        requires { W.is_ready × IsSync R.row }
+        ensures { IfOk result (λ workers. vec_len workers ≡ vec_len jobs) }
+    { run_working(rt, jobs) };
     let here = || run_waiting(rt, alloc, listener, gate, pool, parts, to, observer, terms);
     let (workers, parts) = join(rt, apart, here);
     Ok((parts?, workers?))
@@ -319,7 +340,9 @@ fn run<
     requires parts { blank.parts ≡ L.parts }
     requires many { blank.parts ≡ terms.places + 1 }
     requires whole { terms.together ≡ L.whole }
-    ensures { IfOk result (λ ended. IfSome ended.left (λ left. left ≡ terms.together)) }
+    requires ready { W.is_ready }
+    ensures left { IfOk result (λ ended. IfSome ended.left (λ left. left ≡ terms.together)) }
+    ensures workers { IfOk result (λ ended. vec_len ended.workers ≡ vec_len workers) }
 {
     let count = terms.places as usize;
     let (pool, mut all) = Pool::<L>::open(blank, terms.together);
@@ -356,7 +379,9 @@ pub fn serve<
     observer: &H,
     terms: Terms,
 ) -> io::Result<Ended<W>>
-    ensures { IfOk result (λ ended. IfSome ended.left (λ left. left ≡ terms.together)) }
+    requires ready { W.is_ready }
+    ensures left { IfOk result (λ ended. IfSome ended.left (λ left. left ≡ terms.together)) }
+    ensures workers { IfOk result (λ ended. vec_len ended.workers ≡ vec_len workers) }
 {
     let blank = Blank::new(terms.places as u64 + 1);
     run::<Brand, M, W, H, R>(rt, alloc, listener, gate, workers, observer, terms, blank)
