@@ -1,10 +1,11 @@
 -- Multiples on a line of whole numbers.
-use Rattle.std.proofs.Common.{◌≡◌, ℕ, zero, suc, ◌+◌, ◌-◌, ◌*◌, ◌/◌, ◌≤◌, ◌<◌, arith, subst, sym}
+use Rattle.std.proofs.Common.{◌≡◌, ◌⊎◌, inl, inr, ℕ, zero, suc, ◌+◌, ◌*◌, ◌/◌, ◌≤◌, ◌<◌, arith, subst, sym}
 use Rattle.std.specs.Prelude.{ℤ, pos, negsuc, ◌+ℤ◌, ◌-ℤ◌, ◌≤ℤ◌, ◌<ℤ◌, Option, Some, None}
 use Rattle.std.specs.Prelude.{IfSome, IfNone, SomeIff, FitsSigned}
 use Rattle.std.specs.Int.{int_rem_euclid, saturate_signed}
 use mir.Syntax.{w64}
-use Rattle.std.proofs.lemmas.Int.{ints, by_lt_z}
+use mir.Val.{to_z, of_z}
+use Rattle.std.proofs.lemmas.Int.{ints, by_lt_z, to_z-of_z}
 use Rattle.std.proofs.lemmas.Nat.{div-add-mod'}
 use Rattle.std.proofs.Math.Nat.{mod-lt}
 use Rattle.cut_schedule.specs.Due.{IsMultiple, IsDue, IsLastDue}
@@ -84,40 +85,77 @@ none_fits None e time m some is fits h = λ t multiple le.
           (omega (arith, ints, is, le, (rest_is e time some).1)),
     )
 
-pub last_due : (e : ℕ) (newest floor latest time : ℤ) → 0 < e → IsMultiple e time
-    → (time ≤ℤ latest) × (latest <ℤ (time +ℤ pos e)) → latest ≡ newest -ℤ pos (e - e / 2)
-    → floor <ℤ time → IsLastDue e newest floor time
-last_due e newest floor latest time some multiple near is above = record {
-  is_due = record {
-    multiple = multiple;
-    above = above;
-    half = omega (arith, ints, near.0, is);
-  };
-  last = λ t d. not_above e t time d.multiple multiple (omega (arith, ints, near.1, is, d.half));
-}
+-- the earlier of two times
+abbrev pub IsEarlier : ℤ → ℤ → ℤ → Type 0
+IsEarlier first one other = ((first ≡ one) × (one ≤ℤ other)) ⊎ ((first ≡ other) × (other ≤ℤ one))
 
-pub none_above : (e : ℕ) (newest floor latest time : ℤ) → 0 < e → IsMultiple e time
-    → (time ≤ℤ latest) × (latest <ℤ (time +ℤ pos e)) → latest ≡ newest -ℤ pos (e - e / 2)
-    → time ≤ℤ floor → (t : ℤ) → IsDue e newest floor t → ⊥
-none_above e newest floor latest time some multiple near is low t d =
+-- the same of times as a program has them
+pub as_given : (first one other : ℤ) → FitsSigned w64 one → FitsSigned w64 other
+    → IsEarlier first (to_z w64 (of_z w64 one)) (to_z w64 (of_z w64 other))
+    → IsEarlier first one other
+as_given first one other a b h =
+    subst (λ (x : ℤ). IsEarlier first x other) (to_z-of_z w64 one a)
+    (subst (λ (y : ℤ). IsEarlier first (to_z w64 (of_z w64 one)) y) (to_z-of_z w64 other b) h)
+
+pub not_later : (first one other t : ℤ) → IsEarlier first one other → t ≤ℤ one → t ≤ℤ other
+    → t ≤ℤ first
+not_later first one other t (inl h) a b = rw h.0 a
+not_later first one other t (inr h) a b = rw h.0 b
+
+pub before_both : (first one other t : ℤ) → IsEarlier first one other → t ≤ℤ first
+    → (t ≤ℤ one) × (t ≤ℤ other)
+before_both first one other t (inl h) a =
+    (omega (arith, ints, h.0, a), omega (arith, ints, h.0, h.1, a))
+before_both first one other t (inr h) a =
+    (omega (arith, ints, h.0, h.1, a), omega (arith, ints, h.0, a))
+
+pub last_due : (e a : ℕ) (newest now floor first latest time : ℤ) → 0 < e
+    → IsEarlier first newest now → IsMultiple e time
+    → (time ≤ℤ latest) × (latest <ℤ (time +ℤ pos e)) → latest ≡ first -ℤ pos a
+    → floor <ℤ time → IsLastDue e a newest now floor time
+last_due e a newest now floor first latest time some earlier multiple near is above =
+    let both : ((time +ℤ pos a) ≤ℤ newest) × ((time +ℤ pos a) ≤ℤ now) =
+    before_both first newest now (time +ℤ pos a) earlier (omega (arith, ints, near.0, is)) in
+    record {
+      is_due = record { multiple = multiple; above = above; sampled = both.0; passed = both.1 };
+      last = λ t d. not_above e t time d.multiple multiple (omega (
+        arith,
+        ints,
+        near.1,
+        is,
+        not_later first newest now (t +ℤ pos a) earlier d.sampled d.passed,
+      ));
+    }
+
+pub none_above : (e a : ℕ) (newest now floor first latest time : ℤ) → 0 < e
+    → IsEarlier first newest now → IsMultiple e time
+    → (time ≤ℤ latest) × (latest <ℤ (time +ℤ pos e)) → latest ≡ first -ℤ pos a
+    → time ≤ℤ floor → (t : ℤ) → IsDue e a newest now floor t → ⊥
+none_above e a newest now floor first latest time some earlier multiple near is low t d =
     omega (
       arith,
       ints,
       d.above,
       low,
-      not_above e t time d.multiple multiple (omega (arith, ints, near.1, is, d.half)),
+      not_above e t time d.multiple multiple (omega (
+        arith,
+        ints,
+        near.1,
+        is,
+        not_later first newest now (t +ℤ pos a) earlier d.sampled d.passed,
+      )),
     )
 
-pub none_yet : (e : ℕ) (newest floor first time : ℤ) → 0 < e → IsMultiple e time
-    → (time ≤ℤ floor) × (floor <ℤ (time +ℤ pos e)) → first ≤ℤ (time +ℤ pos e +ℤ pos (e - e / 2))
-    → newest <ℤ first → (t : ℤ) → IsDue e newest floor t → ⊥
-none_yet e newest floor first time some multiple near is early t d =
+pub none_yet : (e a : ℕ) (newest now floor first time : ℤ) → 0 < e → IsMultiple e time
+    → (time ≤ℤ floor) × (floor <ℤ (time +ℤ pos e)) → first ≤ℤ (time +ℤ pos e +ℤ pos a)
+    → newest <ℤ first → (t : ℤ) → IsDue e a newest now floor t → ⊥
+none_yet e a newest now floor first time some multiple near is early t d =
     omega (
       arith,
       ints,
       d.above,
       near.0,
-      not_above e t time d.multiple multiple (omega (arith, ints, is, early, d.half)),
+      not_above e t time d.multiple multiple (omega (arith, ints, is, early, d.sampled)),
     )
 
 not_more : (z : ℤ) → negsuc 9223372036854775807 ≤ℤ z → saturate_signed w64 z ≤ℤ z
