@@ -13,3 +13,4 @@ pub mod TokenTexts
 pub mod Folders
 pub mod Hosts
 pub mod Listings
+pub mod Meanings

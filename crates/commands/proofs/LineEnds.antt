@@ -53,7 +53,7 @@ memory_of : (folder : Option (Bor (List ℕ))) (reads : Host) (directories : Lis
     (serving : Serving) (old : Option (List ℕ))
     → IsFaultOf folder reads directories serving old old fault.Memory
 memory_of None reads directories serving old = by_opening tt (keeps_itself old)
-memory_of (Some folder) reads directories serving old = by_folder tt (keeps_itself old)
+memory_of (Some folder) reads directories serving old = inr (by_folder tt (keeps_itself old))
 
 memory_fault : (reads : Host) (line : Line) (old : Option (List ℕ))
     → IsLineFault reads line old old fault.Memory

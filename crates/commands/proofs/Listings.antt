@@ -134,6 +134,7 @@ list_refused reads path file (Refused (refusal.Commit error)) found h = absurd h
 list_refused reads path file (Refused (refusal.Block error)) found h = absurd h
 list_refused reads path file (Refused (refusal.Open error)) found h = absurd h
 list_refused reads path file (Refused (refusal.Snapshot error)) found h = absurd h
+list_refused reads path file (Refused refusal.WholeNumbers) found h = absurd h
 list_refused reads path file (CannotRead at) found h = absurd h
 list_refused reads path file CannotWrite found h = absurd h
 list_refused reads path file (CannotWriteAt at) found h = absurd h

@@ -16,7 +16,7 @@ use Rattle.guard.specs.declared.rules.Rules.{Rules}
 use Rattle.commands.specs.Guarding.{AreRulesOf}
 use Rattle.commands.specs.Reading.{Host}
 use Rattle.commands.specs.ServingRuns.{IsStoreFault, IsLateFault, IsDirectoriesFault, IsFaultOf}
-use Rattle.commands.specs.ServingRuns.{IsKeepingFault, IsListening, IsServeFault, IsServing}
+use Rattle.commands.specs.ServingRuns.{IsFolderRunFault, IsListening, IsServeFault, IsServing}
 use Rattle.commands.specs.ServingRuns.{TellsOf, TellsPort, by_store, passes_of, seats_of}
 use Rattle.commands.specs.declared.command.Serving.{Serving}
 use Rattle.commands.specs.declared.fault.Fault.{Fault}
@@ -78,7 +78,7 @@ module _ {T : Type 0} (reads : Host) (directories : List (List ℕ)) (serving : 
 
   pub folder_fault : (folder : Bor (List ℕ)) (result : Result T Fault)
       → serving.folder ≡ Some folder
-      → IfErr result (λ fault. IsKeepingFault folder.now serving old new fault)
+      → IfErr result (λ fault. IsFolderRunFault folder.now serving old new fault)
       → IfErr result (λ fault. IsServeFault reads directories serving old new fault)
   folder_fault folder (Ok x) is h = tt
   folder_fault folder (Err e) is h =

@@ -38,7 +38,7 @@ use Rattle.commands.specs.declared.fault.Fault.TheVariants.{NoListener, NoThread
 use Rattle.commands.specs.declared.fault.Refusal.{Refusal}
 use Rattle.commands.specs.declared.fault.Refusal.TheVariants.{Labels, Matcher, Selector, Query}
 use Rattle.commands.specs.declared.fault.Refusal.TheVariants.{Commit, Block, Open, Snapshot}
-use Rattle.commands.specs.declared.fault.Refusal.TheVariants.{Start}
+use Rattle.commands.specs.declared.fault.Refusal.TheVariants.{Start, WholeNumbers}
 use Rattle.commands.specs.declared.files.ReadError.{ReadError}
 use Rattle.commands.specs.declared.files.ReadError.TheVariants as failure
 
@@ -53,6 +53,7 @@ refusal_code (Block error) = blocks.code_of error
 refusal_code (Open error) = open_code error
 refusal_code (Snapshot error) = snapshot_code error
 refusal_code (Start error) = start_code error
+refusal_code WholeNumbers = codes "O5"
 
 -- where a text stops being a prefix of a selector
 abbrev pub selector_place : SelectorError → Option ℕ
@@ -86,6 +87,7 @@ refusal_place (Block error) = None
 refusal_place (Open error) = None
 refusal_place (Snapshot error) = None
 refusal_place (Start error) = Some (start_place error)
+refusal_place WholeNumbers = None
 
 -- the place after the code
 abbrev pub place_text : Option ℕ → List ℕ

@@ -1,18 +1,20 @@
 -- The folder of a store that is kept, and what a start finds in it.
-use Rattle.std.specs.Prelude.{◌≡◌, ◌⊎◌, ℕ, Bool, true, List, [], ◌++◌, Option, None, Some}
-use Rattle.std.specs.Prelude.{codes, map, string_bytes}
+use Rattle.std.specs.Prelude.{◌≡◌, ◌⊎◌, ℕ, ◌<◌, ◌==◌, Bool, true, List, ◌++◌, Option, None, Some}
+use Rattle.std.specs.Prelude.{codes, map, string_bytes, if◌then◌else◌}
 use Rattle.data_folder.specs.JournalFile.{journal_name}
-use Rattle.head.specs.Blocks.{opening_of, part_in}
-use Rattle.head.specs.Heads.{world_of}
-use Rattle.head.specs.Worlds.{World}
+use Rattle.block_folder.specs.declared.values.Values.{Values}
+use Rattle.block_folder.specs.declared.values.Values.TheVariants.{Whole, Doubles}
+use Rattle.head.specs.Blocks.{part_in}
 use Rattle.store_folder.specs.Finding.{IsFoundStore}
+use Rattle.store_folder.specs.Origins.{Origin, beginning}
 use Rattle.store_folder.specs.Refusals.{IsRefusal}
-use Rattle.store_folder.specs.States.{started}
+use Rattle.store_folder.specs.States.{origin_of}
 use Rattle.store_folder.specs.declared.reading.FoundStore.{FoundStore}
+use Rattle.commands.specs.declared.command.Serving.{Serving}
 use Rattle.commands.specs.declared.fault.Fault.{Fault}
 use Rattle.commands.specs.declared.fault.Fault.TheVariants.{Refused, CannotRead, CannotWriteAt}
 use Rattle.commands.specs.declared.fault.Fault.TheVariants.{Locked, Memory}
-use Rattle.commands.specs.declared.fault.Refusal.TheVariants.{Start}
+use Rattle.commands.specs.declared.fault.Refusal.TheVariants.{Start, WholeNumbers}
 
 -- the path of a name in a folder
 abbrev pub path_in : List ℕ → List ℕ → List ℕ
@@ -66,8 +68,30 @@ abbrev pub IsFoundOnHost : Option FoundStore → Type 0
 IsFoundOnHost found =
     HasFound {F = Unit {0}} (λ f name x. Unit {0}) (λ f name n. Unit {0}) tt found
 
--- the world before the events of what was found: that of the journal's head and blocks, or of a
--- store that has nothing
-abbrev pub first_of : Option FoundStore → World
-first_of None = world_of (opening_of [])
-first_of (Some s) = world_of (started s.journal.head (map part_in s.blocks.items))
+-- what the values of a store mean that begins: doubles exactly if the port of Prometheus is asked
+-- for
+abbrev pub asked_values : Serving → Values
+asked_values serving = if serving.prometheus_port == 0 then Whole else Doubles
+
+-- where what was found begins, before its events: with the world of the journal's head and blocks
+-- and what the head says that values mean; or as a store that has nothing, whose values mean what
+-- is asked for
+abbrev pub first_of : Values → Option FoundStore → Origin
+first_of values None = beginning values
+first_of values (Some s) = origin_of s.journal.head (map part_in s.blocks.items)
+
+-- the port of Prometheus is asked for only if values are doubles
+abbrev pub IsMeant : Serving → Values → Type 0
+IsMeant serving values = (serving.prometheus_port ≡ 0) ⊎ (values ≡ Doubles)
+
+-- a store of whole numbers was found
+abbrev pub HasWhole : Option FoundStore → Type 0
+HasWhole None = ⊥
+HasWhole (Some s) = s.journal.head.values ≡ Whole
+
+-- the port of Prometheus is refused: it is asked for, and a store of whole numbers was found
+pub record IsPortFault (found : Option FoundStore) (serving : Serving) (fault : Fault)
+    : Type 0 where
+  pub refused : fault ≡ Refused WholeNumbers
+  pub asked : 0 < serving.prometheus_port
+  pub whole : HasWhole found

@@ -1,6 +1,6 @@
 -- The command line of `serve`.
 use Rattle.std.specs.Prelude.{◌≡◌, ◌⊎◌, ℕ, ◌<◌, ◌^◌, List, [], length, Option, None, Some, true}
-use Rattle.std.specs.Prelude.{codes}
+use Rattle.std.specs.Prelude.{codes, ◌-◌, ◌/◌}
 use Rattle.std.specs.Prelude.{Bool, false, not, ◌&&◌, ◌==◌, is_some, map, option_map, unwrap_or}
 use Rattle.std.specs.Str.Parse.{IsNumeral, without_leading_plus, digits_value}
 use Rattle.clap.specs.Words.{App, Row, Rule, Text, new_app, new_rule, with_rule, one_of}
@@ -41,15 +41,19 @@ text_rule name = record (new_rule name) { long = Some name; value_names = 1 }
 -- the options of `serve` with a number
 abbrev pub counts_app : App
 counts_app =
-    with_rule (with_rule (with_rule (with_rule (with_rule (with_rule (with_rule
-    (new_app (codes "serve")) port_rule) (count_rule (codes "workers") 1 64))
+    with_rule (with_rule (with_rule (with_rule (with_rule (with_rule (with_rule (with_rule
+    (with_rule (with_rule (new_app (codes "serve")) port_rule) (count_rule (codes "workers") 1 64))
     (count_rule (codes "requests") 0 18446744073709551615))
-    (count_rule (codes "idle-seconds") 0 4294967295)) (count_rule (codes "status-port") 1 65535))
+    (count_rule (codes "idle-seconds") 0 4294967295))
+    (count_rule (codes "prometheus-port") 0 65535))
+    (count_rule (codes "prometheus-workers") 1 64)) (count_rule (codes "status-port") 1 65535))
     (count_rule (codes "cut-every") 1 4611686018427387903))
+    (count_rule (codes "cut-after") 0 4611686018427387903))
     (count_rule (codes "journal-mb") 1 1048576)
 
--- serve --port P [--workers W] [--requests N] [--idle-seconds S] [--status-port P]
--- [--cut-every MS] [--journal-mb MB] [--read-only] [--guard FILE] [--data DIR] [--quiet] [DIR]...
+-- serve --port P [--workers W] [--requests N] [--idle-seconds S] [--prometheus-port P]
+-- [--prometheus-workers W] [--status-port P] [--cut-every MS] [--cut-after MS] [--journal-mb MB]
+-- [--read-only] [--guard FILE] [--data DIR] [--quiet] [DIR]...
 abbrev pub serve_app : App
 serve_app =
     with_rule (with_rule (with_rule (with_rule (with_rule counts_app
@@ -80,8 +84,13 @@ pub record IsServingIn (rows : List Row) (serving : Serving) : Type 0 where
   pub workers : IsCountIn (one_of (codes "workers") rows) 4 serving.workers
   pub requests : IsCountIn (one_of (codes "requests") rows) 18446744073709551615 serving.requests
   pub idle : IsCountIn (one_of (codes "idle-seconds") rows) 30 serving.idle_seconds
+  pub prometheus_port : IsCountIn (one_of (codes "prometheus-port") rows) 0 serving.prometheus_port
+  pub prometheus_workers : IsCountIn (one_of (codes "prometheus-workers") rows) 4
+      serving.prometheus_workers
   pub status_port : IsCountIn (one_of (codes "status-port") rows) 0 serving.status_port
   pub cut_every : IsCountIn (one_of (codes "cut-every") rows) 0 serving.cut_every
+  pub cut_after : IsCountIn (one_of (codes "cut-after") rows)
+      (serving.cut_every - serving.cut_every / 2) serving.cut_after
   pub read_only : IsFlagIn (one_of (codes "read-only") rows) serving.read_only
   pub guard : option_map (λ file. file.now) serving.guard ≡ first_of (codes "guard") rows
   pub folder : option_map (λ folder. folder.now) serving.folder ≡ first_of (codes "data") rows

@@ -8,7 +8,8 @@ use Rattle.snapshots.specs.Seats.{IsRoom}
 use Rattle.snapshots.specs.declared.error.OpenError.TheVariants as store
 use Rattle.guard.specs.declared.rules.Rules.{Rules}
 use Rattle.commands.specs.Guarding.{AreRulesOf, IsGuardFault}
-use Rattle.commands.specs.Keeping.{IsDataFault}
+use Rattle.store_folder.specs.declared.reading.FoundStore.{FoundStore}
+use Rattle.commands.specs.Keeping.{IsDataFault, IsPortFault}
 use Rattle.commands.specs.Opening.{AreBlocksAt, IsOpeningFault}
 use Rattle.commands.specs.Reading.{Host}
 use Rattle.commands.specs.Selecting.{KeepsAt}
@@ -59,23 +60,31 @@ TellsOf (Some folder) reads serving directories old new = IsKeeping reads servin
 abbrev pub IsServing : Host → Serving → List (List ℕ) → Option (List ℕ) → Option (List ℕ) → Type 0
 IsServing reads serving directories old new = TellsOf serving.folder reads serving directories old new
 
--- how many seats there are: one for each worker, and one for the cuts of the server itself
+-- how many workers serve the port of Prometheus
+abbrev pub remote_workers_of : Serving → ℕ
+remote_workers_of serving =
+    if serving.prometheus_port == 0 then 0 else serving.prometheus_workers
+
+-- how many seats there are: one for each worker of either port, and one for the cuts of the server
+-- itself
 abbrev pub seats_of : Serving → ℕ
-seats_of serving = if serving.cut_every == 0 then serving.workers else serving.workers + 1
+seats_of serving =
+    serving.workers + remote_workers_of serving + (if serving.cut_every == 0 then 0 else 1)
 
 -- how many passes there are: one for each seat, and one for those that watch
 abbrev pub passes_of : Serving → ℕ
 passes_of serving = if serving.status_port == 0 then seats_of serving else seats_of serving + 1
 
--- why those that watch are not answered: their port cannot be listened on
+-- why those that watch, or a Prometheus, are not answered: their port cannot be listened on
 abbrev pub IsWatchFault : Serving → Fault → Type 0
 IsWatchFault serving (CannotListen port) =
-    (0 < serving.status_port) × (port ≡ serving.status_port)
+    ((0 < serving.status_port) × (port ≡ serving.status_port))
+    ⊎ ((0 < serving.prometheus_port) × (port ≡ serving.prometheus_port))
 IsWatchFault serving other = ⊥
 
 -- why a store over blocks is not served: there are not 1 to 64 workers (fewer by one if they are
--- watched, and by one if the server cuts by itself), the store has no room for so many readers, the
--- port cannot be listened on, or memory or the writer failed
+-- watched, by one if the server cuts by itself, and by those of the port of Prometheus), the store
+-- has no room for so many readers, the port cannot be listened on, or memory or the writer failed
 abbrev pub IsStoreFault : Serving → Fault → Type 0
 IsStoreFault serving (Refused (Open store.BadPasses)) =
     ¬ IsRoom (passes_of serving) (seats_of serving)
@@ -116,18 +125,32 @@ pub data IsKeepingFault (folder : List ℕ) (serving : Serving) (old new : Optio
       → IsKeepingFault folder serving old new fault
   by_workers : IsServingFault serving old new fault → IsKeepingFault folder serving old new fault
 
+-- the port of Prometheus is refused over what was found in a folder, and nothing was written
+pub record IsRefusedPort (serving : Serving) (old new : Option (List ℕ)) (fault : Fault)
+    : Type 0 where
+  pub found : Option FoundStore
+  pub is : IsPortFault found serving fault
+  pub keeps : KeepsAt fault old new
+
+-- why a folder is not served, or not until each worker has ended: the port of Prometheus is refused
+-- over the store that it has; or by the folder, or by the store
+abbrev pub IsFolderRunFault : List ℕ → Serving → Option (List ℕ) → Option (List ℕ) → Fault
+    → Type 0
+IsFolderRunFault folder serving old new fault =
+    IsRefusedPort serving old new fault ⊎ IsKeepingFault folder serving old new fault
+
 -- why the store that is asked for is not served, or not until each worker has ended
 abbrev pub IsFaultOf : Option (Bor (List ℕ)) → Host → List (List ℕ) → Serving → Option (List ℕ)
     → Option (List ℕ) → Fault → Type 0
 IsFaultOf None reads directories serving old new fault =
     IsDirectoriesFault reads directories serving old new fault
 IsFaultOf (Some folder) reads directories serving old new fault =
-    IsKeepingFault folder.now serving old new fault
+    IsFolderRunFault folder.now serving old new fault
 
--- Why a line of `serve` ends before each worker has: by the file of its token; by the status port;
--- by the directories, or where a store is kept by its folder; or by the store, the port or the
--- writer, or once the port was told by the listener, a thread or want of memory. Before that the
--- writer holds what it held, unless it failed.
+-- Why a line of `serve` ends before each worker has: by the file of its token; by the status port
+-- or that of Prometheus; by the directories, or where a store is kept by its folder; or by the
+-- store, the port or the writer, or once the port was told by the listener, a thread or want of
+-- memory. Before that the writer holds what it held, unless it failed.
 pub data IsServeFault (reads : Host) (directories : List (List ℕ)) (serving : Serving)
     (old new : Option (List ℕ)) (fault : Fault) : Type 0 where
   by_guard : IsGuardFault serving fault → KeepsAt fault old new

@@ -19,6 +19,11 @@ ghost use Rattle.commands.specs.Lines.{IsTimeIn, IsSelectionIn};
 ghost use Rattle.commands.specs.Lines.{AreTakenByClap, AreRefusedByClap, IsFoundLine, IsLineOf};
 ghost use Rattle.commands.specs.Lines.{texts_of};
 
+use crate::help::{
+    CHECKS, CUT_AFTER, CUT_EVERY, DATA, EXAMPLE, FROM, GUARD, IDLE, JOURNAL_MB, JOURNALS, PATH,
+    PORT, PROMETHEUS_PORT, PROMETHEUS_WORKERS, QUIET, READ_ONLY, REQUESTS, SERVES, STATUS_PORT,
+    STATUSES, TO, VERSION, WORKERS,
+};
 use clap::builder::ValueParser;
 use clap::error::ErrorKind;
 use clap::{Arg, ArgAction, ArgMatches, Command, Error, value_parser};
@@ -45,10 +50,16 @@ pub struct Serving<'a> {
     pub requests: u64,
     /// For how many seconds a client may be silent; 0 for ever.
     pub idle_seconds: u64,
+    /// The port of 127.0.0.1 for what a Prometheus sends and asks; 0 for none.
+    pub prometheus_port: u64,
+    /// How many workers serve that port, each a thread.
+    pub prometheus_workers: u64,
     /// The port of 127.0.0.1 for those that ask how the server stands; 0 for none.
     pub status_port: u64,
     /// At multiples of how many milliseconds the server cuts by itself; 0 for never.
     pub cut_every: u64,
+    /// How many milliseconds behind the newest sample and the clock a cut of its own lies at least.
+    pub cut_after: u64,
     /// Whether there is no `POST`.
     pub read_only: bool,
     /// The file with the token of each `POST`, if requests are guarded.
@@ -81,177 +92,6 @@ pub enum Line<'a> {
     /// What the journal at this path holds.
     Journal(&'a str),
 }
-
-const FROM: &str =
-    "The first time, in milliseconds; a negative one is written --from=-10 [default: -2^62]";
-
-const TO: &str = "The last time, in milliseconds [default: 2^62 - 1]";
-
-const QUIET: &str = "Does not tell a terminal which directory is read";
-
-const STATUSES: &str =
-    "Exit status: 0 done; 1 refused, with the code on standard error, or by `check` in a line of its
-own; 2 a fault of the words; 3 cannot read or write; 4 no memory
-
-Example: querier select 'up{job=\"a\"}' data/0001";
-
-/// What `--version` tells behind the name: no build knows its commit.
-const VERSION: &str = "0.1.0 (rattle-kit-13b)";
-
-/// The version, and the one of the kit, as the status port tells them.
-pub(crate) const OWN_VERSION: &str = "0.1.0";
-
-pub(crate) const KIT_VERSION: &str = "rattle-kit-13b";
-
-const CHECKS: &str =
-    "A block is a directory with the files meta.json, index, chunks/000001 and tombstones. All four
-are read before any is judged: the meta, the index, the chunks of each series, the tombstones.
-
-For each directory, in the order given, one line is printed:
-  DIR: ok 6 series 6 samples   a block, with so many series and samples that are not deleted
-  DIR: refused I14             not a block, and the code of the first check that fails
-
-  B2        meta.json is not that of a block: an object with minTime below maxTime and version 1
-  I1 to I15 the index, or a series of more than 1,048,576 samples (I15)
-  C1 to C8  the chunks; those that Prometheus itself writes are refused with C5, and
-            `blocktool from-prometheus` makes a block of them that is read
-  T1 to T5  the tombstones
-  B1        a chunk outside the range of the meta
-
-docs/FORMATS.md of the project explains each code.
-
-Exit status: 0 each is a block; 1 a line names a refusal; 2 a fault of the words; 3 a file cannot be
-read (it is named on standard error, and the lines of earlier directories are printed), or the lines
-cannot be written; 4 no memory
-
-Example: querier check data/0001 data/0002";
-
-const EXAMPLE: &str =
-    "A selector is a metric name, matchers in braces, or both. Matchers are name=\"text\",
-name!=\"text\", name=~\"pattern\" and name!~\"pattern\"; an absent label counts as the empty text.
-
-The blocks in the directories are searched in the order given, as \"block 0\", \"block 1\" and so
-on, and after them an empty head. Their ranges may overlap: of two samples of one series at one
-time, that of the later block stands. Each directory is verified completely, as by `querier check`,
-before anything is printed.
-
-Refusals, the first that holds:
-  M4 at N  no selector; N is the length in bytes of its longest prefix that begins one
-  M6       no matcher
-  M5       more than 16 matchers
-  M3       a pattern of more than 256 bytes
-  M2       a pattern that is refused by the library of patterns
-  Q1       a range that ends before it begins, or an end of it that is no time
-  B2, I1 to I15, C1 to C8, T1 to T5, B1
-           the first directory at fault holds no block; `querier check --help` tells the codes
-  O3       more than 63 directories
-
-Exit status: 0 done; 1 refused, with the code on standard error; 2 a fault of the words; 3 a file
-cannot be read (it is named on standard error), or the answer cannot be written; 4 no memory
-
-Example: querier select --from=-10 --to=100 'up{job=\"a\",zone=~\"x|\"}' data/0001 data/0002";
-
-const PORT: &str = "The port of 127.0.0.1, 0 to 65535; 0 takes one that is free";
-
-const WORKERS: &str = "How many workers serve, each a thread, 1 to 64 [default: 4]";
-
-const REQUESTS: &str = "After how many connections a worker ends [default: never]";
-
-const IDLE: &str = "For how many seconds a client may be silent; 0 for ever [default: 30]";
-
-const STATUS_PORT: &str =
-    "A port of 127.0.0.1 with GET /metrics, /healthy and /ready, 1 to 65535 [default: none]";
-
-const CUT_EVERY: &str =
-    "Cuts by itself at multiples of so many milliseconds, 1 to 2^62 - 1 [default: never]";
-
-const READ_ONLY: &str = "Has no POST: what is served does not change";
-
-const GUARD: &str = "The file with a token that each POST has to bear, readable by its owner alone";
-
-const DATA: &str = "A folder that keeps each change; it is made if there is none [default: none]";
-
-const JOURNAL_MB: &str =
-    "After how many MB the journal of --data is begun anew, 1 to 1048576 [default: 64]";
-
-const PATH: &str = "A journal, or the folder of --data that it stands in";
-
-const JOURNALS: &str =
-    r#"A journal is what `querier serve --data DIR` keeps in DIR/journal: one record for each change
-that was accepted. Nothing is changed, and a server may have the folder locked meanwhile.
-
-A journal begins with a head, what the store had when the journal was begun; for it a line stands
-first, with the floor in milliseconds (one of before has none):
-  head: floor 20, 1 blocks, 2 series, 40 samples
-For each change since, in their order, one line is printed, with its number from 1:
-  1 batch 120 samples of 3 series, 10 to 20
-  2 deletion {job="a"} 0 to 10
-  3 cut at 20
-and then a line with how many they are, how many bytes they take, and how many bytes of a torn
-record stand behind them, which the next start cuts off:
-  3 events, 4711 bytes, 0 bytes of a torn record
-
-Refusals, the first that holds, with its place; nothing is printed then:
-  J1 at 0, J2 at 4   no journal, or of another version
-  J3, J4 at BYTE     damage before the last record: a checksum or a length that is wrong
-  J8 to J14 at N     the content behind N others is none of a head, or behind N changes no change
-
-docs/FORMATS.md of the project explains each code.
-
-Exit status: 0 done; 1 refused, with the code on standard error; 2 a fault of the words; 3 a file
-cannot be read (it is named on standard error), or the lines cannot be written; 4 no memory
-
-Example: querier journal data"#;
-
-const SERVES: &str =
-    r#"The directories are opened and verified as by `querier select`, and over them stands an empty
-head, in memory alone: what is written to it ends with the program. Then `listening P` is printed, P
-being the real port.
-
-With --data, the store begins empty, and each write, deletion and cut is in DIR/journal, synced,
-before its reply goes out. A start replays them over the blocks in DIR/blocks: standard error tells
-`recovered N blocks, N events`, and how many bytes of a torn record it cut off; or `began
-DIR/journal`. If one of these is a cut, or there are some and the journal is longer than
---journal-mb, the start then writes the blocks to DIR/blocks and begins the journal anew, and tells
-`rolled DIR/journal`. The server does so as well when the journal has grown by more than
---journal-mb, or after a cut by an eighth of it, and tells `rolled the journal`.
-Directories beside --data are a fault of the words. If the server cannot make sure that a change is
-kept, it is refused with H11 (503): no reader of this run sees it, but if the journal closed, the
-next start may find it. What is damaged is refused and left as it is: with J1 to J4 or J8 to J14
-(`querier journal --help` tells these), J15 at N if a file of DIR/blocks/N is missing, J16 at N if
-they are no block, J17 if no store has what the journal begins with, or J18 at N if the change
-behind N others is one that those do not admit. DIR/lock is locked as long as the server runs.
-
-  GET /select?selector=up%7Bjob%3D%22a%22%7D&from=0&to=100
-                 the audited answer, as `querier select` prints it
-  POST /write    rows, as [{"labels":{"__name__":"up","job":"a"},"samples":[[10,1],[20,1]]}]
-  POST /delete   as {"from":0,"selector":"{job=\"a\"}","to":1000}
-  POST /cut      as {"at":20}: what is before that time becomes a block
-
-A connection is served one request, and closed. A worker takes one connection after another; a
-client that gives no byte, or takes none, for the idle seconds is dropped. docs/HTTP.md of the
-project tells each reply and refusal.
-
-A browser on this machine sends what any page tells it to, and each local user reaches the port.
-With --guard, a POST needs the field `Authorization: Bearer TOKEN`, with the token that is all of
-the file, save an end of a line; and each request that has an `Origin`, or whose only `Host` is not
-127.0.0.1, localhost or [::1], is refused with H12. With --read-only, a POST is of no path (H3).
-
-With --status-port, a second listener answers GET /metrics in the text format of Prometheus, GET
-/healthy, and GET /ready, which is 503 until the blocks are open.
-
-With --cut-every MS, the server cuts by itself, as by POST /cut, at multiples of MS milliseconds: as
-soon as a sample half of MS later, or later still, is committed, at the last multiple of which that
-is so. If a cut is refused, standard error says `cannot cut at T: CODE`, and a later one is tried.
-
-A status port, and cuts, each take the room of one worker of 64: more are refused (O2).
-
-Exit status: 0 each worker has ended; 1 the directories are refused, as by `select`, or the journal
-is; 2 a fault of the words; 3 a file cannot be read or written, another process has the folder
-locked, a port cannot be listened on, the line cannot be written, a thread cannot be made, or the
-listener is gone; 4 no memory
-
-Example: querier serve --port 8080 data/0001 data/0002"#;
 
 /// The most milliseconds between cuts: the greatest time.
 const LONGEST: u64 = 4_611_686_018_427_387_903;
@@ -393,8 +233,17 @@ fn counts<'a>(alloc: Global) -> Result<Command<'a>, AllocError>
         .arg(count(alloc, "workers", "W", (1, 64), WORKERS))?
         .arg(count(alloc, "requests", "N", (0, u64::MAX), REQUESTS))?
         .arg(count(alloc, "idle-seconds", "S", (0, u32::MAX as u64), IDLE))?
+        .arg(count(alloc, "prometheus-port", "P", (0, 65535), PROMETHEUS_PORT))?
+        .arg(count(
+            alloc,
+            "prometheus-workers",
+            "W",
+            (1, 64),
+            PROMETHEUS_WORKERS,
+        ))?
         .arg(count(alloc, "status-port", "P", (1, 65535), STATUS_PORT))?
         .arg(count(alloc, "cut-every", "MS", (1, LONGEST), CUT_EVERY))?
+        .arg(count(alloc, "cut-after", "MS", (0, LONGEST), CUT_AFTER))?
         .arg(count(alloc, "journal-mb", "MB", (1, 1048576), JOURNAL_MB))
 }
 
@@ -527,16 +376,22 @@ fn serving_in<'a>(found: &ArgMatches<'a>) -> Serving<'a>
     let workers = count_in(found, "workers", 4);
     let requests = count_in(found, "requests", u64::MAX);
     let idle_seconds = count_in(found, "idle-seconds", 30);
+    let prometheus_port = count_in(found, "prometheus-port", 0);
+    let prometheus_workers = count_in(found, "prometheus-workers", 4);
     let status_port = count_in(found, "status-port", 0);
     let cut_every = count_in(found, "cut-every", 0);
+    let cut_after = count_in(found, "cut-after", cut_every - cut_every / 2);
     let journal_mb = count_in(found, "journal-mb", 64);
     Serving {
         port,
         workers,
         requests,
         idle_seconds,
+        prometheus_port,
+        prometheus_workers,
         status_port,
         cut_every,
+        cut_after,
         read_only: flag_in(found, "read-only"),
         guard: given_in(found, "guard"),
         folder: given_in(found, "data"),

@@ -144,7 +144,7 @@ fn commit<J: Naming, R: Wait>(
 {
     match committer.commit(rt, seat, appender) {
         Ok(receipt) => Ok(receipt),
-        Err((_appender, refusal)) => Err(Fault::from(refusal)),
+        Err((_appender, refused)) => Err(Fault::from(refused.error)),
     }
 }
 

@@ -39,6 +39,9 @@ pub enum Refusal {
     Snapshot(SnapshotError),
     /// The folder of a store that is kept: `J1` to `J4`, `J8` to `J18`.
     Start(StartError),
+    /// `O5`: the port of Prometheus is for a store whose values are doubles, and those of the store
+    /// that a folder has are whole numbers.
+    WholeNumbers,
 }
 
 impl Refusal {
@@ -56,6 +59,7 @@ impl Refusal {
             Refusal::Open(error) => error.code(),
             Refusal::Snapshot(error) => error.code(),
             Refusal::Start(error) => error.code(),
+            Refusal::WholeNumbers => "O5",
         }
     }
 

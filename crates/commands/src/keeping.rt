@@ -1,28 +1,34 @@
 //! A store that is kept in a folder, and its server.
 
-ghost use Rattle.std.specs.Prelude.{◌≡◌, List, [], None, Ok, true, IfOk, IfErr, OnOk, map, vec_len};
+ghost use Rattle.std.specs.Prelude.{◌≡◌, ◌⊎◌, List, None, Ok, true, IfOk, IfErr, OnOk, map};
+ghost use Rattle.std.specs.Prelude.{vec_len};
 ghost use Rattle.std.specs.List.{All};
 ghost use Rattle.std.specs.Thread.{IsSend, IsSync};
-ghost use Rattle.head.specs.Blocks.{opening_of, part_in};
+ghost use Rattle.head.specs.Blocks.{part_in};
 ghost use Rattle.head.specs.Heads.{world_of};
 ghost use Rattle.head.specs.Worlds.{replayed};
 ghost use Rattle.store_folder.specs.Codes.{cause_of};
 ghost use Rattle.store_folder.specs.Finding.{IsFoundStore};
 ghost use Rattle.store_folder.specs.Holding.{HoldsOrLost};
 ghost use Rattle.store_folder.specs.Starting.{GoesOn};
-ghost use Rattle.store_folder.specs.States.{started};
+ghost use Rattle.store_folder.specs.Origins.{beginning};
+ghost use Rattle.store_folder.specs.States.{origin_of};
 ghost use Rattle.server.specs.Shifts.{AreUnder, EachServed};
 ghost use Rattle.store_folder.specs.Refusals.{IsRefusal};
 ghost use Rattle.store_folder.specs.declared.error.StartCause.TheVariants.{Refused};
 ghost use Rattle.commands.specs.Keeping.{IsDataFault, IsFoundOnHost, IsRead, first_of};
+ghost use Rattle.commands.specs.Keeping.{IsMeant, IsPortFault, asked_values};
+ghost use Rattle.commands.specs.Selecting.{KeepsAt};
 ghost use Rattle.commands.specs.ServingRuns.{TellsPort, IsKeepingFault, IsServingFault};
+ghost use Rattle.commands.specs.ServingRuns.{IsFolderRunFault};
 
 use crate::command::Serving;
 use crate::fault::{Fault, Refusal};
 use crate::files::ReadFiles;
 use crate::locking::{block_path_in, cannot_read, cannot_write, lock_data, path_in};
 use crate::process::Process;
-use crate::serve::{counts_of, passes_of, seats_of, serve_workers, watch_at, with_cuts};
+use crate::serve::{Doors, counts_of, passes_of, seats_of, serve_workers, watch_at, with_roles};
+use block_folder::Values;
 use data_folder::{Folder, HostFolder, RollError};
 use guard::Rules;
 use server::{Shift, Workers, report_opening};
@@ -229,7 +235,7 @@ fn roll_data<R: Eprint, N: Beginning, H: Folder + Drop>(
         kept.keeper.store.events.journal.closed kept.journal.events.items
         kept.keeper.places.items (map part_in kept.keeper.blocks.items) kept.snapshot }
     ensures journal { IfOk result (λ x. x.journal ≡ kept.journal) }
-    ensures world { IfOk result (λ x. replayed N.first x.journal.events.items
+    ensures world { IfOk result (λ x. replayed N.first.world x.journal.events.items
         ≡ Ok (world_of x.snapshot)) }
     ensures held { IfOk result (λ x. HoldsOrLost H.shows H.kept H.sound H.moment H.left_since
         N.first x.keeper.store.events.journal.medium x.keeper.store.events.journal.len
@@ -266,17 +272,18 @@ fn not_started(alloc: Global, folder: &str, error: StartError) -> Fault
     }
 }
 
-/// Begins the store of a folder that has none, and tells it.
+/// Begins the store of a folder that has none, whose values mean this, and tells it.
 fn begin_data<R: Eprint, N: Beginning, H: Folder + Drop>(
     rt: &R,
     alloc: Global,
     disk: H,
     folder: &str,
+    values: Values,
     most: u64,
 ) -> Result<StartedStore<N, H>, Fault>
     requires read { IsRead H.shows H.kept H.sound disk None }
-    requires first { N.first ≡ world_of (opening_of []) }
-    ensures world { IfOk result (λ x. replayed N.first x.journal.events.items
+    requires first { N.first ≡ beginning values }
+    ensures world { IfOk result (λ x. replayed N.first.world x.journal.events.items
         ≡ Ok (world_of x.snapshot)) }
     ensures held { IfOk result (λ x. HoldsOrLost H.shows H.kept H.sound H.moment H.left_since
         N.first x.keeper.store.events.journal.medium x.keeper.store.events.journal.len
@@ -284,7 +291,7 @@ fn begin_data<R: Eprint, N: Beginning, H: Folder + Drop>(
         (map part_in x.keeper.blocks.items)) }
     ensures err { IfErr result (IsDataFault folder.now) }
 {
-    match begin_store(alloc, disk, most) {
+    match begin_store(alloc, disk, values, most) {
         Ok(kept) => {
             tell_begun(rt, folder);
             Ok(kept)
@@ -306,8 +313,8 @@ fn resume_data<R: Eprint, N: Beginning, H: Folder + Drop>(
     requires found { IsFoundStore H.shows H.kept found.journal (map part_in found.blocks.items)
         disk }
     requires first { N.first
-        ≡ world_of (started found.journal.head (map part_in found.blocks.items)) }
-    ensures world { IfOk result (λ x. replayed N.first x.journal.events.items
+        ≡ origin_of found.journal.head (map part_in found.blocks.items) }
+    ensures world { IfOk result (λ x. replayed N.first.world x.journal.events.items
         ≡ Ok (world_of x.snapshot)) }
     ensures held { IfOk result (λ x. HoldsOrLost H.shows H.kept H.sound H.moment H.left_since
         N.first x.keeper.store.events.journal.medium x.keeper.store.events.journal.len
@@ -332,11 +339,12 @@ fn start_data<R: Eprint, N: Beginning, H: Folder + Drop>(
     disk: H,
     found: Option<FoundStore>,
     folder: &str,
+    values: Values,
     most: u64,
 ) -> Result<StartedStore<N, H>, Fault>
     requires read { IsRead H.shows H.kept H.sound disk found }
-    requires first { N.first ≡ first_of found }
-    ensures world { IfOk result (λ x. replayed N.first x.journal.events.items
+    requires first { N.first ≡ first_of values found }
+    ensures world { IfOk result (λ x. replayed N.first.world x.journal.events.items
         ≡ Ok (world_of x.snapshot)) }
     ensures held { IfOk result (λ x. HoldsOrLost H.shows H.kept H.sound H.moment H.left_since
         N.first x.keeper.store.events.journal.medium x.keeper.store.events.journal.len
@@ -346,7 +354,7 @@ fn start_data<R: Eprint, N: Beginning, H: Folder + Drop>(
 {
     match found {
         Some(found) => resume_data(rt, alloc, disk, found, folder, most),
-        None => begin_data(rt, alloc, disk, folder, most),
+        None => begin_data(rt, alloc, disk, folder, values, most),
     }
 }
 
@@ -363,12 +371,13 @@ fn start_watched<
     disk: H,
     found: Option<FoundStore>,
     folder: &str,
+    values: Values,
     most: u64,
     listener: &TcpListener,
 ) -> Result<StartedStore<N, H>, Fault>
     requires read { IsRead H.shows H.kept H.sound disk found }
-    requires first { N.first ≡ first_of found }
-    ensures world { IfOk result (λ x. replayed N.first x.journal.events.items
+    requires first { N.first ≡ first_of values found }
+    ensures world { IfOk result (λ x. replayed N.first.world x.journal.events.items
         ≡ Ok (world_of x.snapshot)) }
     ensures held { IfOk result (λ x. HoldsOrLost H.shows H.kept H.sound H.moment H.left_since
         N.first x.keeper.store.events.journal.medium x.keeper.store.events.journal.len
@@ -383,8 +392,8 @@ fn start_watched<
     let apart = || report_opening(rt, alloc, watch, ended);
     let here = || -> Result<StartedStore<N, H>, Fault>
         requires { IsSync R.row × IsSend H.row
-            × IsRead H.shows H.kept H.sound disk found × (N.first ≡ first_of found) }
-        ensures world { IfOk result (λ x. replayed N.first x.journal.events.items
+            × IsRead H.shows H.kept H.sound disk found × (N.first ≡ first_of values found) }
+        ensures world { IfOk result (λ x. replayed N.first.world x.journal.events.items
             ≡ Ok (world_of x.snapshot)) }
         ensures held { IfOk result (λ x. HoldsOrLost H.shows H.kept H.sound H.moment
             H.left_since N.first x.keeper.store.events.journal.medium
@@ -393,7 +402,7 @@ fn start_watched<
             (map part_in x.keeper.blocks.items)) }
         ensures err { IfErr result (IsDataFault folder.entry.now) }
     {
-        let started = start_data(rt, alloc, disk, found, folder, most);
+        let started = start_data(rt, alloc, disk, found, folder, values, most);
         ended.store(true, Ordering::SeqCst);
         started
     };
@@ -414,12 +423,13 @@ fn start_beside<
     disk: H,
     found: Option<FoundStore>,
     folder: &str,
+    values: Values,
     most: u64,
     beside: Option<&TcpListener>,
 ) -> Result<StartedStore<N, H>, Fault>
     requires read { IsRead H.shows H.kept H.sound disk found }
-    requires first { N.first ≡ first_of found }
-    ensures world { IfOk result (λ x. replayed N.first x.journal.events.items
+    requires first { N.first ≡ first_of values found }
+    ensures world { IfOk result (λ x. replayed N.first.world x.journal.events.items
         ≡ Ok (world_of x.snapshot)) }
     ensures held { IfOk result (λ x. HoldsOrLost H.shows H.kept H.sound H.moment H.left_since
         N.first x.keeper.store.events.journal.medium x.keeper.store.events.journal.len
@@ -428,8 +438,12 @@ fn start_beside<
     ensures err { IfErr result (IsDataFault folder.now) }
 {
     match beside {
-        Some(listener) => { start_watched(rt, alloc, files, disk, found, folder, most, listener) }
-        None => start_data(rt, alloc, disk, found, folder, most),
+        Some(listener) => {
+            start_watched(
+                rt, alloc, files, disk, found, folder, values, most, listener,
+            )
+        }
+        None => start_data(rt, alloc, disk, found, folder, values, most),
     }
 }
 
@@ -450,7 +464,7 @@ fn serve_kept<
     store: Store,
     kept: StartedStore<N, H>,
     rules: &'a Rules,
-    beside: Option<&TcpListener>,
+    doors: Doors<'_>,
     serving: Serving<'_>,
     out: &mut W,
 ) -> Result<Vec<Shift<'a>>, Fault>
@@ -460,7 +474,8 @@ fn serve_kept<
         kept.keeper.store.events.journal.medium kept.keeper.store.events.journal.len
         kept.keeper.store.events.journal.closed J.before kept.keeper.places.items
         (map part_in kept.keeper.blocks.items) }
-    requires world { replayed N.first J.before ≡ Ok (world_of J.opening) }
+    requires world { replayed N.first.world J.before ≡ Ok (world_of J.opening) }
+    requires meant { IsMeant serving N.first.values }
     ensures ok { OnOk result (TellsPort (W.contents out.old) (W.contents out.new)) }
     ensures workers { IfOk result (λ shifts. vec_len shifts ≡ serving.entry.workers) }
     ensures served { IfOk result (λ shifts. EachServed serving.entry.requests shifts.items) }
@@ -480,8 +495,8 @@ fn serve_kept<
     let opened = Workers::<J, &R, StoreKeeper<N, H>>::resume(
         rt, alloc, store, found, passes, seats,
     )?;
-    let workers = with_cuts(opened, serving);
-    serve_workers(rt, alloc, files, workers, rules, beside, serving, out)
+    let workers = with_roles(alloc, opened, serving)?;
+    serve_workers(rt, alloc, files, workers, rules, doors, serving, out)
 }
 
 /// The path of the folder of a store.
@@ -506,12 +521,13 @@ fn serve_found<
     found: Option<FoundStore>,
     at: DataPath<'_>,
     rules: &Rules,
-    beside: Option<&TcpListener>,
+    doors: Doors<'_>,
     serving: Serving<'_>,
     out: &mut W,
 ) -> Result<Vec<u64>, Fault>
     requires read { IsRead H.shows H.kept H.sound disk found }
-    requires first { N.first ≡ first_of found }
+    requires first { N.first ≡ first_of (asked_values serving) found }
+    requires meant { IsMeant serving N.first.values }
     ensures ok { OnOk result (TellsPort (W.contents out.old) (W.contents out.new)) }
     ensures workers { IfOk result (λ counts. vec_len counts ≡ serving.entry.workers) }
     ensures served { IfOk result (λ counts. All (λ n. n ≡ serving.entry.requests) counts.items) }
@@ -519,13 +535,53 @@ fn serve_found<
         (W.contents out.old) (W.contents out.new) fault) }
 {
     let most = serving.journal_mb.saturating_mul(MB);
-    let kept = start_beside::<R, N, F, H>(rt, alloc, files, disk, found, at.path, most, beside)?;
+    let values = asked_values(serving);
+    let kept = start_beside::<R, N, F, H>(
+        rt,
+        alloc,
+        files,
+        disk,
+        found,
+        at.path,
+        values,
+        most,
+        doors.status,
+    )?;
     let name = Store::new();
     let shifts = serve_kept::<Brand, N, H, R, F, W>(
-        rt, alloc, files, name, kept, rules, beside, serving, out,
+        rt, alloc, files, name, kept, rules, doors, serving, out,
     )?;
     let counts = counts_of(alloc, shifts.as_slice())?;
     Ok(counts)
+}
+
+/// What the values of a store mean that begins.
+fn asked_values(serving: Serving<'_>) -> Values
+    ensures { result ≡ asked_values serving.entry }
+{
+    if serving.prometheus_port == 0 {
+        Values::Whole
+    } else {
+        Values::Doubles
+    }
+}
+
+/// Refuses the port of Prometheus over a store of whole numbers: `O5`.
+fn allow_port(found: &Option<FoundStore>, serving: Serving<'_>) -> Result<(), Fault>
+    ensures meant { OnOk result
+        (IsMeant serving.entry (first_of (asked_values serving.entry) found.now).values) }
+    ensures err { IfErr result (IsPortFault found.now serving.entry) }
+{
+    let Some(store) = found else {
+        return Ok(());
+    };
+    if serving.prometheus_port == 0 {
+        return Ok(());
+    }
+    match store.journal.head.values() {
+        Values::Doubles => Ok(()),
+        Values::Whole => Err(Fault::Refused(Refusal::WholeNumbers)),
+    }
 }
 
 /// Serves the store that a folder was found to have, or that begins there, as [`serve_found`] does.
@@ -542,7 +598,7 @@ fn serve_folder<
     found: Option<FoundStore>,
     folder: &str,
     rules: &Rules,
-    beside: Option<&TcpListener>,
+    doors: Doors<'_>,
     serving: Serving<'_>,
     out: &mut W,
 ) -> Result<Vec<u64>, Fault>
@@ -550,12 +606,16 @@ fn serve_folder<
     ensures ok { OnOk result (TellsPort (W.contents out.old) (W.contents out.new)) }
     ensures workers { IfOk result (λ counts. vec_len counts ≡ serving.entry.workers) }
     ensures served { IfOk result (λ counts. All (λ n. n ≡ serving.entry.requests) counts.items) }
-    ensures err { IfErr result (λ fault. IsKeepingFault folder.now serving.entry
+    ensures err { IfErr result (λ fault.
+        (IsPortFault found serving.entry fault
+        × KeepsAt fault (W.contents out.old) (W.contents out.new))
+        ⊎ IsKeepingFault folder.now serving.entry
         (W.contents out.old) (W.contents out.new) fault) }
 {
+    allow_port(&found, serving)?;
     let at = DataPath { path: folder };
     serve_found::<Brand, H, R, F, W>(
-        rt, alloc, files, disk, found, at, rules, beside, serving, out,
+        rt, alloc, files, disk, found, at, rules, doors, serving, out,
     )
 }
 
@@ -571,24 +631,24 @@ pub(crate) fn serve_data<
     files: &F,
     folder: &str,
     rules: &Rules,
-    beside: Option<&TcpListener>,
+    doors: Doors<'_>,
     serving: Serving<'_>,
     out: &mut W,
 ) -> Result<Vec<u64>, Fault>
     ensures ok { OnOk result (TellsPort (W.contents out.old) (W.contents out.new)) }
     ensures workers { IfOk result (λ counts. vec_len counts ≡ serving.entry.workers) }
     ensures served { IfOk result (λ counts. All (λ n. n ≡ serving.entry.requests) counts.items) }
-    ensures err { IfErr result (λ fault. IsKeepingFault folder.now serving.entry
+    ensures err { IfErr result (λ fault. IsFolderRunFault folder.now serving.entry
         (W.contents out.old) (W.contents out.new) fault) }
 {
     let Some(host) = files.host() else {
         return Err(cannot_write(alloc, folder));
     };
     let lock = lock_data(alloc, host, folder)?;
-    let found = read_beside(rt, alloc, files, folder, beside)?;
+    let found = read_beside(rt, alloc, files, folder, doors.status)?;
     let disk = HostFolder::new(host, alloc, folder);
     let counts = serve_folder(
-        rt, alloc, files, disk, found, folder, rules, beside, serving, out,
+        rt, alloc, files, disk, found, folder, rules, doors, serving, out,
     )?;
     drop(lock);
     Ok(counts)

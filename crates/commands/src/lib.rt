@@ -35,6 +35,7 @@ mod command;
 mod demo;
 mod fault;
 mod files;
+mod help;
 mod judgement;
 mod keeping;
 pub mod listing;

@@ -10,7 +10,7 @@ ghost use Rattle.commands.specs.Selecting.{KeepsAt};
 ghost use Rattle.commands.specs.ServingRuns.{listening_line, TellsPort, IsListening, IsServing};
 ghost use Rattle.commands.specs.ServingRuns.{IsStoreFault, IsServeFault, IsServingFault};
 ghost use Rattle.commands.specs.ServingRuns.{IsDirectoriesFault, IsWatchFault, passes_of};
-ghost use Rattle.commands.specs.ServingRuns.{seats_of};
+ghost use Rattle.commands.specs.ServingRuns.{remote_workers_of, seats_of};
 ghost use Rattle.commands.specs.Guarding.{AreRulesOf};
 ghost use Rattle.commands.specs.Opening.{AreBlocksAt, IsOpeningFault};
 ghost use Rattle.std.specs.Thread.{IsSync};
@@ -18,9 +18,10 @@ ghost use Rattle.server.specs.Shifts.{AreUnder, EachServed, served_in};
 ghost use Rattle.snapshots.specs.Seats.{IsRoom};
 ghost use Rattle.commands.specs.declared.fault.Fault.TheVariants.{CannotListen};
 
-use crate::command::{KIT_VERSION, OWN_VERSION, Serving};
+use crate::command::Serving;
 use crate::fault::Fault;
 use crate::files::ReadFiles;
+use crate::help::{KIT_VERSION, OWN_VERSION};
 use crate::keeping::serve_data;
 use crate::opening::open_blocks;
 use crate::process::Process;
@@ -29,7 +30,9 @@ use crate::sending::send;
 use block::Block;
 use guard::Rules;
 use keeper::Keeper;
-use server::{ServeError, Shift, Terms, Watch, Workers, report_opening, serve_watched};
+use server::{
+    Listeners, Schedule, ServeError, Shift, Terms, Watch, Workers, report_opening, serve_watched,
+};
 use snapshots::{Naming, Store};
 use std::alloc::{AllocError, Global};
 use std::io::Write;
@@ -93,7 +96,17 @@ fn terms_of(serving: Serving<'_>) -> Terms
     Terms {
         requests: serving.requests,
         idle,
+        version: OWN_VERSION,
     }
+}
+
+/// The listeners beside that of the first port, as far as the options ask for them.
+#[derive(Clone, Copy)]
+pub(crate) struct Doors<'a> {
+    /// For those that ask how the server stands.
+    pub status: Option<&'a TcpListener>,
+    /// For what a Prometheus sends and asks.
+    pub prometheus: Option<&'a TcpListener>,
 }
 
 /// What those are told of that ask at a listener.
@@ -123,31 +136,43 @@ fn run_workers<
     listener: &TcpListener,
     rules: &'a Rules,
     process: &Process<'_, F>,
-    beside: Option<&TcpListener>,
+    doors: Doors<'_>,
     terms: Terms,
 ) -> Result<Vec<Shift<'a>>, ServeError>
     ensures all { IfOk result (λ shifts. vec_len shifts ≡ workers.entry) }
     ensures each { IfOk result (λ shifts. EachServed terms.requests shifts.items) }
     ensures ruled { IfOk result (λ shifts. AreUnder rules.now shifts.items) }
 {
-    let Some(asked) = beside else {
-        return server::serve(rt, alloc, workers, listener, rules, terms);
+    let listeners = Listeners {
+        first: listener,
+        prometheus: doors.prometheus,
+    };
+    let Some(asked) = doors.status else {
+        return server::serve(rt, alloc, workers, listeners, rules, terms);
     };
     let watch = watch_at(asked, process);
-    serve_watched(rt, alloc, workers, listener, rules, terms, &watch)
+    serve_watched(rt, alloc, workers, listeners, rules, terms, &watch)
 }
 
-/// How many seats there are, as far as they can be counted: one for each worker, and one for the
-/// cuts of the server itself.
+/// How many workers serve the port of Prometheus.
+fn remote_workers_of(serving: Serving<'_>) -> usize
+    ensures { result ≡ remote_workers_of serving.entry }
+{
+    if serving.prometheus_port == 0 {
+        0
+    } else {
+        serving.prometheus_workers as usize
+    }
+}
+
+/// How many seats there are, as far as they can be counted: one for each worker of either port, and
+/// one for the cuts of the server itself.
 pub(crate) fn seats_of(serving: Serving<'_>) -> usize
     ensures { result ≡ min (seats_of serving.entry) 18446744073709551615 }
 {
-    let workers = serving.workers as usize;
-    if serving.cut_every == 0 {
-        workers
-    } else {
-        workers.saturating_add(1)
-    }
+    let workers = (serving.workers as usize).saturating_add(remote_workers_of(serving));
+    let cutters = if serving.cut_every == 0 { 0 } else { 1 };
+    workers.saturating_add(cutters)
 }
 
 /// How many passes there are, as far as they can be counted: one for each seat, and one for those
@@ -163,19 +188,25 @@ pub(crate) fn passes_of(serving: Serving<'_>) -> usize
     }
 }
 
-/// The workers that serve, of as many as there are seats: one seat is for the cuts of the server
-/// itself, if the options ask for them.
-pub(crate) fn with_cuts<J: Naming, C: Wait + Drop, K: Keeper + Drop>(
+/// The workers of the first port, of as many as there are seats: so many others serve the port of
+/// Prometheus, and one seat is for the cuts of the server itself, if the options ask for them.
+pub(crate) fn with_roles<J: Naming, C: Wait + Drop, K: Keeper + Drop>(
+    alloc: Global,
     workers: Workers<J, C, K>,
     serving: Serving<'_>,
-) -> Workers<J, C, K>
+) -> Result<Workers<J, C, K>, AllocError>
     requires { workers ≡ seats_of serving }
-    ensures { result ≡ serving.entry.workers }
+    ensures { IfOk result (λ w. w ≡ serving.entry.workers) }
 {
+    let workers = workers.receiving(alloc, remote_workers_of(serving))?;
     if serving.cut_every == 0 {
-        workers
+        Ok(workers)
     } else {
-        workers.cutting(serving.cut_every)
+        let when = Schedule {
+            every: serving.cut_every,
+            after: serving.cut_after,
+        };
+        Ok(workers.cutting(when))
     }
 }
 
@@ -194,7 +225,7 @@ pub(crate) fn serve_workers<
     files: &F,
     workers: Workers<J, &R, K>,
     rules: &'a Rules,
-    beside: Option<&TcpListener>,
+    doors: Doors<'_>,
     serving: Serving<'_>,
     out: &mut W,
 ) -> Result<Vec<Shift<'a>>, Fault>
@@ -209,9 +240,7 @@ pub(crate) fn serve_workers<
     tell_port(alloc, &listener, serving, out)?;
     let process = Process { alloc, files };
     let terms = terms_of(serving);
-    let shifts = run_workers(
-        rt, alloc, workers, &listener, rules, &process, beside, terms,
-    )?;
+    let shifts = run_workers(rt, alloc, workers, &listener, rules, &process, doors, terms)?;
     Ok(shifts)
 }
 
@@ -230,7 +259,7 @@ fn serve_blocks<
     store: Store,
     blocks: Vec<Block>,
     rules: &'a Rules,
-    beside: Option<&TcpListener>,
+    doors: Doors<'_>,
     serving: Serving<'_>,
     out: &mut W,
 ) -> Result<Vec<Shift<'a>>, Fault>
@@ -248,8 +277,8 @@ fn serve_blocks<
     let seats = seats_of(serving);
     let passes = passes_of(serving);
     let opened = Workers::<J, &R>::open(rt, alloc, store, blocks, passes, seats)?;
-    let workers = with_cuts(opened, serving);
-    serve_workers(rt, alloc, files, workers, rules, beside, serving, out)
+    let workers = with_roles(alloc, opened, serving)?;
+    serve_workers(rt, alloc, files, workers, rules, doors, serving, out)
 }
 
 /// Listens on the status port, if there is one, and does not wait for its clients.
@@ -267,6 +296,19 @@ fn listen_beside<R: Net<Listener = TcpListener, Stream = TcpStream>>(
         return Err(Fault::CannotListen(serving.status_port));
     }
     Ok(Some(listener))
+}
+
+/// Listens on the port of Prometheus, if there is one.
+fn listen_prometheus<R: Net<Listener = TcpListener, Stream = TcpStream>>(
+    rt: &R,
+    serving: Serving<'_>,
+) -> Result<Option<TcpListener>, Fault>
+    ensures { IfErr result (IsWatchFault serving.entry) }
+{
+    if serving.prometheus_port == 0 {
+        return Ok(None);
+    }
+    Ok(Some(listen(rt, serving.prometheus_port)?))
 }
 
 /// Opens blocks as [`open_blocks`] does, and answers those beside that watch.
@@ -347,7 +389,7 @@ fn serve_directories<
     files: &F,
     directories: &[&str],
     rules: &Rules,
-    beside: Option<&TcpListener>,
+    doors: Doors<'_>,
     serving: Serving<'_>,
     out: &mut W,
 ) -> Result<Vec<u64>, Fault>
@@ -359,10 +401,10 @@ fn serve_directories<
     ensures err { IfErr result (λ fault. IsDirectoriesFault (F.may_read files.now)
         (paths_of directories.now) serving.entry (W.contents out.old) (W.contents out.new) fault) }
 {
-    let blocks = open_beside(rt, alloc, files, directories, beside)?;
+    let blocks = open_beside(rt, alloc, files, directories, doors.status)?;
     let store = Store::new();
     let shifts = serve_blocks::<Brand, R, F, W>(
-        rt, alloc, files, store, blocks, rules, beside, serving, out,
+        rt, alloc, files, store, blocks, rules, doors, serving, out,
     )?;
     let counts = counts_of(alloc, shifts.as_slice())?;
     Ok(counts)
@@ -372,9 +414,10 @@ fn serve_directories<
 /// asked for. It is the one that is kept in a folder, if the options name one; else it is one over
 /// the blocks in these directories, with an empty head over them.
 ///
-/// The rules are read, and the status port is listened on; the folder is locked and its journal
-/// replayed, or the directories are opened as by `select`; then the store is opened, the port
-/// listened on, and `listening P` written.
+/// The rules are read, and the status port and that of Prometheus are listened on; the folder is
+/// locked and its journal replayed, or the directories are opened as by `select`; then the store is
+/// opened, the port listened on, and `listening P` written. `O5` if the port of Prometheus is asked
+/// for and the folder has a store of whole numbers, which is then as it was.
 pub fn serve<
     R: Wait + Threads + Net<Listener = TcpListener, Stream = TcpStream> + Clock + Eprint + Sync,
     F: ReadFiles,
@@ -396,9 +439,13 @@ pub fn serve<
 {
     let rules = rules_of(alloc, files, serving)?;
     let listener = listen_beside(rt, serving)?;
-    let beside = listener.as_ref();
+    let door = listen_prometheus(rt, serving)?;
+    let doors = Doors {
+        status: listener.as_ref(),
+        prometheus: door.as_ref(),
+    };
     match serving.folder {
-        Some(folder) => serve_data(rt, alloc, files, folder, &rules, beside, serving, out),
-        None => serve_directories(rt, alloc, files, directories, &rules, beside, serving, out),
+        Some(folder) => serve_data(rt, alloc, files, folder, &rules, doors, serving, out),
+        None => serve_directories(rt, alloc, files, directories, &rules, doors, serving, out),
     }
 }

@@ -4,3 +4,4 @@ pub mod Shifts
 pub mod Counting
 pub mod Status
 pub mod Faults
+pub mod Receiving

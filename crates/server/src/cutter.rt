@@ -1,5 +1,6 @@
 //! Cuts that a server makes by itself.
 
+use crate::clock::now_in;
 use crate::sockets::micros_of;
 use crate::tally::Tally;
 use cut_schedule::{awaited, due};
@@ -15,8 +16,38 @@ use std::time::{Clock, Instant};
 /// How long a pause is, in milliseconds: the end of a server is seen after each.
 pub(crate) const PAUSE: u64 = 100;
 
+/// How often a cut's distance from the floor is halved.
+const HALVINGS: usize = 64;
+
 /// The greatest number of milliseconds between cuts.
 const MOST: u64 = 4_611_686_018_427_387_903;
+
+/// When a server cuts by itself: at multiples of `every` milliseconds, 1 to 2^62 - 1, each once it
+/// lies `after` milliseconds, 0 to 2^62 - 1, behind the newest sample and the clock. With other
+/// numbers it never does.
+#[derive(Clone, Copy, Debug, PartialEq, Eq, Drop)]
+pub struct Schedule {
+    pub every: u64,
+    pub after: u64,
+}
+
+/// A cut that is due, and the floor below it.
+#[derive(Clone, Copy, Drop)]
+struct DueCut {
+    floor: i64,
+    at: i64,
+}
+
+/// What became of a cut.
+#[derive(Clone, Copy, PartialEq, Eq, Drop)]
+enum Tried {
+    /// It was made, or someone else made it or a later one.
+    Made,
+    /// It would make a block too long.
+    TooLong,
+    /// It was refused.
+    Refused,
+}
 
 /// Who cuts a store, with a pass and a seat of its own.
 #[derive(Drop)]
@@ -24,12 +55,13 @@ pub(crate) struct Cutter<J: Naming> {
     pass: Pass<J>,
     seat: Seat<J>,
     tally: Arc<Tally>,
-    /// How many milliseconds lie between its cuts.
-    every: u64,
-    /// The time of the last cut that it tried.
+    when: Schedule,
+    /// The time up to which it tries no cut again.
     tried: i64,
-    /// How many events the store had at its last look.
+    /// How many events the store had when it last looked for its newest sample, and the time of
+    /// that, if a cut can be due by it.
     seen: Option<u64>,
+    newest: i64,
 }
 
 /// The newest of the samples of a head that are not before a time; the smallest time if there are
@@ -70,15 +102,20 @@ fn code_of(error: CommitError) -> &'static str {
 }
 
 impl<J: Naming> Cutter<J> {
-    /// Who cuts at multiples of so many milliseconds, 1 to 2^62 - 1; else never.
-    pub(crate) fn new(pass: Pass<J>, seat: Seat<J>, tally: Arc<Tally>, every: u64) -> Cutter<J> {
+    pub(crate) fn new(
+        pass: Pass<J>,
+        seat: Seat<J>,
+        tally: Arc<Tally>,
+        when: Schedule,
+    ) -> Cutter<J> {
         Cutter {
             pass,
             seat,
             tally,
-            every,
+            when,
             tried: MIN_TIME,
             seen: None,
+            newest: MIN_TIME,
         }
     }
 
@@ -86,48 +123,87 @@ impl<J: Naming> Cutter<J> {
         &self.tally
     }
 
-    /// At which time the store is to be cut now: above its floor, and above each time that was
-    /// tried. None where nothing was published since the last look.
-    fn due_now(&mut self, alloc: Global) -> Option<i64> {
-        if self.every == 0 || self.every > MOST {
+    /// Which cut of the store is due now: above its floor, and above each time that was tried. None
+    /// if nothing was published since the last look, and that found none that waits for the clock.
+    fn due_now(&mut self, rt: &impl Clock, alloc: Global) -> Option<DueCut> {
+        let Schedule { every, after } = self.when;
+        if every == 0 || every > MOST || after > MOST {
             return None;
         }
         let Ok(snapshot) = self.pass.snapshot() else {
             return None;
         };
         let events = self.pass.events();
-        if self.seen == Some(events) {
-            return None;
-        }
         let floor = snapshot.floor().max(self.tried);
-        let Ok(newest) = newest_from(alloc, snapshot.head(), awaited(self.every, floor)) else {
-            return None;
-        };
-        self.seen = Some(events);
-        due(self.every, floor, newest)
+        if self.seen != Some(events) {
+            let Ok(newest) = newest_from(alloc, snapshot.head(), awaited(every, after, floor))
+            else {
+                return None;
+            };
+            self.seen = Some(events);
+            self.newest = newest;
+        }
+        let at = due(every, after, floor, self.newest, now_in(rt))?;
+        Some(DueCut {
+            floor: snapshot.floor(),
+            at,
+        })
     }
 
     /// Cuts at a time. A refusal is told, unless someone has cut there or later.
-    fn cut<C: Wait + Drop, K: Keeper + Drop>(
+    fn cut_at<C: Wait + Drop, K: Keeper + Drop>(
         &mut self,
         rt: &(impl Wait + Eprint),
         committer: &Committer<J, C, K>,
         at: i64,
-    ) {
-        self.tried = at;
+    ) -> Tried {
         if !is_time(at) {
-            return;
+            return Tried::Refused;
         }
         match committer.cut(rt, &mut self.seat, at) {
             Ok(receipt) => {
                 self.pass.learn(&receipt);
                 self.tally.count_cut();
+                Tried::Made
             }
-            Err(CommitError::CutTooLow) => {}
-            Err(error) => {
-                let code = code_of(error);
-                let _ = eprintln!(rt; "cannot cut at {at}: {code}");
+            Err(refused) => match refused.error {
+                CommitError::CutTooLow => Tried::Made,
+                error => {
+                    let code = code_of(error);
+                    let _ = eprintln!(rt; "cannot cut at {at}: {code}");
+                    match error {
+                        CommitError::Limit => Tried::TooLong,
+                        _ => Tried::Refused,
+                    }
+                }
+            },
+        }
+    }
+
+    /// Makes a cut that is due. If a file of its block would be too long, it is tried at half its
+    /// distance from the floor, until one is made; the next look then tries the rest.
+    fn cut<C: Wait + Drop, K: Keeper + Drop>(
+        &mut self,
+        rt: &(impl Wait + Eprint),
+        committer: &Committer<J, C, K>,
+        due: DueCut,
+    ) {
+        let mut at = due.at;
+        self.tried = at;
+        for _ in 0..HALVINGS {
+            match self.cut_at(rt, committer, at) {
+                Tried::Made => {
+                    self.tried = at;
+                    return;
+                }
+                Tried::Refused => return,
+                Tried::TooLong => {}
             }
+            let half = (at.abs_diff(due.floor) / 2) as i64;
+            if half == 0 {
+                return;
+            }
+            at = at.saturating_sub(half);
         }
     }
 
@@ -139,10 +215,10 @@ impl<J: Naming> Cutter<J> {
         committer: &Committer<J, C, K>,
     ) -> u64 {
         let start = Instant::now(rt).ok();
-        let due = self.due_now(alloc);
+        let due = self.due_now(rt, alloc);
         let pauses = pauses_after(rt, start);
-        if let Some(at) = due {
-            self.cut(rt, committer, at);
+        if let Some(due) = due {
+            self.cut(rt, committer, due);
         }
         pauses
     }

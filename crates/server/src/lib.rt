@@ -24,11 +24,14 @@
 //! `snapshots` for stores.
 #![tactic(auto)]
 
+mod clock;
 mod connections;
 mod cutter;
 mod ending;
 mod error;
+mod places;
 mod pool;
+mod receiving;
 mod socket;
 mod sockets;
 mod standing;
@@ -38,8 +41,10 @@ mod tending;
 mod worker;
 
 pub use connections::Connections;
+pub use cutter::Schedule;
 pub use error::ServeError;
-pub use pool::{Terms, Workers, serve, serve_watched};
+pub use places::Workers;
+pub use pool::{Listeners, Terms, serve, serve_watched};
 pub use socket::{SocketReader, SocketWriter};
 pub use sockets::Sockets;
 pub use standing::{Memory, Watch, report_opening};

@@ -1,58 +1,27 @@
-//! A store and its workers, each in a thread of its own.
+//! The workers of a store, each in a thread of its own.
 
-ghost use Rattle.std.specs.Prelude.{◌≡◌, ◌≤◌, ◌<◌, ◌+◌, Ok, length, map, vec_len, IfOk, IfErr};
+ghost use Rattle.std.specs.Prelude.{◌≡◌, vec_len, IfOk};
 ghost use Rattle.std.specs.Thread.{IsSync};
-ghost use Rattle.head.specs.Blocks.{part_in, opening_of};
-ghost use Rattle.head.specs.Heads.{world_of};
-ghost use Rattle.head.specs.Worlds.{replayed};
-ghost use Rattle.snapshots.specs.Seats.{IsRoom};
 ghost use Rattle.server.specs.Shifts.{AreUnder, EachServed};
-ghost use Rattle.snapshots.specs.declared.error.OpenError.TheVariants.{BadPasses, Limit};
 
 use crate::cutter::Cutter;
 use crate::error::ServeError;
+use crate::places::{Place, Workers};
+use crate::receiving::{receive_all, threads_with};
 use crate::sockets::Sockets;
 use crate::standing::{Memory, Watch, report_open};
 use crate::tally::Tally;
 use crate::tending::{is_tended, tend_while};
 use crate::worker::{Shift, work};
-use block::Block;
 use guard::Rules;
-use head::Snapshot;
-use keeper::{Keeper, NoKeeper};
-use snapshots::{Committer, Naming, OpenError, Pass, Seat, Store};
+use keeper::Keeper;
+use snapshots::{Committer, Naming, Pass};
 use std::alloc::{AllocError, Global};
-use std::marker::Model;
 use std::net::TcpListener;
 use std::sync::atomic::{AtomicBool, Ordering};
 use std::sync::{Arc, Mutex, Wait};
 use std::thread::{self, Threads, join, map_vec};
 use std::time::{Clock, Duration};
-
-/// What is one worker's own.
-#[derive(Drop)]
-struct Place<J: Naming> {
-    pass: Pass<J>,
-    seat: Seat<J>,
-    tally: Arc<Tally>,
-}
-
-/// An open store and its workers. Contracts see how many workers there are.
-#[derive(Drop)]
-pub struct Workers<J: Naming, C: Wait + Drop, K: Keeper + Drop = NoKeeper> {
-    committer: Committer<J, C, K>,
-    places: Vec<Place<J>>,
-    spare: Vec<Pass<J>>,
-    cutter: Option<Cutter<J>>,
-}
-
-impl<J: Naming, C: Wait + Drop, K: Keeper + Drop> Model for Workers<J, C, K> {
-    ghost use Rattle.std.specs.Prelude.{ℕ, vec_len};
-
-    ghost Value = { ℕ };
-
-    ghost view = { λ w. vec_len w.places };
-}
 
 /// How connections are served.
 #[derive(Clone, Copy, Debug, PartialEq, Eq)]
@@ -61,119 +30,17 @@ pub struct Terms {
     pub requests: u64,
     /// How long a client may give no byte, or take none; for ever where there is no limit.
     pub idle: Option<Duration>,
+    /// The version of the program, as the port of Prometheus tells it.
+    pub version: &'static str,
 }
 
-/// Each seat with a pass; there are as many passes, or more.
-fn places_of<J: Naming>(
-    alloc: Global,
-    passes: &mut Vec<Pass<J>>,
-    seats: Vec<Seat<J>>,
-) -> Result<Vec<Place<J>>, AllocError>
-    ensures { IfOk result (λ places. vec_len places ≡ vec_len seats) }
-{
-    let mut places = Vec::new(alloc);
-    for seat in seats {
-        let Some(pass) = passes.pop() else {
-            return Err(AllocError);
-        };
-        let tally = Arc::new(alloc, Tally::new(alloc)?)?;
-        places.push(Place { pass, seat, tally })?;
-    }
-    Ok(places)
-}
-
-impl<J: Naming, C: Wait + Drop> Workers<J, C> {
-    /// Opens a store over these blocks with so many passes and workers, each worker with a pass and
-    /// a seat of its own; a pass more is for whoever watches them. `O2` where there are not 1 to 64
-    /// of each, then `O3` where there are more than 63 blocks, then `O4` and memory.
-    pub fn open(
-        rt: C,
-        alloc: Global,
-        store: Store,
-        blocks: Vec<Block>,
-        passes: usize,
-        count: usize,
-    ) -> Result<Workers<J, C>, OpenError>
-        requires book { store.seen.book ≡ J.book }
-        requires opening { opening_of (map part_in blocks.items) ≡ J.opening }
-        ensures workers { IfOk result (λ w. w ≡ count) }
-        ensures room { IfOk result (λ _. IsRoom passes count) }
-        ensures refused { IfErr result (λ e. e ≡ BadPasses → ¬ IsRoom passes count) }
-        ensures few { IfErr result (λ e. e ≡ Limit → 63 < length blocks.items) }
-    {
-        let opened = store.open::<J, C>(rt, alloc, blocks, passes, count)?;
-        Workers::seated(alloc, opened)
-    }
-}
-
-impl<J: Naming, C: Wait + Drop, K: Keeper + Drop> Workers<J, C, K> {
-    /// Opens a store over what a start found of one that was kept, with so many passes and workers,
-    /// as [`Workers::open`] does. The keeper holds the events from before, which make the world of
-    /// the snapshot. `O2` where there are not 1 to 64 of each, then `O4` and memory.
-    pub fn resume(
-        rt: C,
-        alloc: Global,
-        store: Store,
-        found: (Snapshot, K),
-        passes: usize,
-        count: usize,
-    ) -> Result<Workers<J, C, K>, OpenError>
-        requires book { store.seen.book ≡ J.book }
-        requires opening { found.0 ≡ J.opening }
-        requires kept { K.holds found.1 J.before }
-        requires world { replayed K.first J.before ≡ Ok (world_of J.opening) }
-        ensures workers { IfOk result (λ w. w ≡ count) }
-        ensures room { IfOk result (λ _. IsRoom passes count) }
-        ensures refused { IfErr result (λ e. e ≡ BadPasses → ¬ IsRoom passes count) }
-        ensures few { IfErr result (λ e. ¬ (e ≡ Limit)) }
-    {
-        let (snapshot, keeper) = found;
-        let opened = store.resume::<J, C, K>(rt, alloc, snapshot, keeper, passes, count)?;
-        Workers::seated(alloc, opened)
-    }
-
-    /// The workers of an open store.
-    fn seated(
-        alloc: Global,
-        opened: (Committer<J, C, K>, Vec<Pass<J>>, Vec<Seat<J>>),
-    ) -> Result<Workers<J, C, K>, OpenError>
-        ensures workers { IfOk result (λ w. w ≡ vec_len opened.2) }
-        ensures refused { IfErr result (λ e. e ≡ OpenError.Memory) }
-    {
-        let (committer, mut spare, seats) = opened;
-        match places_of(alloc, &mut spare, seats) {
-            Ok(places) => Ok(Workers {
-                committer,
-                places,
-                spare,
-                cutter: None,
-            }),
-            Err(_) => Err(OpenError::Memory),
-        }
-    }
-
-    /// One worker fewer: what was its own is for cuts that the store makes by itself. They are at
-    /// multiples of so many milliseconds, 1 to 2^62 - 1, each as soon as `cut_schedule` has it due.
-    pub fn cutting(self, every: u64) -> Workers<J, C, K>
-        requires { 0 < self }
-        ensures { result + 1 ≡ self }
-    {
-        let Workers {
-            committer,
-            mut places,
-            spare,
-            cutter: _,
-        } = self;
-        let Some(Place { pass, seat, tally }) = places.pop() else {
-            unreachable!()
-        };
-        Workers {
-            committer,
-            places,
-            spare,
-            cutter: Some(Cutter::new(pass, seat, tally, every)),
-        }
-    }
+/// The listeners of a server.
+#[derive(Clone, Copy)]
+pub struct Listeners<'a> {
+    /// That of the first port.
+    pub first: &'a TcpListener,
+    /// That of the port of Prometheus, if it is served.
+    pub prometheus: Option<&'a TcpListener>,
 }
 
 /// The work of one worker.
@@ -279,7 +146,51 @@ fn run_all<
     all_served(shifts, terms.requests)
 }
 
-/// Serves as [`run_all`] does, and tends the store beside.
+/// Serves both ports until each worker has ended: what those of the first have done.
+fn run_ports<
+    'a,
+    J: Naming + Send + Sync,
+    C: Wait + Drop + Send + Sync,
+    K: Keeper + Drop + Send,
+    R: Threads + Wait + Clock + Eprint + Sync,
+>(
+    rt: &R,
+    alloc: Global,
+    committer: &Committer<J, C, K>,
+    places: Vec<Place<J>>,
+    receivers: Vec<Place<J>>,
+    listeners: Listeners<'_>,
+    rules: &'a Rules,
+    terms: Terms,
+) -> Result<Vec<Shift<'a>>, ServeError>
+    ensures all { IfOk result (λ shifts. vec_len shifts ≡ vec_len places) }
+    ensures each { IfOk result (λ shifts. EachServed terms.requests shifts.items) }
+    ensures ruled { IfOk result (λ shifts. AreUnder rules.now shifts.items) }
+{
+    let Some(door) = listeners.prometheus else {
+        return run_all(rt, alloc, committer, places, listeners.first, rules, terms);
+    };
+    if !can_make(
+        rt,
+        places.len().saturating_add(threads_with(receivers.len())),
+    ) {
+        return Err(ServeError::NoThread);
+    }
+    let apart = ||
+        requires { IsSync R.row }
+    { receive_all(rt, alloc, committer, receivers, door, rules, terms) };
+    let here = || -> Result<Vec<Shift<'_>>, ServeError>
+        requires { IsSync R.row }
+        ensures all { IfOk result (λ shifts. vec_len shifts ≡ vec_len places) }
+        ensures each { IfOk result (λ shifts. EachServed terms.requests shifts.items) }
+        ensures ruled { IfOk result (λ shifts. AreUnder rules.entry.now shifts.items) }
+    { run_all(rt, alloc, committer, places, listeners.first, rules, terms) };
+    let (received, shifts) = join(rt, apart, here);
+    received?;
+    shifts
+}
+
+/// Serves as [`run_ports`] does, and tends the store beside.
 fn run_tended<
     'a,
     J: Naming + Send + Sync,
@@ -292,7 +203,8 @@ fn run_tended<
     committer: &Committer<J, C, K>,
     cutter: Option<Cutter<J>>,
     places: Vec<Place<J>>,
-    listener: &TcpListener,
+    receivers: Vec<Place<J>>,
+    listeners: Listeners<'_>,
     rules: &'a Rules,
     terms: Terms,
 ) -> Result<Vec<Shift<'a>>, ServeError>
@@ -309,7 +221,9 @@ fn run_tended<
         ensures each { IfOk result (λ shifts. EachServed terms.requests shifts.items) }
         ensures ruled { IfOk result (λ shifts. AreUnder rules.entry.now shifts.items) }
     {
-        let shifts = run_all(rt, alloc, committer, places, listener, rules, terms);
+        let shifts = run_ports(
+            rt, alloc, committer, places, receivers, listeners, rules, terms,
+        );
         ended.store(true, Ordering::SeqCst);
         shifts
     };
@@ -317,9 +231,11 @@ fn run_tended<
     shifts
 }
 
-/// Serves the connections of a listener under rules until each worker has ended, each in a thread
-/// of its own: what each has done, under these rules and for as many connections as the terms ask
-/// for.
+/// Serves the connections of listeners under rules until each worker has ended, each in a thread of
+/// its own: what each of the first port has done, under these rules and for as many connections as
+/// the terms ask for. The port of Prometheus is served by other workers, under the same rules and
+/// terms: what is written to its connections is the 503 of the room in front of them or the reply
+/// of the store to the bytes that came, and what a reply tells is kept by then.
 ///
 /// `NoThread` is answered before any connection is accepted, where so many threads cannot be made;
 /// `NoListener` where a worker has ended because there is no listener any more.
@@ -333,7 +249,7 @@ pub fn serve<
     rt: &R,
     alloc: Global,
     workers: Workers<J, C, K>,
-    listener: &TcpListener,
+    listeners: Listeners<'_>,
     rules: &'a Rules,
     terms: Terms,
 ) -> Result<Vec<Shift<'a>>, ServeError>
@@ -344,14 +260,17 @@ pub fn serve<
     let Workers {
         committer,
         places,
+        receivers,
         spare: _,
         cutter,
     } = workers;
     if !is_tended::<J, K>(cutter.as_ref()) {
-        return run_all(rt, alloc, &committer, places, listener, rules, terms);
+        return run_ports(
+            rt, alloc, &committer, places, receivers, listeners, rules, terms,
+        );
     }
     run_tended(
-        rt, alloc, &committer, cutter, places, listener, rules, terms,
+        rt, alloc, &committer, cutter, places, receivers, listeners, rules, terms,
     )
 }
 
@@ -359,10 +278,14 @@ pub fn serve<
 fn tallies_of<J: Naming>(
     alloc: Global,
     places: &[Place<J>],
+    receivers: &[Place<J>],
     cutter: Option<&Cutter<J>>,
 ) -> Result<Vec<Arc<Tally>>, AllocError> {
     let mut tallies = Vec::new(alloc);
     for place in places {
+        tallies.push(Arc::try_clone(&place.tally)?)?;
+    }
+    for place in receivers {
         tallies.push(Arc::try_clone(&place.tally)?)?;
     }
     if let Some(cutter) = cutter {
@@ -411,7 +334,7 @@ pub fn serve_watched<
     rt: &R,
     alloc: Global,
     workers: Workers<J, C, K>,
-    listener: &TcpListener,
+    listeners: Listeners<'_>,
     rules: &'a Rules,
     terms: Terms,
     watch: &Watch<'_, M>,
@@ -423,10 +346,16 @@ pub fn serve_watched<
     let Workers {
         committer,
         places,
+        receivers,
         mut spare,
         cutter,
     } = workers;
-    let tallies = tallies_of(alloc, places.as_slice(), cutter.as_ref())?;
+    let tallies = tallies_of(
+        alloc,
+        places.as_slice(),
+        receivers.as_slice(),
+        cutter.as_ref(),
+    )?;
     let seen = (spare.pop(), tallies, places.len() as u64);
     let over = AtomicBool::new(false);
     let (shared, ended) = (&committer, &over);
@@ -439,7 +368,9 @@ pub fn serve_watched<
         ensures each { IfOk result (λ shifts. EachServed terms.requests shifts.items) }
         ensures ruled { IfOk result (λ shifts. AreUnder rules.entry.now shifts.items) }
     {
-        let shifts = run_all(rt, alloc, shared, places, listener, rules, terms);
+        let shifts = run_ports(
+            rt, alloc, shared, places, receivers, listeners, rules, terms,
+        );
         ended.store(true, Ordering::SeqCst);
         shifts
     };

@@ -38,6 +38,7 @@ fn state_of<M: Memory>(watch: &Watch<'_, M>, workers: u64, busy: u64) -> State {
         blocks: 0,
         workers,
         busy,
+        port_connections: 0,
         resident: watch.memory.resident(),
         version: watch.version,
         kit: watch.kit,
@@ -116,6 +117,14 @@ impl<M: Memory, J: Naming> Open<'_, '_, M, J> {
         }
         busy
     }
+
+    fn connections(&self) -> u64 {
+        let mut connections = 0u64;
+        for tally in &self.tallies {
+            connections = connections.saturating_add(tally.connections());
+        }
+        connections
+    }
 }
 
 impl<M: Memory, J: Naming> Report for Open<'_, '_, M, J> {
@@ -151,6 +160,7 @@ impl<M: Memory, J: Naming> Report for Open<'_, '_, M, J> {
             samples,
             floor: snapshot.floor(),
             blocks: snapshot.blocks().len() as u64,
+            port_connections: self.connections(),
             ..state
         })
     }

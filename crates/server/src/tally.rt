@@ -5,7 +5,9 @@ ghost use Rattle.server.specs.Counting.{event_at, event_of, refusal_told, refusa
 
 use query_http::Note;
 use requests::{Path, Status};
-use server_metrics::{Counts, PathCounts, Times, place_in, place_of_refusal, place_of_status};
+use server_metrics::{
+    Counts, PathCounts, Times, place_in, place_of_port_status, place_of_refusal, place_of_status,
+};
 use std::alloc::{AllocError, Global};
 use std::sync::atomic::{AtomicU64, Ordering};
 
@@ -100,6 +102,8 @@ pub struct Tally {
     samples: AtomicU64,
     bytes: AtomicU64,
     busy: AtomicU64,
+    port_replies: Cells,
+    port_connections: AtomicU64,
 }
 
 /// An event that the store accepted.
@@ -178,6 +182,8 @@ impl Tally {
             samples: AtomicU64::new(0),
             bytes: AtomicU64::new(0),
             busy: AtomicU64::new(0),
+            port_replies: Cells::new(alloc, 9)?,
+            port_connections: AtomicU64::new(0),
         })
     }
 
@@ -241,6 +247,28 @@ impl Tally {
         read(&self.busy)
     }
 
+    /// Counts a reply of the port of Prometheus, by its status.
+    pub(crate) fn count_port(&self, status: u64) {
+        if let Some(place) = place_of_port_status(status) {
+            self.port_replies.count(place);
+        }
+    }
+
+    /// A connection on the port of Prometheus has come.
+    pub(crate) fn begin_connection(&self) {
+        add(&self.port_connections, 1);
+    }
+
+    /// A connection on the port of Prometheus has ended.
+    pub(crate) fn end_connection(&self) {
+        let _ = self.port_connections.fetch_sub(1, Ordering::Relaxed);
+    }
+
+    /// How many connections on the port of Prometheus there are.
+    pub(crate) fn connections(&self) -> u64 {
+        read(&self.port_connections)
+    }
+
     fn add_paths_to(&self, counts: &mut Counts) {
         self.select.add_to(&mut counts.select);
         self.write.add_to(&mut counts.write);
@@ -253,6 +281,7 @@ impl Tally {
     pub(crate) fn add_to(&self, counts: &mut Counts) {
         self.add_paths_to(counts);
         self.refusals.add_to(&mut counts.refusals);
+        self.port_replies.add_to(&mut counts.port_replies);
         counts.batches = counts.batches.saturating_add(read(&self.batches));
         counts.deletions = counts.deletions.saturating_add(read(&self.deletions));
         counts.cuts = counts.cuts.saturating_add(read(&self.cuts));

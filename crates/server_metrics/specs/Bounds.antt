@@ -5,6 +5,10 @@ use Rattle.std.specs.Prelude.{ℕ, List, [], ◌∷◌}
 unfoldable pub statuses : List ℕ
 statuses = 200 ∷ 400 ∷ 403 ∷ 404 ∷ 405 ∷ 409 ∷ 413 ∷ 431 ∷ 503 ∷ []
 
+-- the statuses of replies of the port of Prometheus
+unfoldable pub port_statuses : List ℕ
+port_statuses = 200 ∷ 400 ∷ 403 ∷ 404 ∷ 405 ∷ 411 ∷ 415 ∷ 431 ∷ 503 ∷ []
+
 -- the bounds of a histogram, in microseconds
 unfoldable pub bounds : List ℕ
 bounds =

@@ -22,3 +22,4 @@ pub record IsNothing (counts : Counts) : Type 0 where
   pub cuts : counts.cuts ≡ 0
   pub samples : counts.samples ≡ 0
   pub bytes : counts.bytes ≡ 0
+  pub port_replies : counts.port_replies ≡ replicate 9 0

@@ -9,8 +9,8 @@ use Rattle.server_metrics.specs.declared.names.Family.TheVariants as families
 use Rattle.server_metrics.specs.declared.names.Row.TheVariants as row_of
 use Rattle.server_metrics.specs.declared.rows.Kind.{Kind}
 use Rattle.server_metrics.specs.declared.rows.Kind.TheVariants.{Counter, Gauge, Histogram}
-use Rattle.server_metrics.specs.Bounds.{bounds, statuses, refusals}
-use Rattle.server_metrics.specs.Names.{name_of, help_of, row_name, refusal_front}
+use Rattle.server_metrics.specs.Bounds.{bounds, statuses, port_statuses, refusals}
+use Rattle.server_metrics.specs.Names.{name_of, help_of, row_name, refusal_front, port_front}
 use Rattle.server_metrics.specs.Names.{event_front, version_front, kit_front}
 use Rattle.server_metrics.specs.Numbers.{seconds_text, signed_text}
 use Rattle.server_metrics.specs.Rows.{head_text, plain_text, row_text, rows_text, path_text}
@@ -95,11 +95,17 @@ durations_text counts =
     ++ changes_times_text counts
     ++ times_text (codes "other") counts.other.times
 
+-- the replies of the port of Prometheus, by status
+unfoldable pub port_text : Counts → List ℕ
+port_text counts =
+    family_head families.PortReplies Counter
+    ++ rows_text port_front port_statuses counts.port_replies
+
 -- what was counted
 unfoldable pub counts_text : Counts → List ℕ
 counts_text counts =
     requests_text counts ++ refusals_text counts ++ events_text counts ++ sums_text counts
-    ++ durations_text counts
+    ++ durations_text counts ++ port_text counts
 
 unfoldable pub floor_text : ℤ → List ℕ
 floor_text floor =
@@ -116,6 +122,7 @@ unfoldable pub workers_text : State → List ℕ
 workers_text state =
     gauge_text families.Workers state.workers
     ++ gauge_text families.Busy state.busy
+    ++ gauge_text families.PortConnections state.port_connections
 
 unfoldable pub process_text : State → List ℕ
 process_text state =

@@ -12,12 +12,14 @@ name_of families.Events = codes "fuzzledge_events_total"
 name_of families.Samples = codes "fuzzledge_samples_accepted_total"
 name_of families.Bytes = codes "fuzzledge_replied_bytes_total"
 name_of families.Durations = codes "fuzzledge_request_duration_seconds"
+name_of families.PortReplies = codes "fuzzledge_prometheus_port_replies_total"
 name_of families.HeadSeries = codes "fuzzledge_head_series"
 name_of families.HeadSamples = codes "fuzzledge_head_samples"
 name_of families.Floor = codes "fuzzledge_head_floor"
 name_of families.Blocks = codes "fuzzledge_blocks"
 name_of families.Workers = codes "fuzzledge_workers"
 name_of families.Busy = codes "fuzzledge_workers_busy"
+name_of families.PortConnections = codes "fuzzledge_prometheus_port_connections"
 name_of families.Resident = codes "process_resident_memory_bytes"
 name_of families.Build = codes "fuzzledge_build_info"
 
@@ -28,6 +30,7 @@ help_of families.Events = codes "Events that the store accepted, by kind."
 help_of families.Samples = codes "Samples of the batches that the store accepted."
 help_of families.Bytes = codes "Bytes of replies, with their heads."
 help_of families.Durations = codes "Time from accepting a connection to its whole reply, by path."
+help_of families.PortReplies = codes "Replies on the port of Prometheus, by status."
 help_of families.HeadSeries = codes "Series in the head."
 help_of families.HeadSamples = codes "Samples in the head."
 help_of families.Floor =
@@ -35,6 +38,7 @@ help_of families.Floor =
 help_of families.Blocks = codes "Blocks that are searched."
 help_of families.Workers = codes "Workers."
 help_of families.Busy = codes "Workers that serve a connection."
+help_of families.PortConnections = codes "Connections on the port of Prometheus."
 help_of families.Resident = codes "Memory that the process occupies."
 help_of families.Build =
     codes "1, with the version of the program and of the kit that it was made with."
@@ -48,6 +52,10 @@ row_name row_of.Count = codes "fuzzledge_request_duration_seconds_count"
 -- what stands before a code
 unfoldable pub refusal_front : List ℕ
 refusal_front = codes "fuzzledge_refusals_total{code=\"H"
+
+-- what stands before the status of a reply of the port of Prometheus
+unfoldable pub port_front : List ℕ
+port_front = codes "fuzzledge_prometheus_port_replies_total{status=\""
 
 -- what stands before a kind
 unfoldable pub event_front : List ℕ

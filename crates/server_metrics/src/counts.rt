@@ -1,7 +1,7 @@
 //! What is counted.
 
 ghost use Rattle.std.specs.Prelude.{◌≡◌, ◌<◌, ◌==◌, count_by, nat_lt, position};
-ghost use Rattle.server_metrics.specs.Bounds.{bounds, statuses, refusals};
+ghost use Rattle.server_metrics.specs.Bounds.{bounds, statuses, port_statuses, refusals};
 ghost use Rattle.server_metrics.specs.Counting.{IsNothing, IsUnasked};
 
 /// What was counted of a server's requests since it began.
@@ -23,6 +23,8 @@ pub struct Counts {
     pub samples: u64,
     /// Bytes of replies.
     pub bytes: u64,
+    /// Replies of the port of Prometheus by status, by their [`place_of_port_status`].
+    pub port_replies: [u64; 9],
 }
 
 /// What was counted of the requests of one path.
@@ -59,6 +61,7 @@ impl Counts {
             cuts: 0,
             samples: 0,
             bytes: 0,
+            port_replies: [0; 9],
         }
     }
 }
@@ -90,6 +93,8 @@ pub struct State {
     /// Workers, and how many of them serve a connection.
     pub workers: u64,
     pub busy: u64,
+    /// Connections on the port of Prometheus.
+    pub port_connections: u64,
     /// Memory that the process occupies, in bytes.
     pub resident: u64,
     /// The version of the program, and of the kit that it was made with: neither has a quote, a
@@ -106,6 +111,15 @@ pub(crate) fn statuses() -> &'static [u64]
     &[200, 400, 403, 404, 405, 409, 413, 431, 503]
 }
 
+/// The statuses of replies of the port of Prometheus, each in its place of
+/// [`Counts::port_replies`].
+#[tactic(auto, unfolding(crate::specs::Bounds::port_statuses))]
+pub(crate) fn port_statuses() -> &'static [u64]
+    ensures { result.now ≡ port_statuses }
+{
+    &[200, 400, 403, 404, 405, 411, 415, 431, 503]
+}
+
 /// The numbers of refusals, each in its place of [`Counts::refusals`].
 #[tactic(auto, unfolding(crate::specs::Bounds::refusals))]
 pub(crate) fn refusal_numbers() -> &'static [u64]
@@ -119,6 +133,13 @@ pub fn place_of_status(number: u64) -> Option<usize>
     ensures { result ≡ position (λ one. one == number) statuses }
 {
     statuses().iter().position(|one| *one == number)
+}
+
+/// The place of a status in [`Counts::port_replies`], if replies of the port of Prometheus have it.
+pub fn place_of_port_status(number: u64) -> Option<usize>
+    ensures { result ≡ position (λ one. one == number) port_statuses }
+{
+    port_statuses().iter().position(|one| *one == number)
 }
 
 /// The place of a refusal in [`Counts::refusals`], if there is one with this number: 3 is `H3`.

@@ -5,13 +5,16 @@ ghost use Rattle.server_metrics.specs.Families.{family_head, replies_text, chang
 ghost use Rattle.server_metrics.specs.Families.{requests_text, refusals_text, events_text};
 ghost use Rattle.server_metrics.specs.Families.{counter_text, buckets_of, times_text};
 ghost use Rattle.server_metrics.specs.Families.{changes_times_text, durations_text, gauge_text};
-ghost use Rattle.server_metrics.specs.Families.{floor_text, versions_text, build_text};
+ghost use Rattle.server_metrics.specs.Families.{floor_text, versions_text, build_text, port_text};
 ghost use Rattle.server_metrics.specs.Families.{head_state_text, workers_text, process_text};
 ghost use Rattle.server_metrics.specs.Families.{state_text, sums_text, counts_text, server_metrics};
 
-use crate::counts::{Counts, PathCounts, State, Times, bounds, refusal_numbers, statuses};
+use crate::counts::{
+    Counts, PathCounts, State, Times, bounds, port_statuses, refusal_numbers, statuses,
+};
 use crate::names::{
-    Family, Row, event_front, help_of, kit_front, name_of, refusal_front, row_name, version_front,
+    Family, Row, event_front, help_of, kit_front, name_of, port_front, refusal_front, row_name,
+    version_front,
 };
 use crate::rows::{
     Kind, append, append_buckets, append_counts, append_end, append_head, append_path,
@@ -196,7 +199,8 @@ fn append_workers(out: &mut Vec<u8>, state: &State) -> Result<(), AllocError>
     ensures { OnOk result (out.new.items ≡ out.old.items ++ workers_text state.now) }
 {
     append_gauge(out, Family::Workers, state.workers)?;
-    append_gauge(out, Family::Busy, state.busy)
+    append_gauge(out, Family::Busy, state.busy)?;
+    append_gauge(out, Family::PortConnections, state.port_connections)
 }
 
 /// Appends how the process stands.
@@ -240,6 +244,20 @@ fn append_state(out: &mut Vec<u8>, state: &State) -> Result<(), AllocError>
     append_build(out, state)
 }
 
+/// Appends the replies of the port of Prometheus, by status.
+#[tactic(auto, unfolding(crate::specs::Families::port_text))]
+fn append_port(out: &mut Vec<u8>, counts: &Counts) -> Result<(), AllocError>
+    ensures { OnOk result (out.new.items ≡ out.old.items ++ port_text counts.now) }
+{
+    append_family(out, Family::PortReplies, Kind::Counter)?;
+    append_counts(
+        out,
+        port_front().as_bytes(),
+        port_statuses(),
+        &counts.port_replies,
+    )
+}
+
 /// Appends what was counted.
 #[tactic(auto, unfolding(crate::specs::Families::counts_text))]
 fn append_all_counts(out: &mut Vec<u8>, alloc: Global, counts: &Counts) -> Result<(), AllocError>
@@ -249,7 +267,8 @@ fn append_all_counts(out: &mut Vec<u8>, alloc: Global, counts: &Counts) -> Resul
     append_refusals(out, counts)?;
     append_events(out, counts)?;
     append_sums(out, counts)?;
-    append_durations(out, alloc, counts)
+    append_durations(out, alloc, counts)?;
+    append_port(out, counts)
 }
 
 /// The text of `GET /metrics`: each family with what it is and its rows, in the order of

@@ -22,5 +22,8 @@ mod names;
 mod numbers;
 mod rows;
 
-pub use counts::{Counts, PathCounts, State, Times, place_in, place_of_refusal, place_of_status};
+pub use counts::{
+    Counts, PathCounts, State, Times, place_in, place_of_port_status, place_of_refusal,
+    place_of_status,
+};
 pub use families::metrics;

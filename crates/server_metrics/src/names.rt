@@ -1,7 +1,7 @@
 //! The names of families, and what they are.
 
 ghost use Rattle.std.specs.Prelude.{◌≡◌};
-ghost use Rattle.server_metrics.specs.Names.{name_of, help_of, row_name, refusal_front};
+ghost use Rattle.server_metrics.specs.Names.{name_of, help_of, row_name, refusal_front, port_front};
 ghost use Rattle.server_metrics.specs.Names.{event_front, version_front, kit_front};
 
 /// A family of rows.
@@ -13,12 +13,14 @@ pub(crate) enum Family {
     Samples,
     Bytes,
     Durations,
+    PortReplies,
     HeadSeries,
     HeadSamples,
     Floor,
     Blocks,
     Workers,
     Busy,
+    PortConnections,
     Resident,
     Build,
 }
@@ -42,12 +44,14 @@ pub(crate) fn name_of(family: Family) -> &'static str
         Family::Samples => "fuzzledge_samples_accepted_total",
         Family::Bytes => "fuzzledge_replied_bytes_total",
         Family::Durations => "fuzzledge_request_duration_seconds",
+        Family::PortReplies => "fuzzledge_prometheus_port_replies_total",
         Family::HeadSeries => "fuzzledge_head_series",
         Family::HeadSamples => "fuzzledge_head_samples",
         Family::Floor => "fuzzledge_head_floor",
         Family::Blocks => "fuzzledge_blocks",
         Family::Workers => "fuzzledge_workers",
         Family::Busy => "fuzzledge_workers_busy",
+        Family::PortConnections => "fuzzledge_prometheus_port_connections",
         Family::Resident => "process_resident_memory_bytes",
         Family::Build => "fuzzledge_build_info",
     }
@@ -64,12 +68,14 @@ pub(crate) fn help_of(family: Family) -> &'static str
         Family::Samples => "Samples of the batches that the store accepted.",
         Family::Bytes => "Bytes of replies, with their heads.",
         Family::Durations => "Time from accepting a connection to its whole reply, by path.",
+        Family::PortReplies => "Replies on the port of Prometheus, by status.",
         Family::HeadSeries => "Series in the head.",
         Family::HeadSamples => "Samples in the head.",
         Family::Floor => "Least time at which the head takes samples, in the unit of their times.",
         Family::Blocks => "Blocks that are searched.",
         Family::Workers => "Workers.",
         Family::Busy => "Workers that serve a connection.",
+        Family::PortConnections => "Connections on the port of Prometheus.",
         Family::Resident => "Memory that the process occupies.",
         Family::Build => "1, with the version of the program and of the kit that it was made with.",
     }
@@ -92,6 +98,14 @@ pub(crate) fn refusal_front() -> &'static str
     ensures { result.now ≡ refusal_front }
 {
     "fuzzledge_refusals_total{code=\"H"
+}
+
+/// What stands before the status of a reply of the port of Prometheus.
+#[tactic(auto, unfolding(crate::specs::Names::port_front))]
+pub(crate) fn port_front() -> &'static str
+    ensures { result.now ≡ port_front }
+{
+    "fuzzledge_prometheus_port_replies_total{status=\""
 }
 
 /// What stands before the kind of an event.

@@ -4,8 +4,8 @@ use Rattle.commands.proofs.LineEnds.{unused}
 use Rattle.commands.proofs.Servings.{not_opened, room_counted, seats_counted}
 use Rattle.commands.proofs.keeping.serve_kept.Goals as goal
 
-pub with_cuts-workers-requires : goal.with_cuts-workers-requires
-with_cuts-workers-requires g c =
+pub with_roles-requires : goal.with_roles-requires
+with_roles-requires g c =
     seats_counted c.passes_of-passes.result c.seats_of-seats.result c.in_ok-opened.opened _
     c.seats_of-seats.ensures c.in_ok-opened.ensures.workers c.in_ok-opened.ensures.room
 

@@ -46,3 +46,11 @@ returns-clause-err g c =
     c.args.serving (g.W.Write.contents c.args.out.now)
     (g.W.Write.contents c.serve_directories.new.out) c.serve_directories.result c.in-None.is
     c.serve_directories.ensures.err
+
+pub returns-in_err-door-clause-err : goal.returns-in_err-door-clause-err
+returns-in_err-door-clause-err g c =
+    let p =
+    err_from_is_err_and c.from_residual-in_err-door.result
+    c.from_residual-in_err-door.ensures.1 in
+    rw (p.1, p.2)
+    (by_watch c.in_err-door.ensures (unused _ (g.W.Write.contents c.args.out.now)))

@@ -1,0 +1,184 @@
+//! An open store and its workers, each with what is its own.
+
+ghost use Rattle.std.specs.Prelude.{◌≡◌, ◌≤◌, ◌<◌, ◌+◌, Ok, length, map, vec_len, IfOk, IfErr};
+ghost use Rattle.head.specs.Blocks.{part_in, opening_of};
+ghost use Rattle.head.specs.Heads.{world_of};
+ghost use Rattle.head.specs.Worlds.{replayed};
+ghost use Rattle.snapshots.specs.Seats.{IsRoom};
+ghost use Rattle.snapshots.specs.declared.error.OpenError.TheVariants.{BadPasses, Limit};
+
+use crate::cutter::{Cutter, Schedule};
+use crate::tally::Tally;
+use block::Block;
+use head::Snapshot;
+use keeper::{Keeper, NoKeeper};
+use snapshots::{Committer, Naming, OpenError, Pass, Seat, Store};
+use std::alloc::{AllocError, Global};
+use std::marker::Model;
+use std::sync::{Arc, Wait};
+
+/// What is one worker's own.
+#[derive(Drop)]
+pub(crate) struct Place<J: Naming> {
+    pub(crate) pass: Pass<J>,
+    pub(crate) seat: Seat<J>,
+    pub(crate) tally: Arc<Tally>,
+}
+
+/// An open store and its workers. Contracts see how many workers of the first port there are.
+#[derive(Drop)]
+pub struct Workers<J: Naming, C: Wait + Drop, K: Keeper + Drop = NoKeeper> {
+    pub(crate) committer: Committer<J, C, K>,
+    pub(crate) places: Vec<Place<J>>,
+    /// Those that serve the port of Prometheus.
+    pub(crate) receivers: Vec<Place<J>>,
+    pub(crate) spare: Vec<Pass<J>>,
+    pub(crate) cutter: Option<Cutter<J>>,
+}
+
+impl<J: Naming, C: Wait + Drop, K: Keeper + Drop> Model for Workers<J, C, K> {
+    ghost use Rattle.std.specs.Prelude.{ℕ, vec_len};
+
+    ghost Value = { ℕ };
+
+    ghost view = { λ w. vec_len w.places };
+}
+
+/// Each seat with a pass; there are as many passes, or more.
+fn places_of<J: Naming>(
+    alloc: Global,
+    passes: &mut Vec<Pass<J>>,
+    seats: Vec<Seat<J>>,
+) -> Result<Vec<Place<J>>, AllocError>
+    ensures { IfOk result (λ places. vec_len places ≡ vec_len seats) }
+{
+    let mut places = Vec::new(alloc);
+    for seat in seats {
+        let Some(pass) = passes.pop() else {
+            return Err(AllocError);
+        };
+        let tally = Arc::new(alloc, Tally::new(alloc)?)?;
+        places.push(Place { pass, seat, tally })?;
+    }
+    Ok(places)
+}
+
+impl<J: Naming, C: Wait + Drop> Workers<J, C> {
+    /// Opens a store over these blocks with so many passes and workers, each worker with a pass and
+    /// a seat of its own; a pass more is for whoever watches them. `O2` where there are not 1 to 64
+    /// of each, then `O3` where there are more than 63 blocks, then `O4` and memory.
+    pub fn open(
+        rt: C,
+        alloc: Global,
+        store: Store,
+        blocks: Vec<Block>,
+        passes: usize,
+        count: usize,
+    ) -> Result<Workers<J, C>, OpenError>
+        requires book { store.seen.book ≡ J.book }
+        requires opening { opening_of (map part_in blocks.items) ≡ J.opening }
+        ensures workers { IfOk result (λ w. w ≡ count) }
+        ensures room { IfOk result (λ _. IsRoom passes count) }
+        ensures refused { IfErr result (λ e. e ≡ BadPasses → ¬ IsRoom passes count) }
+        ensures few { IfErr result (λ e. e ≡ Limit → 63 < length blocks.items) }
+    {
+        let opened = store.open::<J, C>(rt, alloc, blocks, passes, count)?;
+        Workers::seated(alloc, opened)
+    }
+}
+
+impl<J: Naming, C: Wait + Drop, K: Keeper + Drop> Workers<J, C, K> {
+    /// Opens a store over what a start found of one that was kept, with so many passes and workers,
+    /// as [`Workers::open`] does. The keeper holds the events from before, which make the world of
+    /// the snapshot. `O2` where there are not 1 to 64 of each, then `O4` and memory.
+    pub fn resume(
+        rt: C,
+        alloc: Global,
+        store: Store,
+        found: (Snapshot, K),
+        passes: usize,
+        count: usize,
+    ) -> Result<Workers<J, C, K>, OpenError>
+        requires book { store.seen.book ≡ J.book }
+        requires opening { found.0 ≡ J.opening }
+        requires kept { K.holds found.1 J.before }
+        requires world { replayed K.first J.before ≡ Ok (world_of J.opening) }
+        ensures workers { IfOk result (λ w. w ≡ count) }
+        ensures room { IfOk result (λ _. IsRoom passes count) }
+        ensures refused { IfErr result (λ e. e ≡ BadPasses → ¬ IsRoom passes count) }
+        ensures few { IfErr result (λ e. ¬ (e ≡ Limit)) }
+    {
+        let (snapshot, keeper) = found;
+        let opened = store.resume::<J, C, K>(rt, alloc, snapshot, keeper, passes, count)?;
+        Workers::seated(alloc, opened)
+    }
+
+    /// The workers of an open store.
+    fn seated(
+        alloc: Global,
+        opened: (Committer<J, C, K>, Vec<Pass<J>>, Vec<Seat<J>>),
+    ) -> Result<Workers<J, C, K>, OpenError>
+        ensures workers { IfOk result (λ w. w ≡ vec_len opened.2) }
+        ensures refused { IfErr result (λ e. e ≡ OpenError.Memory) }
+    {
+        let (committer, mut spare, seats) = opened;
+        match places_of(alloc, &mut spare, seats) {
+            Ok(places) => Ok(Workers {
+                committer,
+                places,
+                receivers: Vec::new(alloc),
+                spare,
+                cutter: None,
+            }),
+            Err(_) => Err(OpenError::Memory),
+        }
+    }
+
+    /// So many workers fewer: what was their own is for workers of the port of Prometheus.
+    pub fn receiving(self, alloc: Global, count: usize) -> Result<Workers<J, C, K>, AllocError>
+        requires { count ≤ self }
+        ensures { IfOk result (λ w. w + count ≡ self) }
+    {
+        let Workers {
+            committer,
+            mut places,
+            receivers: _,
+            spare,
+            cutter,
+        } = self;
+        let left = places.len() - count;
+        let receivers = places.split_off(left)?;
+        Ok(Workers {
+            committer,
+            places,
+            receivers,
+            spare,
+            cutter,
+        })
+    }
+
+    /// One worker fewer: what was its own is for cuts that the store makes by itself, each as soon
+    /// as `cut_schedule` has it due.
+    pub fn cutting(self, when: Schedule) -> Workers<J, C, K>
+        requires { 0 < self }
+        ensures { result + 1 ≡ self }
+    {
+        let Workers {
+            committer,
+            mut places,
+            receivers,
+            spare,
+            cutter: _,
+        } = self;
+        let Some(Place { pass, seat, tally }) = places.pop() else {
+            unreachable!()
+        };
+        Workers {
+            committer,
+            places,
+            receivers,
+            spare,
+            cutter: Some(Cutter::new(pass, seat, tally, when)),
+        }
+    }
+}
