@@ -11,10 +11,11 @@ use Rattle.labels.proofs.Restricting.{kept, kept-laid_over, kept-points_in, kept
 use Rattle.kept_samples.specs.declared.keeping.Tally.{Tally}
 use Rattle.index_reader.specs.Indexes.{Indexed}
 use Rattle.tombstones.specs.declared.deletion.Deletion.{Deletion}
-use Rattle.imported_values.specs.declared.policy.Policy.{Policy}
+use Rattle.imported_values.specs.declared.form.Form.{Form}
 use Rattle.prometheus_block.specs.Narrowing.{AreReadAlike, PartsHaveTheRowsBetween}
 use Rattle.prometheus_block.specs.Rows.{row_if, rows_between}
 use Rattle.prometheus_block.specs.Series.{Segments}
+use Rattle.block_folder.specs.declared.values.Values.{Values}
 use Rattle.block_folder.specs.Steps.{Did}
 use Rattle.block_outputs.specs.declared.tiles.Stretch.{Stretch}
 use Rattle.block_outputs.specs.Contents.{restricted, AreRestrictions, AreOutputsOf, HoldAll}
@@ -53,34 +54,34 @@ tiles_in low from to (s ∷ ss) le h =
     (begin, h.2, tiles_in low (s.to +ℤ pos 1) to ss next h.3)
 
 outputs_of : {I D : Type 0} (gives : Gives I) (content : I → Content) (did : D → List Did → Type 0)
-    (inputs : List I) (into : List ℕ) (ss : List Stretch) (outputs : List (List Row))
+    (inputs : List I) (into : List ℕ) (values : Values) (ss : List Stretch) (outputs : List (List Row))
     (old new : Account) (a b : D) (from to : ℤ) → GiveContents gives content from to
     → AreIn from to ss
-    → AreConvertedFrom gives did inputs into ss outputs old new a b
+    → AreConvertedFrom gives did inputs into values ss outputs old new a b
     → AreOutputsOf (map content inputs) ss outputs
-outputs_of gives content did inputs into [] [] old new a b from to c i h = tt
-outputs_of gives content did inputs into [] (rows ∷ outputs) old new a b from to c i h = absurd h
-outputs_of gives content did inputs into (s ∷ ss) [] old new a b from to c i h = absurd h
-outputs_of gives content did inputs into (s ∷ ss) (rows ∷ outputs) old new a b from to c i h = (
+outputs_of gives content did inputs into values [] [] old new a b from to c i h = tt
+outputs_of gives content did inputs into values [] (rows ∷ outputs) old new a b from to c i h = absurd h
+outputs_of gives content did inputs into values (s ∷ ss) [] old new a b from to c i h = absurd h
+outputs_of gives content did inputs into values (s ∷ ss) (rows ∷ outputs) old new a b from to c i h = (
   (
     h.2.joined.lists,
     given_restricted gives content inputs from to s h.2.joined.lists old.tally h.0.tally c i.0 i.1
         h.2.joined.given,
     h.2.joined.joined,
   ),
-  outputs_of gives content did inputs into ss outputs h.0 new h.1 b from to c i.2 h.3,
+  outputs_of gives content did inputs into values ss outputs h.0 new h.1 b from to c i.2 h.3,
 )
 
 -- outputs of tiles hold what the inputs' contents have
 pub whole_content : {I D : Type 0} (gives : Gives I) (did : D → List Did → Type 0) (inputs : List I)
-    (into : List ℕ) (ss : List Stretch) (outputs : List (List Row)) (old new : Account) (a b : D)
-    → AreConvertedFrom gives did inputs into ss outputs old new a b → (content : I → Content)
+    (into : List ℕ) (values : Values) (ss : List Stretch) (outputs : List (List Row)) (old new : Account) (a b : D)
+    → AreConvertedFrom gives did inputs into values ss outputs old new a b → (content : I → Content)
     (from to : ℤ) → GiveContents gives content from to → AreTiles from to ss
     → HoldAll (map content inputs) from to outputs
-whole_content gives did inputs into ss outputs old new a b h content from to c tiles =
+whole_content gives did inputs into values ss outputs old new a b h content from to c tiles =
     let low : from ≤ℤ from = omega (arith, ints) in
     outputs_hold (map content inputs) from to ss outputs tiles
-    (outputs_of gives content did inputs into ss outputs old new a b from to c
+    (outputs_of gives content did inputs into values ss outputs old new a b from to c
     (tiles_in from from to ss low tiles) h)
 
 points_of-row_if : (l : Labels) (ss : List (ℤ × ℤ)) (rows : List Row)
@@ -114,13 +115,13 @@ rows_give all s rows old new h = between_content s.from s.to all rows h.0
 
 -- a block gives its content
 pub block_gives : (reads : Segments) → PartsHaveTheRowsBetween reads
-    → (index : Indexed) (deletions : List Deletion) (policy : Policy) → AreReadAlike reads
+    → (index : Indexed) (deletions : List Deletion) (form : Form) → AreReadAlike reads
     → (whole : Stretch) (all : List Row) (a b : Tally)
-    → IsGivenBy reads index deletions policy whole all a b
+    → IsGivenBy reads index deletions form whole all a b
     → (s : Stretch) → whole.from ≤ℤ s.from → s.to ≤ℤ whole.to
-    → (rows : List Row) (old new : Tally) → IsGivenBy reads index deletions policy s rows old new
+    → (rows : List Row) (old new : Tally) → IsGivenBy reads index deletions form s rows old new
     → laid_over (points_of rows) [] ≡ restricted s.from s.to (content_of_rows all)
-block_gives reads parts index deletions policy alike whole all a b x s low high rows old new y =
+block_gives reads parts index deletions form alike whole all a b x s low high rows old new y =
     let from =
     subst (λ (t : ℤ). t ≤ℤ y.wanted.times.from) (sym x.is.from)
     (subst (λ (t : ℤ). whole.from ≤ℤ t) (sym y.is.from) low) in
@@ -129,7 +130,7 @@ block_gives reads parts index deletions policy alike whole all a b x s low high 
     (subst (λ (t : ℤ). t ≤ℤ whole.to) (sym y.is.to) high) in
     let rows_are =
     parts alike y.wanted x.wanted (record {
-      policy = y.is.policy_is ∙ sym x.is.policy_is;
+      form = y.is.form_is ∙ sym x.is.form_is;
       deletions = y.is.deletions_are ∙ sym x.is.deletions_are;
       from = from;
       to = to;

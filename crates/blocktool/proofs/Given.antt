@@ -8,6 +8,7 @@ use Rattle.std.proofs.lemmas.Grind.{take_at_read}
 use Rattle.std.proofs.lemmas.List.{map-append}
 use Rattle.labels.specs.Rows.{Row}
 use Rattle.kept_samples.specs.declared.keeping.Tally.{Tally}
+use Rattle.block_folder.specs.declared.values.Values.{Values}
 use Rattle.block_folder.specs.Steps.{Did}
 use Rattle.block_outputs.specs.declared.tiles.Stretch.{Stretch}
 use Rattle.block_outputs.specs.Joined.{lists_in}
@@ -41,10 +42,10 @@ given_more {I} gives inputs n input times lists new_lists rows old mid new lt at
     (given_last gives (take n inputs) input times lists rows old mid new h g))
 
 -- a disk on which nothing was called between
-still_first : {D : Type 0} (did : D → List Did → Type 0) (into : List ℕ) (rows : List Row)
-    (a b c : D) → IsStill did a b → Writes did into rows b c → Writes did into rows a c
-still_first did into rows a b c still (inl h) = inl (h.0, λ log d. h.1 log (still log d))
-still_first did into rows a b c still (inr h) = inr (record {
+still_first : {D : Type 0} (did : D → List Did → Type 0) (into : List ℕ) (values : Values) (rows : List Row)
+    (a b c : D) → IsStill did a b → Writes did into values rows b c → Writes did into values rows a c
+still_first did into values rows a b c still (inl h) = inl (h.0, λ log d. h.1 log (still log d))
+still_first did into values rows a b c still (inr h) = inr (record {
   place = h.place;
   parent = h.parent;
   is_place = h.is_place;
@@ -53,59 +54,60 @@ still_first did into rows a b c still (inr h) = inr (record {
   within = h.within;
   files = h.files;
   said = h.said;
+  meaning = h.meaning;
   spelled = h.spelled;
   written = (h.written.0, λ log d. h.written.1 log (still log d), h.written.2);
 })
 
 converted_first : {I D : Type 0} (gives : Gives I) (did : D → List Did → Type 0) (inputs : List I)
-    (into : List ℕ) (s : Stretch) (rows : List Row) (old new : Account) (a b c : D)
-    → IsStill did a b → IsConverted gives did inputs into s rows old new b c
-    → IsConverted gives did inputs into s rows old new a c
-converted_first gives did inputs into s rows old new a b c still h = record {
+    (into : List ℕ) (values : Values) (s : Stretch) (rows : List Row) (old new : Account) (a b c : D)
+    → IsStill did a b → IsConverted gives did inputs into values s rows old new b c
+    → IsConverted gives did inputs into values s rows old new a c
+converted_first gives did inputs into values s rows old new a b c still h = record {
   joined = h.joined;
-  written = still_first did into rows a b c still h.written;
+  written = still_first did into values rows a b c still h.written;
 }
 
 converted_last : {I D : Type 0} (gives : Gives I) (did : D → List Did → Type 0) (inputs : List I)
-    (into : List ℕ) (ss : List Stretch) (s : Stretch) (outputs : List (List Row)) (rows : List Row)
+    (into : List ℕ) (values : Values) (ss : List Stretch) (s : Stretch) (outputs : List (List Row)) (rows : List Row)
     (old mid new : Account) (a b c : D)
-    → AreConvertedFrom gives did inputs into ss outputs old mid a b
-    → IsConverted gives did inputs into s rows mid new b c
-    → AreConvertedFrom gives did inputs into (ss ++ s ∷ []) (outputs ++ rows ∷ []) old new a c
-converted_last gives did inputs into [] s [] rows old mid new a b c h g =
+    → AreConvertedFrom gives did inputs into values ss outputs old mid a b
+    → IsConverted gives did inputs into values s rows mid new b c
+    → AreConvertedFrom gives did inputs into values (ss ++ s ∷ []) (outputs ++ rows ∷ []) old new a c
+converted_last gives did inputs into values [] s [] rows old mid new a b c h g =
     let still : IsStill did c c = λ log d. d in
-    let own = converted_first gives did inputs into s rows mid new a b c h.1 g in (
+    let own = converted_first gives did inputs into values s rows mid new a b c h.1 g in (
       new,
       c,
-      subst (λ (x : Account). IsConverted gives did inputs into s rows x new a c) h.0 own,
+      subst (λ (x : Account). IsConverted gives did inputs into values s rows x new a c) h.0 own,
       (refl, still),
     )
-converted_last gives did inputs into [] s (x ∷ outputs) rows old mid new a b c h g = absurd h
-converted_last gives did inputs into (t ∷ ss) s [] rows old mid new a b c h g = absurd h
-converted_last gives did inputs into (t ∷ ss) s (x ∷ outputs) rows old mid new a b c h g = (
+converted_last gives did inputs into values [] s (x ∷ outputs) rows old mid new a b c h g = absurd h
+converted_last gives did inputs into values (t ∷ ss) s [] rows old mid new a b c h g = absurd h
+converted_last gives did inputs into values (t ∷ ss) s (x ∷ outputs) rows old mid new a b c h g = (
   h.0,
   h.1,
   h.2,
-  converted_last gives did inputs into ss s outputs rows h.0 mid new h.1 b c h.3
+  converted_last gives did inputs into values ss s outputs rows h.0 mid new h.1 b c h.3
       g,
 )
 
 -- of inputs that were lent
 pub converted_by : {I D : Type 0} (gives : Gives I) (did : D → List Did → Type 0)
-    (inputs lent : List I) (into : List ℕ) (s : Stretch) (rows : List Row) (old new : Account)
-    (a b : D) → lent ≡ inputs → IsJoinedOf gives lent s rows old new → Writes did into rows a b
-    → IsConverted gives did inputs into s rows old new a b
-converted_by {I} gives did inputs lent into s rows old new a b same joined written = record {
+    (inputs lent : List I) (into : List ℕ) (values : Values) (s : Stretch) (rows : List Row) (old new : Account)
+    (a b : D) → lent ≡ inputs → IsJoinedOf gives lent s rows old new → Writes did into values rows a b
+    → IsConverted gives did inputs into values s rows old new a b
+converted_by {I} gives did inputs lent into values s rows old new a b same joined written = record {
   joined = subst (λ (is : List I). IsJoinedOf gives is s rows old new) same joined;
   written = written;
 }
 
 pub converted_as : {I D : Type 0} (gives : Gives I) (did : D → List Did → Type 0)
-    (inputs left : List I) (into : List ℕ) (s : Stretch) (rows : List Row) (old new : Account)
-    (a b : D) → left ≡ inputs → IsConverted gives did left into s rows old new a b
-    → IsConverted gives did inputs into s rows old new a b
-converted_as {I} gives did inputs left into s rows old new a b same h =
-    subst (λ (is : List I). IsConverted gives did is into s rows old new a b) same h
+    (inputs left : List I) (into : List ℕ) (values : Values) (s : Stretch) (rows : List Row) (old new : Account)
+    (a b : D) → left ≡ inputs → IsConverted gives did left into values s rows old new a b
+    → IsConverted gives did inputs into values s rows old new a b
+converted_as {I} gives did inputs left into values s rows old new a b same h =
+    subst (λ (is : List I). IsConverted gives did is into values s rows old new a b) same h
 
 pub not_last : (b : Bool) (n m : ℕ) → (b ≡ true → m ≤ n) → n < m → b ≡ false
 not_last true n m h lt = absurd (omega (arith, h refl, lt))
@@ -113,16 +115,16 @@ not_last false n m h lt = refl
 
 -- the output of one range more
 pub converted_more : {I D : Type 0} (gives : Gives I) (did : D → List Did → Type 0)
-    (inputs : List I) (into : List ℕ) (ss : List Stretch) (n : ℕ) (d : Stretch)
+    (inputs : List I) (into : List ℕ) (values : Values) (ss : List Stretch) (n : ℕ) (d : Stretch)
     (outputs : List (List Row)) (rows : List Row) (old mid new : Account) (a b c : D)
-    → n < length ss → AreConvertedFrom gives did inputs into (take n ss) outputs old mid a b
-    → IsConverted gives did inputs into (get_or ss n d) rows mid new b c
-    → AreConvertedFrom gives did inputs into (take (n + 1) ss) (outputs ++ rows ∷ []) old new a c
-converted_more gives did inputs into ss n d outputs rows old mid new a b c lt h g =
-    subst (λ (ts : List Stretch). AreConvertedFrom gives did inputs into ts (outputs ++ rows ∷ [])
+    → n < length ss → AreConvertedFrom gives did inputs into values (take n ss) outputs old mid a b
+    → IsConverted gives did inputs into values (get_or ss n d) rows mid new b c
+    → AreConvertedFrom gives did inputs into values (take (n + 1) ss) (outputs ++ rows ∷ []) old new a c
+converted_more gives did inputs into values ss n d outputs rows old mid new a b c lt h g =
+    subst (λ (ts : List Stretch). AreConvertedFrom gives did inputs into values ts (outputs ++ rows ∷ [])
     old new a c)
     (sym (take_at_read ss n d lt).1)
-    (converted_last gives did inputs into (take n ss) (get_or ss n d) outputs rows old mid new a b c
+    (converted_last gives did inputs into values (take n ss) (get_or ss n d) outputs rows old mid new a b c
     h g)
 
 samples_in_all-last : (lists : List (List Row)) (rows : List Row)

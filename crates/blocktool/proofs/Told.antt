@@ -2,14 +2,15 @@
 use Rattle.std.specs.Prelude.{◌≡◌, ℕ, List, Option, None, Some, refl}
 use Rattle.std.proofs.Common.{Global, inl, inr}
 use Rattle.std.specs.declared.string.String.{String}
+use Rattle.imported_values.specs.declared.form.Form.{Form}
 use Rattle.imported_values.specs.declared.policy.Rest.{Rest}
 use Rattle.imported_values.specs.declared.policy.Rest.TheVariants.{Refuse}
 use Rattle.open_metrics.specs.declared.comments.Format.{Format}
 use Rattle.exposition.specs.declared.error.ReadError.{ReadError}
 use Rattle.exposition.specs.declared.error.ReadError.TheVariants.{Refused}
 use Rattle.exposition.specs.declared.error.Refusal.{Refusal}
-use Rattle.exposition.specs.declared.text.Fractions.{Fractions}
 use Rattle.exposition.specs.declared.text.Left.{Left}
+use Rattle.exposition.specs.declared.text.Reading.{Reading}
 use Rattle.exposition.specs.Refusing.{IfRefused, IsRefused}
 use Rattle.block_outputs.specs.declared.tiles.Stretch.{Stretch}
 use Rattle.blocktool.specs.declared.fault.Fault.{Fault}
@@ -18,7 +19,7 @@ use Rattle.blocktool.specs.declared.said.Said.{Said}
 use Rattle.blocktool.specs.Texts.{AreAllowed, AreLeftOut, IsOtherRefused, IsSaidBy}
 use Rattle.blocktool.specs.Texts.{IsTextRefused}
 use Rattle.blocktool.specs.Texts.{IsToldFor, IsToldOf, IsToldRefused, first_within}
-use Rattle.blocktool.specs.Texts.{fractions_of}
+use Rattle.blocktool.specs.Forms.{places_of, reading_of, rest_of}
 
 pub text_told : (name : String Global) (r : Refusal) → IsToldFor (Refused r) (Text name r)
 text_told name r = inr (name, r, refl, refl)
@@ -45,18 +46,18 @@ pub first_refused : (rest : Rest) (times : Stretch) (others : List Left) (left :
     → IsOtherRefused rest times others e
 first_refused rest times others left e asked is told = (asked, left, is, told)
 
-pub text_refused : (format : Format) (places : ℕ) (f : Fractions) (text : List ℕ)
-    (error : ReadError) (e : Fault) → IfRefused error (IsRefused format places f text)
-    → IsToldFor error e → IsToldRefused format places f text e
-text_refused format places f text error e is told = (error, is, told)
+pub text_refused : (format : Format) (places : ℕ) (r : Reading) (text : List ℕ)
+    (error : ReadError) (e : Fault) → IfRefused error (IsRefused format places r text)
+    → IsToldFor error e → IsToldRefused format places r text e
+text_refused format places r text error e is told = (error, is, told)
 
-pub refused_by_text : (format : Format) (places : ℕ) (rest : Rest) (text : List ℕ)
-    (times : Stretch) (e : Fault) → IsToldRefused format places (fractions_of rest) text e
-    → IsTextRefused format places rest text times e
-refused_by_text format places rest text times e is = inl is
+pub refused_by_text : (format : Format) (form : Form) (text : List ℕ) (times : Stretch) (e : Fault)
+    → IsToldRefused format (places_of form) (reading_of form) text e
+    → IsTextRefused format form text times e
+refused_by_text format form text times e is = inl is
 
-pub refused_by_other : (format : Format) (places : ℕ) (rest : Rest) (text : List ℕ)
-    (times : Stretch) (said : Said) (e : Fault)
-    → IsSaidBy format places (fractions_of rest) text said
-    → IsOtherRefused rest times said.others.items e → IsTextRefused format places rest text times e
-refused_by_other format places rest text times said e is other = inr (said, is, other)
+pub refused_by_other : (format : Format) (form : Form) (text : List ℕ) (times : Stretch)
+    (said : Said) (e : Fault) → IsSaidBy format (places_of form) (reading_of form) text said
+    → IsOtherRefused (rest_of form) times said.others.items e
+    → IsTextRefused format form text times e
+refused_by_other format form text times said e is other = inr (said, is, other)

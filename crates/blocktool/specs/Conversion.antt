@@ -5,6 +5,7 @@ use Rattle.labels.specs.Rows.{Row, points_of}
 use Rattle.labels.specs.Parts.{laid_over}
 use Rattle.prometheus_block.specs.declared.chunk.Counted.{Counted}
 use Rattle.kept_samples.specs.declared.keeping.Tally.{Tally}
+use Rattle.block_folder.specs.declared.values.Values.{Values}
 use Rattle.block_folder.specs.Steps.{Did}
 use Rattle.block_outputs.specs.declared.tiles.Stretch.{Stretch}
 use Rattle.block_outputs.specs.Contents.{restricted, HoldAll}
@@ -50,22 +51,23 @@ pub record IsJoinedOf {I : Type 0} (gives : Gives I) (inputs : List I) (times : 
 -- the output of a range is written: a block with exactly the rows of what inputs give of it, none
 -- where they give nothing
 pub record IsConverted {I D : Type 0} (gives : Gives I) (did : D → List Did → Type 0)
-    (inputs : List I) (into : List ℕ) (times : Stretch) (rows : List Row)
+    (inputs : List I) (into : List ℕ) (values : Values) (times : Stretch) (rows : List Row)
     (old new : Account) (before after : D) : Type 0 where
   pub joined : IsJoinedOf gives inputs times rows old new
-  pub written : Writes did into rows before after
+  pub written : Writes did into values rows before after
 
 -- the outputs of ranges are written, one after another
 abbrev pub AreConvertedFrom : {I D : Type 0} → Gives I → (D → List Did → Type 0) → List I
-    → List ℕ → List Stretch → List (List Row) → Account → Account → D → D → Type 0
-AreConvertedFrom gives did inputs into [] [] old new before after =
+    → List ℕ → Values → List Stretch → List (List Row) → Account → Account → D → D → Type 0
+AreConvertedFrom gives did inputs into values [] [] old new before after =
     (new ≡ old) × IsStill did before after
-AreConvertedFrom gives did inputs into [] (rows ∷ outputs) old new before after = ⊥
-AreConvertedFrom gives did inputs into (s ∷ ss) [] old new before after = ⊥
-AreConvertedFrom {I} {D} gives did inputs into (s ∷ ss) (rows ∷ outputs) old new before after =
+AreConvertedFrom gives did inputs into values [] (rows ∷ outputs) old new before after = ⊥
+AreConvertedFrom gives did inputs into values (s ∷ ss) [] old new before after = ⊥
+AreConvertedFrom {I} {D} gives did inputs into values (s ∷ ss) (rows ∷ outputs) old new before
+    after =
     (mid : Account) × (between : D)
-    × IsConverted gives did inputs into s rows old mid before between
-    × AreConvertedFrom gives did inputs into ss outputs mid new between after
+    × IsConverted gives did inputs into values s rows old mid before between
+    × AreConvertedFrom gives did inputs into values ss outputs mid new between after
 
 -- no sample
 abbrev pub nothing : Account
@@ -85,10 +87,10 @@ GiveContents {I} gives content from to =
 -- range and the ranges are its tiles, the outputs hold together exactly what the contents have in
 -- it, in which the later input wins
 pub record AreConverted {I D : Type 0} (gives : Gives I) (did : D → List Did → Type 0)
-    (inputs : List I) (into : List ℕ) (ss : List Stretch) (account : Account)
+    (inputs : List I) (into : List ℕ) (values : Values) (ss : List Stretch) (account : Account)
     (before after : D) : Type 0 where
   pub outputs : List (List Row)
-  pub each : AreConvertedFrom gives did inputs into ss outputs nothing account before after
+  pub each : AreConvertedFrom gives did inputs into values ss outputs nothing account before after
   pub whole : (content : I → Content) (from to : ℤ) → GiveContents gives content from to
       → AreTiles from to ss → HoldAll (map content inputs) from to outputs
 
@@ -107,8 +109,8 @@ pub record IsSummaryOf (counted : Counted) (account : Account) (s : Summary) : T
 
 -- the outputs of ranges are written, and each sample that was counted is told once
 pub record Makes {I D : Type 0} (gives : Gives I) (did : D → List Did → Type 0) (inputs : List I)
-    (into : List ℕ) (ss : List Stretch) (counted : Counted) (summary : Summary)
+    (into : List ℕ) (values : Values) (ss : List Stretch) (counted : Counted) (summary : Summary)
     (before after : D) : Type 0 where
   pub account : Account
-  pub converted : AreConverted gives did inputs into ss account before after
+  pub converted : AreConverted gives did inputs into values ss account before after
   pub told : IsSummaryOf counted account summary

@@ -1,4 +1,6 @@
 pub mod Conversion
+pub mod Forms
 pub mod Listed
 pub mod Prometheus
+pub mod Rewriting
 pub mod Texts

@@ -11,15 +11,15 @@ use Rattle.labels.specs.Contents.{in_range}
 use Rattle.labels.specs.Rows.{Row, points_of}
 use Rattle.labels.specs.Parts.{laid_over}
 use Rattle.kept_samples.specs.declared.keeping.Tally.{Tally}
+use Rattle.imported_values.specs.declared.form.Form.{Form}
 use Rattle.imported_values.specs.declared.policy.Rest.{Rest}
 use Rattle.imported_values.specs.declared.policy.Rest.TheVariants.{Drop, Refuse, Round}
 use Rattle.open_metrics.specs.declared.comments.Format.{Format}
 use Rattle.exposition.specs.declared.error.ReadError.{ReadError}
 use Rattle.exposition.specs.declared.error.ReadError.TheVariants.{Refused}
 use Rattle.exposition.specs.declared.error.Refusal.{Refusal}
-use Rattle.exposition.specs.declared.text.Fractions.{Fractions}
-use Rattle.exposition.specs.declared.text.Fractions.TheVariants.{Beside, Rounded}
 use Rattle.exposition.specs.declared.text.Left.{Left}
+use Rattle.exposition.specs.declared.text.Reading.{Reading}
 use Rattle.exposition.specs.Reading.{HasExemplars, IsText, told_by}
 use Rattle.exposition.specs.Refusing.{IfRefused, IsRefused}
 use Rattle.exposition.specs.Runs.{AreRising}
@@ -28,9 +28,13 @@ use Rattle.block_outputs.specs.Contents.{restricted}
 use Rattle.blocktool.specs.declared.fault.Fault.{Fault}
 use Rattle.blocktool.specs.declared.fault.Fault.TheVariants.{Memory, Other, Text}
 use Rattle.blocktool.specs.declared.said.Said.{Said}
+use Rattle.blocktool.specs.declared.to_openmetrics.Shown.{Shown}
+use Rattle.blocktool.specs.declared.to_openmetrics.Shown.TheVariants.{Decimals, Doubles}
 use Rattle.blocktool.specs.Conversion.{capped}
+use Rattle.blocktool.specs.Forms.{places_of, reading_of, rest_of}
 use Rattle.blocktool.specs.Listed.{IsGivenByRows, content_of_rows}
 use Rattle.reply_reader.specs.Replies.{Told, text_said}
+use Rattle.metrics_writer.specs.Doubles.{IsTextOfDoubles}
 use Rattle.metrics_writer.specs.Texts.{text_of}
 
 -- the text of the merged rows of a reply, whose values have so many digits after the point
@@ -39,6 +43,18 @@ pub record IsTextOfReply (places : ℕ) (reply text : List ℕ) : Type 0 where
   pub rows : List Row
   pub said : text_said reply ≡ Some (parts, rows)
   pub written : text ≡ text_of places rows
+
+-- the text of the merged rows of a reply, whose values stand for doubles
+pub record IsDoublesOfReply (reply text : List ℕ) : Type 0 where
+  pub parts : List Told
+  pub rows : List Row
+  pub said : text_said reply ≡ Some (parts, rows)
+  pub written : IsTextOfDoubles rows text
+
+-- the same of values that are written so
+abbrev pub IsTextAs : Shown → List ℕ → List ℕ → Type 0
+IsTextAs (Decimals places) reply text = IsTextOfReply places reply text
+IsTextAs Doubles reply text = IsDoublesOfReply reply text
 
 -- a reply without parts, whose merged rows are a text
 abbrev pub around : List ℕ → List ℕ
@@ -63,12 +79,6 @@ count_within from to others = length (filter (λ (o : Left). in_range from to o.
 -- the first of samples with other values that lies in a closed range
 abbrev pub first_within : ℤ → ℤ → List Left → Option Left
 first_within from to others = find (λ (o : Left). in_range from to o.t) others
-
--- whether fractions are rounded, as a policy asks
-abbrev pub fractions_of : Rest → Fractions
-fractions_of Refuse = Beside
-fractions_of Drop = Beside
-fractions_of Round = Rounded
 
 -- samples with other values are left out; of Round those that have no nearest number of parts
 abbrev pub AreLeftOut : Rest → Type 0
@@ -97,26 +107,26 @@ IsToldFor error e = (e ≡ Memory)
     ⊎ ((name : String Global) × (r : Refusal) × (e ≡ Text name r) × (error ≡ Refused r))
 
 -- why a text is refused is told, if memory did not run out
-abbrev pub IsToldRefused : Format → ℕ → Fractions → List ℕ → Fault → Type 0
-IsToldRefused format places fractions text e =
-    (error : ReadError) × IfRefused error (IsRefused format places fractions text)
+abbrev pub IsToldRefused : Format → ℕ → Reading → List ℕ → Fault → Type 0
+IsToldRefused format places reading text e =
+    (error : ReadError) × IfRefused error (IsRefused format places reading text)
     × IsToldFor error e
 
 -- what a text says, in rows whose times ascend, and how many of its lines have an exemplar
-pub record IsSaidBy (format : Format) (places : ℕ) (fractions : Fractions) (text : List ℕ)
+pub record IsSaidBy (format : Format) (places : ℕ) (reading : Reading) (text : List ℕ)
     (said : Said) : Type 0 where
-  pub is_text : IsText format places fractions text
+  pub is_text : IsText format places reading text
       (told_by said.listed.rows.items said.others.items said.rounded.items)
   pub rise : AreRising said.listed.rows.items
   pub exemplars : HasExemplars format places text said.exemplars
 
 -- why a text is refused is told; or, where such samples are not left out, the first sample with
 -- another value in the range that it says
-abbrev pub IsTextRefused : Format → ℕ → Rest → List ℕ → Stretch → Fault → Type 0
-IsTextRefused format places rest text times e =
-    IsToldRefused format places (fractions_of rest) text e
-    ⊎ ((said : Said) × IsSaidBy format places (fractions_of rest) text said
-    × IsOtherRefused rest times said.others.items e)
+abbrev pub IsTextRefused : Format → Form → List ℕ → Stretch → Fault → Type 0
+IsTextRefused format form text times e =
+    IsToldRefused format (places_of form) (reading_of form) text e
+    ⊎ ((said : Said) × IsSaidBy format (places_of form) (reading_of form) text said
+    × IsOtherRefused (rest_of form) times said.others.items e)
 
 -- what was said, and an input of nothing behind it
 abbrev pub AreInputsOf : Said → List Said → Type 0

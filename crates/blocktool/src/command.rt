@@ -1,23 +1,36 @@
 //! The command line.
 
+use crate::form::{places_of, values_of};
 use crate::from_openmetrics::TextIn;
 use crate::target::Target;
 use crate::text_commands::{from_openmetrics, from_rows, text_line_in, to_openmetrics};
 use crate::to_openmetrics::ReplyIn;
-use crate::words::{DECIMALS, FROM, INTO, Kind, REST, STALE, TO, Word, command_of};
+use crate::words::{DECIMALS, FROM, INTO, Kind, REST, STALE, TO, VALUES, Word, command_of};
+use block_folder::Values;
 use block_outputs::Stretch;
 use clap::error::ErrorKind;
 use clap::{ArgMatches, Command, Error};
-use imported_values::{Digits, Policy, Rest, Stale};
+use imported_values::{Digits, Form, Policy, Rest, Stale};
 use labels::{MAX_TIME, MIN_TIME};
 use std::alloc::{AllocError, Global};
 
 /// How an import is made.
 #[derive(Clone, Copy, Drop)]
 pub(crate) struct Options<'a> {
-    pub(crate) policy: Policy,
+    pub(crate) form: Form,
     pub(crate) times: Stretch,
     pub(crate) into: &'a str,
+}
+
+impl<'a> Options<'a> {
+    /// The directory for the outputs, and what their values are.
+    pub(crate) fn target(&self) -> Target<'a> {
+        Target {
+            into: self.into,
+            digits: places_of(self.form),
+            values: values_of(self.form),
+        }
+    }
 }
 
 /// What the words ask for.
@@ -25,8 +38,9 @@ pub(crate) struct Options<'a> {
 pub(crate) enum Line<'a> {
     /// Blocks out of the blocks of Prometheus in these directories.
     FromPrometheus(Options<'a>, Vec<&'a str>),
-    /// Blocks in this directory, out of the blocks in these directories.
-    Rewrite(&'a str, Vec<&'a str>),
+    /// Blocks in this directory, whose values are doubles or what they were, out of the blocks in
+    /// these directories.
+    Rewrite(&'a str, Option<Values>, Vec<&'a str>),
     /// The blocks in these directories, added to the store in this folder.
     Add(&'a str, Vec<&'a str>),
     /// The blocks of the store in this folder, joined.
@@ -45,7 +59,7 @@ const ABOUT: &str =
     "Exit status: 0 done; 1 refused, with the reason on standard error; 2 a fault of the words;
 3 cannot read or write; 4 no memory
 
-Example: blocktool from-prometheus --into mine data/01HX*";
+Example: blocktool from-prometheus --values doubles --into mine data/01HX*";
 
 const PROMETHEUS: &str =
     "Each BLOCK is a directory with index, chunks/ and tombstones, as Prometheus and promtool write
@@ -61,7 +75,8 @@ For each output a line is printed, and then one that tells every sample that was
 
 A value is kept as a whole number of parts, of which 10^N make one. --rest round keeps a fraction as
 the nearest such number, of two the even one, and drops NaN, infinities and 2^63 parts and more.
-Stale markers are no samples. Histograms are left.
+Stale markers are no samples. Histograms are left. With --values doubles each value is kept as the
+double that it is, with all its bits, stale markers too: nothing is dropped, rounded or refused.
 
 A BLOCK is refused with the first check that fails, and a value that is not kept with its place:
   B2        meta.json, of a block in a folder
@@ -76,12 +91,14 @@ docs/IMPORTING.md of the project explains each code.
 Exit status: 0 done; 1 refused, with the place on standard error; 2 a fault of the words; 3 cannot
 read or write; 4 no memory
 
-Example: blocktool from-prometheus --decimals 3 --rest drop --into mine data/01HX*";
+Example: blocktool from-prometheus --values doubles --into mine data/01HX*";
 
 const ABOUT_REWRITE: &str =
     "The outputs are OUT/0001, OUT/0002 and so on, at most 63, one range of times after another,
 without the samples that are deleted. Of two samples of one series at one time that of the later DIR
-is kept. All DIR must have values of as many digits. The rows of all are in memory at once.
+is kept. All DIR must have values of as many digits, and of the same meaning. With --values doubles
+whole numbers become doubles: each within 2^53 stands for itself, and another is refused with V4.
+The rows of all are in memory at once.
 
 A DIR is refused as by `querier check`: B2, I1 to I15, C1 to C8, T1 to T5, B1.
 
@@ -145,9 +162,10 @@ read or write; 4 no memory
 Example: blocktool list mine/0001 mine/0002";
 
 /// What `--version` tells behind the name.
-const VERSION: &str = "0.1.0 (rattle-kit-13b)";
+const VERSION: &str = "0.1.0 (rattle-kit-13f)";
 
-const IMPORT: [Word<'static>; 7] = [
+const IMPORT: [Word<'static>; 8] = [
+    VALUES,
     DECIMALS,
     REST,
     STALE,
@@ -169,7 +187,7 @@ const DIRECTORIES: Word<'static> = Word {
     kind: Kind::Many,
 };
 
-const REWRITE: [Word<'static>; 2] = [INTO, DIRECTORIES];
+const REWRITE: [Word<'static>; 3] = [VALUES, INTO, DIRECTORIES];
 
 const DATA: Word<'static> = Word {
     name: "data",
@@ -309,7 +327,16 @@ fn is_chosen(found: &ArgMatches<'_>, name: &str, choice: &str) -> bool {
     found.get_str(name) == Some(choice)
 }
 
-pub(crate) fn options_in<'a>(found: &ArgMatches<'a>) -> Option<Options<'a>> {
+/// What values mean, if the words say that.
+pub(crate) fn meaning_in(found: &ArgMatches<'_>) -> Option<Values> {
+    if is_chosen(found, "values", "doubles") {
+        Some(Values::Doubles)
+    } else {
+        None
+    }
+}
+
+fn policy_in(found: &ArgMatches<'_>) -> Option<Policy> {
     let rest = if is_chosen(found, "rest", "drop") {
         Rest::Drop
     } else if is_chosen(found, "rest", "round") {
@@ -322,12 +349,23 @@ pub(crate) fn options_in<'a>(found: &ArgMatches<'a>) -> Option<Options<'a>> {
     } else {
         Stale::Drop
     };
+    Some(Policy {
+        digits: digits_in(found)?,
+        rest,
+        stale,
+    })
+}
+
+fn form_in(found: &ArgMatches<'_>) -> Option<Form> {
+    match meaning_in(found) {
+        Some(Values::Doubles) => Some(Form::Doubles),
+        _ => Some(Form::Parts(policy_in(found)?)),
+    }
+}
+
+pub(crate) fn options_in<'a>(found: &ArgMatches<'a>) -> Option<Options<'a>> {
     Some(Options {
-        policy: Policy {
-            digits: digits_in(found)?,
-            rest,
-            stale,
-        },
+        form: form_in(found)?,
         times: Stretch {
             from: time_in(found, "from", MIN_TIME),
             to: time_in(found, "to", MAX_TIME),
@@ -360,7 +398,7 @@ fn rewrite_in<'a>(alloc: Global, found: &ArgMatches<'a>) -> Result<Option<Line<'
         return Ok(None);
     };
     let directories = texts_in(alloc, found, "directories")?;
-    Ok(Some(Line::Rewrite(into, directories)))
+    Ok(Some(Line::Rewrite(into, meaning_in(found), directories)))
 }
 
 fn add_in<'a>(alloc: Global, found: &ArgMatches<'a>) -> Result<Option<Line<'a>>, AllocError> {

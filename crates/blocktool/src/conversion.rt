@@ -83,10 +83,19 @@ fn write_rows<D: Disk, W: Write>(
     outputs: &mut usize,
     out: &mut W,
 ) -> Result<(), Fault>
-    ensures { OnOk result (Writes D.did target.now.into.now rows disk.old disk.new) }
+    ensures { OnOk result
+        (Writes D.did target.now.into.now target.now.values rows disk.old disk.new) }
 {
     let number = outputs.saturating_add(1);
-    let written = match write_output(alloc, disk, target.into, number, target.digits, rows) {
+    let written = match write_output(
+        alloc,
+        disk,
+        target.into,
+        number,
+        target.digits,
+        target.values,
+        rows,
+    ) {
         Ok(written) => written,
         Err(error) => return Err(target.fault(alloc, number, error)),
     };
@@ -121,8 +130,8 @@ fn convert_one<I: Input + Drop, D: Disk, W: Write>(
     out: &mut W,
 ) -> Result<(), Fault>
     ensures converted { OnOk result ((rows : List RowValue)
-        × IsConverted I.may_give D.did inputs.old.items target.now.into.now times rows
-        account.old account.new disk.old disk.new) }
+        × IsConverted I.may_give D.did inputs.old.items target.now.into.now target.now.values times
+        rows account.old account.new disk.old disk.new) }
     ensures kept { OnOk result (is_last ≡ false → inputs.new.items ≡ inputs.old.items) }
 {
     let rows = rows_joined(alloc, inputs.as_slice(), times, account)?;
@@ -152,7 +161,7 @@ pub(crate) fn convert<I: Input + Drop, D: Disk, W: Write>(
     // Each output has exactly the rows of what the inputs hold together in its range, in which the
     // later input wins; nothing else is written.
     ensures { IfOk result (λ account. AreConverted I.may_give D.did inputs.items
-        target.now.into.now tiles.now account disk.old disk.new) }
+        target.now.into.now target.now.values tiles.now account disk.old disk.new) }
 {
     let mut account = Account {
         tally: Tally {

@@ -30,6 +30,11 @@ pub enum Fault {
     Locked(String, Holder),
     /// The values of the block in this directory have another number of digits.
     Digits(String),
+    /// The values of the block in this directory mean something else.
+    Meaning(String),
+    /// The block in this directory has this whole number at this time, which is beyond 2^53 and
+    /// stands for no double of its own.
+    Beyond(String, i64, i64),
     /// A value is refused.
     Value {
         /// Why.
@@ -85,6 +90,7 @@ impl Fault {
             Fault::Source(_, _) | Fault::Value { .. } | Fault::TooMany(_) => 1,
             Fault::TooManyBlocks(_) | Fault::HeadBelow(_, _) => 1,
             Fault::Block(_, _) | Fault::Store(_, _) | Fault::Digits(_) => 1,
+            Fault::Meaning(_) | Fault::Beyond(_, _, _) => 1,
             Fault::TooLarge | Fault::Unordered | Fault::Changed => 1,
             Fault::BadReply | Fault::NoMetric => 1,
             Fault::Text(_, _) | Fault::Other(_, _) => 1,
@@ -119,6 +125,15 @@ impl fmt::Display for Fault {
             Fault::Locked(data, holder) => write!(f, "cannot lock {data}: {holder}"),
             Fault::Digits(directory) => {
                 write!(f, "refused: values with other digits in {directory}")
+            }
+            Fault::Meaning(directory) => {
+                write!(f, "refused V5: values of another meaning in {directory}")
+            }
+            Fault::Beyond(directory, t, v) => {
+                write!(
+                    f,
+                    "refused V4: {v} at {t} is beyond 2^53, and no double for itself ({directory})"
+                )
             }
             Fault::Value {
                 reason,

@@ -2,21 +2,22 @@
 
 ghost use Rattle.std.specs.Prelude.{◌≡◌, ◌≤◌, IfErr, IfOk, MatchBool, OnOk};
 ghost use Rattle.blocktool.specs.Texts.{AreAllowed, AreLeftOut, first_within};
-ghost use Rattle.blocktool.specs.Texts.{fractions_of, IsOtherRefused};
+ghost use Rattle.blocktool.specs.Forms.{places_of, reading_of, rest_of};
+ghost use Rattle.blocktool.specs.Texts.{IsOtherRefused};
 ghost use Rattle.blocktool.specs.Texts.{IsSaidBy, IsTextRefused, IsToldFor, IsToldOf};
 ghost use Rattle.blocktool.specs.Texts.{IsToldRefused};
 ghost use Rattle.imported_values.specs.declared.policy.Rest.TheVariants.{Refuse};
 
 use crate::command::Options;
 use crate::fault::Fault;
+use crate::form::{places_of, reading_of};
 use crate::listed::Listed;
 use crate::said::{Said, write_said};
-use crate::target::Target;
 use crate::teller::Teller;
 use crate::texts::{name_of, read_text};
 use block_outputs::Stretch;
-use exposition::{Exposition, Fractions, Left, ReadError};
-use imported_values::{Policy, Rest};
+use exposition::{Exposition, Left, ReadError, Reading};
+use imported_values::{Form, Rest};
 use open_metrics::Format;
 use std::alloc::{AllocError, Global};
 use std::io::{Read, Write};
@@ -54,21 +55,21 @@ fn other(alloc: Global, file: Option<&str>, left: Left) -> Fault
     }
 }
 
-fn fractions_of(rest: Rest) -> Fractions
-    ensures { result ≡ fractions_of rest }
-{
-    match rest {
-        Rest::Round => Fractions::Rounded,
-        Rest::Refuse | Rest::Drop => Fractions::Beside,
-    }
-}
-
-fn are_left_out(rest: Rest) -> bool
+fn are_left_out_by(rest: Rest) -> bool
     ensures { MatchBool result (AreLeftOut rest) (rest ≡ Refuse) }
 {
     match rest {
         Rest::Drop | Rest::Round => true,
         Rest::Refuse => false,
+    }
+}
+
+fn are_left_out(form: Form) -> bool
+    ensures { MatchBool result (AreLeftOut (rest_of form)) (rest_of form ≡ Refuse) }
+{
+    match form {
+        Form::Parts(policy) => are_left_out_by(policy.rest),
+        Form::Doubles => false,
     }
 }
 
@@ -88,11 +89,11 @@ fn check_others(
     others: &[Left],
 ) -> Result<(), Fault>
     ensures allowed { OnOk result
-        (AreAllowed options.now.policy.rest options.now.times others.now) }
+        (AreAllowed (rest_of options.now.form) options.now.times others.now) }
     ensures refused { IfErr result
-        (IsOtherRefused options.now.policy.rest options.now.times others.now) }
+        (IsOtherRefused (rest_of options.now.form) options.now.times others.now) }
 {
-    if are_left_out(options.policy.rest) {
+    if are_left_out(options.form) {
         return Ok(());
     }
     match first_within(others, options.times) {
@@ -106,16 +107,16 @@ fn check_others(
 fn read_said(
     alloc: Global,
     places: u32,
-    fractions: Fractions,
+    reading: Reading,
     text_in: TextIn<'_>,
     text: &[u8],
 ) -> Result<Said, Fault>
     requires { places ≤ 9 }
-    ensures found { IfOk result (IsSaidBy text_in.entry.format places fractions text.now) }
+    ensures found { IfOk result (IsSaidBy text_in.entry.format places reading text.now) }
     ensures refused { IfErr result
-        (IsToldRefused text_in.entry.format places fractions text.now) }
+        (IsToldRefused text_in.entry.format places reading text.now) }
 {
-    match exposition::read_text(alloc, text_in.format, places, fractions, text) {
+    match exposition::read_text(alloc, text_in.format, places, reading, text) {
         Ok(
             Exposition {
                 rows,
@@ -133,15 +134,21 @@ fn read_said(
     }
 }
 
-// The same as a policy asks for it.
-fn said_as(alloc: Global, policy: Policy, text_in: TextIn<'_>, text: &[u8]) -> Result<Said, Fault>
-    ensures found { IfOk result
-        (IsSaidBy text_in.entry.format policy.digits (fractions_of policy.rest) text.now) }
-    ensures refused { IfErr result
-        (IsToldRefused text_in.entry.format policy.digits (fractions_of policy.rest) text.now) }
+// The same as a form asks for it.
+fn said_as(
+    alloc: Global,
+    options: &Options<'_>,
+    text_in: TextIn<'_>,
+    text: &[u8],
+) -> Result<Said, Fault>
+    ensures found { IfOk result (IsSaidBy text_in.entry.format (places_of options.now.form)
+        (reading_of options.now.form) text.now) }
+    ensures refused { IfErr result (IsToldRefused text_in.entry.format
+        (places_of options.now.form) (reading_of options.now.form) text.now) }
 {
-    let places = policy.digits.number();
-    let said = read_said(alloc, places, fractions_of(policy.rest), text_in, text)?;
+    let places = places_of(options.form);
+    let reading = reading_of(options.form);
+    let said = read_said(alloc, places, reading, text_in, text)?;
     Ok(said)
 }
 
@@ -153,15 +160,15 @@ fn said_by(
     text: &[u8],
 ) -> Result<Said, Fault>
     // What is given is what the text says.
-    ensures found { IfOk result (IsSaidBy text_in.entry.format options.now.policy.digits
-        (fractions_of options.now.policy.rest) text.now) }
+    ensures found { IfOk result (IsSaidBy text_in.entry.format (places_of options.now.form)
+        (reading_of options.now.form) text.now) }
     ensures allowed { IfOk result (λ said.
-        AreAllowed options.now.policy.rest options.now.times said.others.items) }
+        AreAllowed (rest_of options.now.form) options.now.times said.others.items) }
     // The text's refusal is told, or that of its first value that is not allowed.
-    ensures refused { IfErr result (IsTextRefused text_in.entry.format
-        options.now.policy.digits options.now.policy.rest text.now options.now.times) }
+    ensures refused { IfErr result (IsTextRefused text_in.entry.format options.now.form text.now
+        options.now.times) }
 {
-    let said = said_as(alloc, options.policy, text_in, text)?;
+    let said = said_as(alloc, options, text_in, text)?;
     check_others(alloc, text_in.file, options, said.others.as_slice())?;
     Ok(said)
 }
@@ -179,9 +186,6 @@ pub(crate) fn from_openmetrics<R: Files + AllocGlobal + Clone + Drop, I: Read, W
     teller.is_at("reading the text")?;
     let text = read_text(alloc, rt, text_in.file, input)?;
     let said = said_by(alloc, options, text_in, text.as_slice())?;
-    let target = Target {
-        into: options.into,
-        digits: options.policy.digits.number(),
-    };
+    let target = options.target();
     write_said(alloc, rt, said, options.times, &target, out, teller)
 }

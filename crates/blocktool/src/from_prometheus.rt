@@ -5,7 +5,6 @@ use crate::fault::Fault;
 use crate::folder::find_blocks;
 use crate::plan::plan_for;
 use crate::prometheus::{Segments, Source, open_source};
-use crate::target::Target;
 use crate::teller::Teller;
 use crate::writing::write_planned;
 use std::alloc::Global;
@@ -20,7 +19,7 @@ fn open_all<'a, R: Files + AllocGlobal>(
 ) -> Result<Vec<Source<'a, Segments<'a, R>>>, Fault> {
     let mut sources = Vec::new(alloc);
     for block in blocks {
-        let source = open_source(alloc, rt, block.as_str(), options.policy)?;
+        let source = open_source(alloc, rt, block.as_str(), options.form)?;
         sources.push(source)?;
     }
     Ok(sources)
@@ -40,9 +39,6 @@ pub(crate) fn from_prometheus<R: Files + AllocGlobal + Clone + Drop, W: Write, E
     let sources = open_all(alloc, rt, options, blocks.as_slice())?;
     teller.is_at("counting the samples")?;
     let plan = plan_for(alloc, sources.as_slice(), options.times)?;
-    let target = Target {
-        into: options.into,
-        digits: options.policy.digits.number(),
-    };
+    let target = options.target();
     write_planned(alloc, rt, sources, &plan, &target, 0, out, teller)
 }

@@ -4,8 +4,9 @@
 //! `run` does what the words after the program's name ask for. An `Input` gives rows in a range
 //! of times and counts what it read; `conversion` makes of several inputs, of which the later wins,
 //! one output after another. `from_prometheus` finds blocks of Prometheus (`folder`), opens them
-//! (`prometheus`) as inputs and plans into how many outputs their times are cut. What is refused,
-//! and with which status a line ends, is said by `fault` and `program`.
+//! (`prometheus`) as inputs and plans into how many outputs their times are cut. Values are kept as
+//! a `form` says. What is refused, and with which status a line ends, is said by `fault` and
+//! `program`.
 //!
 //! It stands on `prometheus_block` for what is read, on `imported_values` for values, on
 //! `block_outputs` and `block_folder` for what is written, and on `clap` for words.
@@ -17,6 +18,7 @@ mod conversion;
 mod fault;
 mod files;
 mod folder;
+mod form;
 mod from_openmetrics;
 mod from_prometheus;
 mod from_rows;

@@ -3,6 +3,7 @@
 use crate::fault::Fault;
 use crate::files::read_file;
 use block::{Block, BlockError, Range};
+use block_folder::Values;
 use serde_json::Value;
 use std::alloc::Global;
 use std::rt::Files;
@@ -29,6 +30,8 @@ pub(crate) struct Opened {
     pub(crate) bytes: u64,
     /// How many digits after the point its values have.
     pub(crate) digits: u32,
+    /// What its values mean.
+    pub(crate) values: Values,
 }
 
 impl Opened {
@@ -43,6 +46,19 @@ impl Opened {
             return Err(Fault::Digits(String::from_str(alloc, directory)?));
         }
         Ok(self.digits)
+    }
+
+    /// What the values mean, which must be the same as in the blocks before it.
+    pub(crate) fn check_values(
+        &self,
+        alloc: Global,
+        before: Option<Values>,
+        directory: &str,
+    ) -> Result<Values, Fault> {
+        if !before.unwrap_or(self.values).is_same(self.values) {
+            return Err(Fault::Meaning(String::from_str(alloc, directory)?));
+        }
+        Ok(self.values)
     }
 }
 
@@ -79,6 +95,14 @@ fn digits_in(alloc: Global, meta: &[u8]) -> u32 {
         None => None,
     };
     said.unwrap_or(0).min(9) as u32
+}
+
+/// What a `meta.json` says that the values mean.
+fn values_in(alloc: Global, directory: &str, meta: &[u8]) -> Result<Values, Fault> {
+    match Values::read_meta(alloc, meta) {
+        Ok(values) => Ok(values),
+        Err(error) => Err(refused(alloc, directory, error)),
+    }
 }
 
 /// How many bytes the files have.
@@ -128,6 +152,7 @@ pub(crate) fn open_own<R: Files + AllocGlobal>(
 ) -> Result<Opened, Fault> {
     let files = read_bytes(alloc, rt, directory)?;
     let digits = digits_in(alloc, files.meta.as_slice());
+    let values = values_in(alloc, directory, files.meta.as_slice())?;
     let none_deleted = files.tombstones.as_slice() == NONE_DELETED.as_slice();
     let bytes = length_of(&files);
     let block = match open(alloc, files) {
@@ -145,5 +170,6 @@ pub(crate) fn open_own<R: Files + AllocGlobal>(
         deleted,
         bytes,
         digits,
+        values,
     })
 }

@@ -75,7 +75,7 @@ pub(crate) fn make_outputs<I: Input + Drop, D: Disk, W: Write>(
 ) -> Result<Summary, Fault>
     // The outputs are those of the planned times, and each sample that was counted is told once.
     ensures { IfOk result (λ summary. Makes I.may_give D.did inputs.items target.now.into.now
-        plan.now.tiles.items plan.now.counted summary disk.old disk.new) }
+        target.now.values plan.now.tiles.items plan.now.counted summary disk.old disk.new) }
 {
     let account = convert(alloc, inputs, plan.tiles.as_slice(), disk, target, out)?;
     match Summary::of(plan.counted, account) {

@@ -27,8 +27,8 @@ fn execute<I: Read, W: Write, E: Write>(
         Ok(Line::FromPrometheus(options, blocks)) => {
             from_prometheus(alloc, rt, &options, blocks.as_slice(), out, teller)
         }
-        Ok(Line::Rewrite(into, directories)) => {
-            rewrite(alloc, rt, into, directories.as_slice(), out, teller)
+        Ok(Line::Rewrite(into, values, directories)) => {
+            rewrite(alloc, rt, into, values, directories.as_slice(), out, teller)
         }
         Ok(Line::Add(data, directories)) => {
             add(alloc, rt, data, directories.as_slice(), out, teller)

@@ -8,7 +8,7 @@ use crate::fault::Fault;
 use crate::files::read_file;
 use crate::input::{Input, joined};
 use block_outputs::{Counts, Stretch};
-use imported_values::Policy;
+use imported_values::Form;
 use index_reader::{Chunk, Index};
 use kept_samples::{KeepError, Tally, Times};
 use labels::{LabelSet, Row};
@@ -54,15 +54,15 @@ impl<'a, R: Files + AllocGlobal> ReadSegments for Segments<'a, R> {
     }
 }
 
-/// A block of Prometheus: what reads its segments, what its index and its deletions say, and how
-/// its values are kept.
+/// A block of Prometheus: what reads its segments, what its index and its deletions say, and what
+/// its values are kept as.
 #[derive(Drop)]
 pub(crate) struct Source<'a, S> {
     directory: &'a str,
     segments: S,
     index: Index,
     tombstones: Tombstones,
-    policy: Policy,
+    form: Form,
 }
 
 /// The fault of a block that is refused.
@@ -105,7 +105,7 @@ pub(crate) fn open_source<'a, R: Files + AllocGlobal>(
     alloc: Global,
     rt: &'a R,
     directory: &'a str,
-    policy: Policy,
+    form: Form,
 ) -> Result<Source<'a, Segments<'a, R>>, Fault> {
     let index = open_index(alloc, rt, directory)?;
     let tombstones = open_tombstones(alloc, rt, directory)?;
@@ -114,7 +114,7 @@ pub(crate) fn open_source<'a, R: Files + AllocGlobal>(
         segments: Segments { rt, directory },
         index,
         tombstones,
-        policy,
+        form,
     })
 }
 
@@ -261,12 +261,12 @@ fn rows_of<S: ReadSegments>(
     tally: &mut Tally,
 ) -> Result<Vec<Row>, Fault>
     ensures { IfOk result (λ rows. IsGivenBy (S.may_read source.now.segments) source.now.index
-        source.now.tombstones source.now.policy times rows.items tally.old tally.new) }
+        source.now.tombstones source.now.form times rows.items tally.old tally.new) }
 {
     let wanted = Wanted {
         index: &source.index,
         tombstones: &source.tombstones,
-        policy: source.policy,
+        form: source.form,
         times: Times {
             from: times.from,
             to: times.to,
@@ -281,7 +281,7 @@ fn rows_of<S: ReadSegments>(
 
 impl<'a, S: ReadSegments> Input for Source<'a, S> {
     ghost may_give = { λ source times rows old new.
-        IsGivenBy (S.may_read source.segments) source.index source.tombstones source.policy times
+        IsGivenBy (S.may_read source.segments) source.index source.tombstones source.form times
         rows old new };
 
     fn rows_in(&self, alloc: Global, times: Stretch, tally: &mut Tally) -> Result<Vec<Row>, Fault> {

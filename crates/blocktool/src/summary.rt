@@ -4,6 +4,7 @@ ghost use Rattle.std.specs.Prelude.{IfSome};
 ghost use Rattle.blocktool.specs.Conversion.{IsSummaryOf};
 
 use crate::conversion::Account;
+use block_folder::Values;
 use prometheus_block::Counted;
 use std::alloc::{AllocError, Global};
 
@@ -56,6 +57,7 @@ impl Summary {
         &self,
         alloc: Global,
         digits: u32,
+        values: Values,
         exemplars: u64,
     ) -> Result<String, AllocError> {
         let Summary {
@@ -69,11 +71,16 @@ impl Summary {
             rounded,
             histograms,
         } = *self;
+        let of_values = match values {
+            Values::Whole => { format!(in alloc; "values times 10^{digits}, {rounded} rounded")? }
+            Values::Doubles => String::from_str(alloc, "values as doubles")?,
+        };
+        let of_values = of_values.as_str();
         format!(in alloc;
             "read {read} samples: {kept} kept, {stale} stale, {rest} of other values, \
              {deleted} deleted, {hidden} hidden, {outside} outside; \
              {histograms} of histograms, {exemplars} exemplars left; \
-             values times 10^{digits}, {rounded} rounded\n"
+             {of_values}\n"
         )
     }
 }

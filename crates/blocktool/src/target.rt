@@ -1,17 +1,20 @@
 //! Where outputs are written, and what is told of them.
 
 use crate::fault::Fault;
+use block_folder::Values;
 use block_outputs::{Extent, Output, OutputError};
 use std::alloc::{AllocError, Global};
 use std::fs;
 use std::io::{self, ErrorKind, Write};
 use std::rt::Files;
 
-/// The directory for outputs, and how many digits after the point their values have.
+/// The directory for outputs, how many digits after the point their values have, and what these
+/// mean.
 #[derive(Clone, Copy, Drop)]
 pub(crate) struct Target<'a> {
     pub(crate) into: &'a str,
     pub(crate) digits: u32,
+    pub(crate) values: Values,
 }
 
 impl<'a> Target<'a> {

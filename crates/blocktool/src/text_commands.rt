@@ -1,10 +1,11 @@
 //! The words of the commands that read and write text.
 
-use crate::command::{Line, digits_in, options_in};
+use crate::command::{Line, digits_in, meaning_in, options_in};
 use crate::from_openmetrics::TextIn;
 use crate::target::Target;
-use crate::to_openmetrics::ReplyIn;
-use crate::words::{DECIMALS, FROM, INTO, Kind, REST, STALE, TO, Word, command_of};
+use crate::to_openmetrics::{ReplyIn, Shown};
+use crate::words::{DECIMALS, FROM, INTO, Kind, REST, STALE, TO, VALUES, Word, command_of};
+use block_folder::Values;
 use clap::{ArgMatches, Command};
 use open_metrics::Format;
 use std::alloc::{AllocError, Global};
@@ -16,7 +17,8 @@ Each sample needs a time. Of two samples of one series at one time that of the l
 Exemplars are left; no text has stale markers. The text and its rows are in memory at once.
 
 The outputs, the values and the last line are those of `blocktool from-prometheus`; values are read
-as the text writes them, with no double between.
+as the text writes them, with no double between. With --values doubles each value is the double
+nearest to the number that the text writes.
 
 The first line that is wrong is refused, with its code, a sentence, line and column:
   P1 to P12 the line, or the end of the text
@@ -27,13 +29,13 @@ docs/FORMATS.md of the project explains each code.
 Exit status: 0 done; 1 refused, with the place on standard error; 2 a fault of the words; 3 cannot
 read or write; 4 no memory
 
-Example: blocktool from-openmetrics --decimals 3 --into mine backfill.om";
+Example: blocktool from-openmetrics --values doubles --into mine backfill.om";
 
 const ABOUT_ROWS: &str =
     "FILE, or standard input, is a reply as `querier select` prints it, of which the merged rows
 are taken, or a list of rows, as the body of `POST /write`. Of two samples of one series at one time
-the later is kept. Values are taken as they stand, in parts of which 10^N make one. All rows are in
-memory at once.
+the later is kept. Values are taken as they stand: in parts of which 10^N make one, or, with --values
+doubles, as the numbers that stand for doubles. All rows are in memory at once.
 
 The outputs and the last line are those of `blocktool from-prometheus`.
 
@@ -46,14 +48,15 @@ const ABOUT_TO: &str =
     "FILE, or standard input, is a reply as `querier select` prints it. Its merged rows are written
 as OpenMetrics text, which `promtool tsdb create-blocks-from openmetrics` reads: a line for each
 sample, its time in seconds, its value a decimal with N digits after the point. Give the N with
-which the blocks were made.
+which the blocks were made, or --values doubles: then values are written as Prometheus prints them.
 
 Exit status: 0 done; 1 refused: no reply, or a series without the name of a metric; 2 a fault of the
 words; 3 cannot read or write; 4 no memory
 
 Example: querier select 'up' mine/* | blocktool to-openmetrics --decimals 3 >up.om";
 
-const TEXT: [Word<'static>; 8] = [
+const TEXT: [Word<'static>; 9] = [
+    VALUES,
     DECIMALS,
     REST,
     STALE,
@@ -74,7 +77,8 @@ const TEXT: [Word<'static>; 8] = [
     },
 ];
 
-const ROWS: [Word<'static>; 3] = [
+const ROWS: [Word<'static>; 4] = [
+    VALUES,
     DECIMALS,
     INTO,
     Word {
@@ -85,7 +89,8 @@ const ROWS: [Word<'static>; 3] = [
     },
 ];
 
-const REPLY: [Word<'static>; 2] = [
+const REPLY: [Word<'static>; 3] = [
+    VALUES,
     DECIMALS,
     Word {
         name: "file",
@@ -138,13 +143,21 @@ fn rows_in<'a>(found: &ArgMatches<'a>) -> Option<Line<'a>> {
     let target = Target {
         into: found.get_str("into")?,
         digits: digits_in(found)?.number(),
+        values: meaning_in(found).unwrap_or(Values::Whole),
     };
     Some(Line::FromRows(target, found.get_str("file")))
 }
 
+fn shown_in(found: &ArgMatches<'_>) -> Option<Shown> {
+    match meaning_in(found) {
+        Some(Values::Doubles) => Some(Shown::Doubles),
+        _ => Some(Shown::Decimals(digits_in(found)?)),
+    }
+}
+
 fn reply_in<'a>(found: &ArgMatches<'a>) -> Option<Line<'a>> {
     let reply = ReplyIn {
-        digits: digits_in(found)?,
+        shown: shown_in(found)?,
         file: found.get_str("file"),
     };
     Some(Line::ToOpenMetrics(reply))

@@ -10,6 +10,11 @@ const STALES: [&str; 2] = ["refuse", "drop"];
 
 const FORMATS: [&str; 2] = ["openmetrics", "prometheus"];
 
+const MEANINGS: [&str; 1] = ["doubles"];
+
+/// The options of values that are whole numbers of parts.
+const OF_PARTS: [&str; 3] = ["decimals", "rest", "stale"];
+
 /// Which values a word takes.
 #[derive(Clone, Copy, Drop)]
 pub(crate) enum Kind {
@@ -25,6 +30,8 @@ pub(crate) enum Kind {
     Stale,
     /// An option with one of [`FORMATS`].
     Format,
+    /// An option with one of [`MEANINGS`], and without [`OF_PARTS`].
+    Values,
     /// Texts without an option, at least one.
     Many,
     /// A text without an option, which must be given.
@@ -59,18 +66,24 @@ fn positional<'a>(alloc: Global, word: Word<'a>) -> Arg<'a> {
         .help(word.help)
 }
 
-fn arg_of<'a>(alloc: Global, word: Word<'a>) -> Arg<'a> {
-    match word.kind {
+/// An option that tells what values mean.
+fn meaning<'a>(alloc: Global, word: Word<'a>) -> Result<Arg<'a>, AllocError> {
+    choice(alloc, word, MEANINGS.as_slice()).conflicts_with_all(OF_PARTS.as_slice())
+}
+
+fn arg_of<'a>(alloc: Global, word: Word<'a>) -> Result<Arg<'a>, AllocError> {
+    Ok(match word.kind {
         Kind::Needed => option(alloc, word).required(true),
         Kind::Digits => option(alloc, word).value_parser(ValueParser::unsigned(0, 9)),
         Kind::Time => option(alloc, word).value_parser(value_parser!(i64)),
         Kind::Rest => choice(alloc, word, RESTS.as_slice()),
         Kind::Stale => choice(alloc, word, STALES.as_slice()),
         Kind::Format => choice(alloc, word, FORMATS.as_slice()),
+        Kind::Values => meaning(alloc, word)?,
         Kind::Many => positional(alloc, word).num_args(1..).required(true),
         Kind::Sole => positional(alloc, word).required(true),
         Kind::One => positional(alloc, word),
-    }
+    })
 }
 
 /// A command with these words, in this order.
@@ -81,7 +94,7 @@ pub(crate) fn with_words<'a>(
 ) -> Result<Command<'a>, AllocError> {
     let mut command = command;
     for word in words {
-        command = command.arg(arg_of(alloc, *word))?;
+        command = command.arg(arg_of(alloc, *word)?)?;
     }
     Ok(command)
 }
@@ -117,6 +130,13 @@ pub(crate) const STALE: Word<'static> = Word {
     value: "WHAT",
     help: "What is done with stale markers [default: drop]",
     kind: Kind::Stale,
+};
+
+pub(crate) const VALUES: Word<'static> = Word {
+    name: "values",
+    value: "WHAT",
+    help: "What values are, if not whole numbers of parts",
+    kind: Kind::Values,
 };
 
 pub(crate) const FROM: Word<'static> = Word {

@@ -31,7 +31,7 @@ pub(crate) fn write_planned<
     make_folder(alloc, rt, target.into)?;
     let mut disk = HostDisk::new(rt);
     let summary = make_outputs(alloc, inputs, plan, &mut disk, target, out)?;
-    let line = summary.line_of(alloc, target.digits, exemplars)?;
+    let line = summary.line_of(alloc, target.digits, target.values, exemplars)?;
     send(out, line.as_str())?;
     Ok(())
 }

@@ -22,9 +22,9 @@ loop-at-preserved g c =
       converted = (
         l.invariant.converted.0 ++ one.0 ∷ [],
         converted_more g.I.Input.may_give g.D.Disk.did c.args.inputs.items
-            c.args.target.now.into.now c.args.tiles.now l.at _ l.invariant.converted.0 one.0 _ _ _
+            c.args.target.now.into.now c.args.target.now.values c.args.tiles.now l.at _ l.invariant.converted.0 one.0 _ _ _
             _ _ _ c.loop-at-test.true l.invariant.converted.1
-            (converted_as g.I.Input.may_give g.D.Disk.did _ _ _ _ _ _ _ _ _ here one.1),
+            (converted_as g.I.Input.may_give g.D.Disk.did _ _ _ _ _ _ _ _ _ _ here one.1),
       );
       kept = λ lt.
           c.in_ok-convert_one.ensures.kept (not_last c.is_last_of.result (l.at + 1)
@@ -38,7 +38,7 @@ returns g c =
     let outputs = l.invariant.converted.0 in
     let each =
     subst (λ (ts : List Stretch). AreConvertedFrom g.I.Input.may_give g.D.Disk.did
-    c.args.inputs.items c.args.target.now.into.now ts outputs nothing l.account c.args.disk.now
+    c.args.inputs.items c.args.target.now.into.now c.args.target.now.values ts outputs nothing l.account c.args.disk.now
     l.disk)
     (take_all l.at c.args.tiles.now (omega arith)) l.invariant.converted.1 in
     record {
@@ -46,6 +46,6 @@ returns g c =
       each = each;
       whole =
           whole_content g.I.Input.may_give g.D.Disk.did c.args.inputs.items
-          c.args.target.now.into.now c.args.tiles.now outputs nothing l.account
+          c.args.target.now.into.now c.args.target.now.values c.args.tiles.now outputs nothing l.account
           c.args.disk.now l.disk each;
     }

@@ -7,12 +7,12 @@ use Rattle.blocktool.proofs.prometheus.rows_of.Goals as goal
 pub returns-in-Ok : goal.returns-in-Ok
 returns-in-Ok g c =
     let source = c.args.source.now in
-    given_by _ source.index source.tombstones source.policy c.args.times _ _ _ _
+    given_by _ source.index source.tombstones source.form c.args.times _ _ _ _
     c.in-Ok.ensures.found
     (record {
       index_is = refl;
       deletions_are = refl;
-      policy_is = refl;
+      form_is = refl;
       from = to_z-of_z w64 c.args.times.from (search rules);
       to = to_z-of_z w64 c.args.times.to (search rules);
     })
