@@ -180,8 +180,10 @@ fn commit<J: Naming, C: Wait + Drop>(
     let appender = appender_of(alloc, seat.number(), at)?;
     match committer.commit(rt, seat, appender) {
         Ok(receipt) => Some(Some(receipt)),
-        Err((_, CommitError::OutOfBounds { at: _ })) if at < LAST_CUT => Some(None),
-        Err(_) => None,
+        Err((_, refused)) => match refused.error {
+            CommitError::OutOfBounds { at: _ } if at < LAST_CUT => Some(None),
+            _ => None,
+        },
     }
 }
 

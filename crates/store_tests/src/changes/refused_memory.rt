@@ -186,7 +186,7 @@ fn commit<J: Naming, R: Wait + Drop>(
 ) -> Result<u64, (Asked, CommitError)> {
     match store.committer.commit(rt, &mut store.seat, appender) {
         Ok(receipt) => Ok(receipt.events()),
-        Err((appender, refusal)) => Err((Asked::Commit(appender), refusal)),
+        Err((appender, refused)) => Err((Asked::Commit(appender), refused.error)),
     }
 }
 
@@ -219,7 +219,7 @@ fn cut<J: Naming, R: Wait + Drop>(
     }
     match store.committer.cut(rt, &mut store.seat, at) {
         Ok(receipt) => Ok(receipt.events()),
-        Err(refusal) => Err((Asked::Cut(at), refusal)),
+        Err(refused) => Err((Asked::Cut(at), refused.error)),
     }
 }
 

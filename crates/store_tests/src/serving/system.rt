@@ -4,7 +4,7 @@ ghost use Rattle.std.specs.Prelude.{◌≡◌, []};
 ghost use Rattle.head.specs.Blocks.{opening_of};
 
 use guard::Rules;
-use server::{Terms, Workers, serve};
+use server::{Listeners, Terms, Workers, serve};
 use snapshots::{Naming, Store};
 use std::alloc::Global;
 use std::io::{Read, Write};
@@ -80,9 +80,14 @@ fn serve_all<
     let terms = Terms {
         requests: 2,
         idle: Some(Duration::from_secs(1)),
+        version: "test",
+    };
+    let listeners = Listeners {
+        first: listener,
+        prometheus: None,
     };
     let rules = Rules::none();
-    serve(rt, alloc, workers, listener, &rules, terms).is_ok()
+    serve(rt, alloc, workers, listeners, &rules, terms).is_ok()
 }
 
 /// The replies to these requests, asked by a thread beside the workers, if these all ended.

@@ -1,8 +1,8 @@
 //! Sessions of a store, each step of which is looked at.
 
-ghost use Rattle.std.specs.Prelude.{◌≡◌, []};
-ghost use Rattle.head.specs.Blocks.{opening_of};
-ghost use Rattle.head.specs.Heads.{world_of};
+ghost use Rattle.std.specs.Prelude.{◌≡◌};
+ghost use Rattle.block_folder.specs.declared.values.Values.TheVariants.{Whole};
+ghost use Rattle.store_folder.specs.Origins.{beginning};
 
 use crate::restarts::events::{SESSION, Wish, event_of};
 use crate::restarts::fault::Fault;
@@ -10,6 +10,7 @@ use crate::restarts::running::Running;
 use crate::restarts::starts::{MOST, Store};
 use crate::restarts::steps::{Answer, Step};
 use crate::restarts::telling::tell;
+use block_folder::Values;
 use head::Snapshot;
 use logged_folder::LoggedFolder;
 use std::alloc::Global;
@@ -226,11 +227,11 @@ pub fn run_session<N: Beginning>(
     failing: u64,
     from: usize,
 ) -> Result<Ended, Fault>
-    requires { N.first ≡ world_of (opening_of []) }
+    requires { N.first ≡ beginning Whole }
 {
     let mut ended = Ended::nothing();
     let folder = LoggedFolder::new(alloc, before, failing);
-    match begin_store::<N, LoggedFolder>(alloc, folder, MOST) {
+    match begin_store::<N, LoggedFolder>(alloc, folder, Values::Whole, MOST) {
         Ok(started) => {
             let mut store = Running::of(started);
             ended.count(look_at_begin(alloc, store.folder(), Answer::Done, from)?);

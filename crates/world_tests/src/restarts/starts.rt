@@ -2,10 +2,9 @@
 
 ghost use Rattle.std.specs.Prelude.{◌≡◌, map, true};
 ghost use Rattle.head.specs.Blocks.{part_in};
-ghost use Rattle.head.specs.Heads.{world_of};
 ghost use Rattle.logged_folder.specs.Logged.{logged_sound};
 ghost use Rattle.store_folder.specs.Finding.{IsFoundStore};
-ghost use Rattle.store_folder.specs.States.{started};
+ghost use Rattle.store_folder.specs.States.{origin_of};
 
 use crate::restarts::events::{ONE_MORE, event_of};
 use crate::restarts::running::Running;
@@ -31,8 +30,7 @@ fn resume<N: Beginning, F: Folder + Drop>(
     requires sound { F.sound folder ≡ true }
     requires found { IsFoundStore F.shows F.kept found.journal (map part_in found.blocks.items)
         folder }
-    requires first { N.first
-        ≡ world_of (started found.journal.head (map part_in found.blocks.items)) }
+    requires first { N.first ≡ origin_of found.journal.head (map part_in found.blocks.items) }
 {
     match resume_store::<N, F>(alloc, folder, found, MOST) {
         Ok(started) => Some(Running::of(started)),
@@ -49,8 +47,7 @@ fn told_of<N: Beginning, F: Folder + Drop>(
     requires sound { F.sound folder ≡ true }
     requires found { IsFoundStore F.shows F.kept found.journal (map part_in found.blocks.items)
         folder }
-    requires first { N.first
-        ≡ world_of (started found.journal.head (map part_in found.blocks.items)) }
+    requires first { N.first ≡ origin_of found.journal.head (map part_in found.blocks.items) }
 {
     let store = resume::<N, F>(alloc, folder, found)?;
     tell(alloc, store.snapshot())
@@ -84,8 +81,7 @@ fn go_on<N: Beginning>(alloc: Global, folder: LoggedFolder, found: FoundStore) -
     requires sound { logged_sound folder ≡ true }
     requires found { IsFoundStore ⟦<LoggedFolder as Folder>⟧.shows
         ⟦<LoggedFolder as Folder>⟧.kept found.journal (map part_in found.blocks.items) folder }
-    requires first { N.first
-        ≡ world_of (started found.journal.head (map part_in found.blocks.items)) }
+    requires first { N.first ≡ origin_of found.journal.head (map part_in found.blocks.items) }
 {
     let mut store = resume::<N, LoggedFolder>(alloc, folder, found)?;
     let text = tell(alloc, store.snapshot())?;

@@ -1,10 +1,9 @@
 use Rattle.std.specs.Prelude.{map}
 use Rattle.head.specs.Blocks.{part_in}
-use Rattle.head.specs.Heads.{world_of}
-use Rattle.store_folder.specs.States.{started}
+use Rattle.store_folder.specs.States.{origin_of}
 use Rattle.world_tests.proofs.restarts.starts.told.Given as goal
 
--- the world of the head and the blocks that were found
+-- what the head and the blocks that were found say
 abbrev pub ghosts-told_of : goal.ghosts-told_of
 ghosts-told_of g a =
-    record { first = world_of (started a.found.journal.head (map part_in a.found.blocks.items)) }
+    record { first = origin_of a.found.journal.head (map part_in a.found.blocks.items) }

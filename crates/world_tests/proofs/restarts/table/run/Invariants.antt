@@ -1,8 +1,7 @@
-use Rattle.std.specs.Prelude.{[]}
-use Rattle.head.specs.Blocks.{opening_of}
-use Rattle.head.specs.Heads.{world_of}
+use Rattle.block_folder.specs.declared.values.Values.TheVariants.{Whole}
+use Rattle.store_folder.specs.Origins.{beginning}
 use Rattle.world_tests.proofs.restarts.table.run.Given as goal
 
--- the world of a store that has nothing
+-- a store of whole numbers that has nothing
 abbrev pub ghosts-run_session : goal.ghosts-run_session
-ghosts-run_session a = record { first = world_of (opening_of []) }
+ghosts-run_session a = record { first = beginning Whole }
