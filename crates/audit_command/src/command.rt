@@ -50,7 +50,7 @@ the lines cannot be written; 4 no memory
 Example: querier select 'up{job="a"}' data/0001 | auditor --selector 'up{job="a"}' data/0001"#;
 
 /// What `--version` tells behind the name.
-const VERSION: &str = "0.1.0 (rattle-kit-13b)";
+const VERSION: &str = "0.1.0 (rattle-kit-13f)";
 
 /// The option `--selector S`, which must stand there.
 fn selector<'a>(alloc: Global) -> Arg<'a>

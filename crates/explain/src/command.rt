@@ -40,7 +40,7 @@ holds no reply, or the page cannot be written; 4 no memory
 Example: querier select up data/0001 | explain --selector up data/0001 >answer.html"#;
 
 /// What `--version` tells behind the name.
-const VERSION: &str = "0.1.0 (rattle-kit-13b)";
+const VERSION: &str = "0.1.0 (rattle-kit-13f)";
 
 /// The option `--about SERIES`.
 fn about<'a>(alloc: Global) -> Arg<'a>
