@@ -8,11 +8,13 @@ CRATES := $(shell sed -e 's/\#.*//' -e 's/:.*//' -e '/^[[:space:]]*$$/d' crates.
 TESTS_OF := file_tests:wire,index_reader,chunk_reader,tombstones,block,block_writer,xor_reader,doubles,decimal_text,prometheus_block \
 	store_tests:labels,pages,matchers,postings,head,snapshots,cover,block_search,series_merge,answers,selector_cache,requests,query_http,server,commands,querier,journal,event_text \
 	world_tests:history,block_walk,reply_reader,auditor,audit_command,audit_laws,auditor_program,block_rewriter,head_record,store_folder,logged_folder \
-	remote_tests:stored_doubles,varints,snappy,protobuf_fields,remote_write,remote_read,remote_requests,remote_rows,remote_http,waiting_room \
+	port_tests:remote_http,remote_listings \
+	remote_tests:stored_doubles,varints,snappy,protobuf_fields,remote_write,remote_read,remote_requests,remote_rows \
 	tests/serving.sh:guard \
 	tests/durable/run.py:keeper,event_journal,cut_schedule,folder_lock,data_folder,store_joiner \
 	tests/scraping.sh:server_metrics \
-	tests/importing.sh:imported_values,kept_samples,time_cuts,block_folder,block_outputs,open_metrics,metrics_writer,exposition,blocktool \
+	tests/live/run.py:waiting_room \
+	tests/importing.sh:imported_values,kept_samples,time_cuts,block_folder,block_outputs,double_text,open_metrics,metrics_writer,exposition,blocktool \
 	tests/pages-html.py:page_layout,page_style,page_escape,page_text,page_claims,page_marks,page,explain
 # The crate or the script with the tests of a crate, or nothing.
 tests_of = $(if $(filter %_tests,$(1)),$(1),$(word 1,$(subst :, ,$(foreach it,$(TESTS_OF),$(if \
@@ -88,6 +90,10 @@ scaling: ## asks four queriers over the quarters of a block, and compares their 
 .PHONY: durable
 durable: ## kills a server that keeps its store a hundred times, damages its journals, and has its disk fail (needs python3 and a C compiler)
 	@RT="$(RT)" tests/durable/run.py
+
+.PHONY: live
+live: ## has a Prometheus and vmagent send to the server, and a Prometheus ask it; and sends it bodies made by hand (needs prometheus, vmagent and python3)
+	@RT="$(RT)" tests/live/run.py
 
 bench: ## measures speed, first beside Prometheus and VictoriaMetrics (never part of the gate)
 	@RT="$(RT)" bench/peers.py && RT="$(RT)" bench/run.sh && RT="$(RT)" bench/check.sh && RT="$(RT)" bench/select.sh && RT="$(RT)" bench/audit.sh && RT="$(RT)" bench/serve.sh && RT="$(RT)" bench/durable.py

@@ -7,6 +7,7 @@ that is not installed is left out, which is told. The classes:
   http      the same selectors asked of all three in turn, over new connections and over kept ones where a
             peer keeps them; all must reply with as many series and samples
   writes    batches to `querier` and to the import of VictoriaMetrics, by one client, four and sixteen
+  remote    remote write and remote read, by the bytes that a Prometheus sends, over new connections
   memory    the peak memory of `querier` while 16 clients ask for a large reply
   patterns  patterns that are dear to build, and a small query beside eight clients that send one
   command   `select` and `check` beside `sha256sum` of the same files
@@ -25,9 +26,10 @@ sys.dont_write_bytecode = True
 from peers_files import audits, command  # noqa: E402
 from peers_house import PEERS, House, find_program, parser_of, present, run_to_end, words_of  # noqa: E402
 from peers_http import http, memory, patterns, writes  # noqa: E402
+from peers_remote import remote  # noqa: E402
 from peers_table import Table  # noqa: E402
 
-CLASSES = {one.__name__: one for one in (http, writes, memory, patterns, command, audits)}
+CLASSES = {one.__name__: one for one in (http, writes, remote, memory, patterns, command, audits)}
 
 
 def main():

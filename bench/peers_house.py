@@ -21,7 +21,7 @@ from lib import Running, find_program, free_port  # noqa: E402, F401
 AFTER = 1_700_010_000  # seconds: after the last sample of make_block.rs, less than two hours after the first
 MB = 1e6
 PEERS = {"Prometheus": ("prometheus", "promtool"), "VictoriaMetrics": ("victoria-metrics",)}
-TOOLS = ("make_block", "open_metrics", "load", "turns")
+TOOLS = ("make_block", "open_metrics", "load", "remote", "turns")
 
 
 class Failed(Exception):

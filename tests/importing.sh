@@ -85,6 +85,33 @@ back() {
   echo "$name, $digits digits: $(tail -n 1 "$work/same")"
 }
 
+# makes blocks of doubles of promtool's block, and of a text if there is one: both must hold what promtool
+# has, bit for bit, and as text again it must be what promtool prints
+# doubles NAME TSDB BLOCK..
+doubles() {
+  local name=$1 tsdb=$2 from=$work/$1.om out=$work/doubles-$1
+  shift 2
+  "$BLOCKTOOL" from-prometheus --values doubles --into "$out" "$@" >"$work/told" 2>"$work/passed" ||
+    tell "$name: doubles of promtool's block: $(last_line)"
+  same "$name, doubles" doubles "$work/told" "$tsdb" -- "$out"/0*
+  [ -e "$from" ] || return 0
+  "$BLOCKTOOL" from-openmetrics --values doubles --into "$out-text" "$from" >"$work/told" 2>&1 ||
+    tell "$name: doubles of a text: $(last_line)"
+  same "$name, doubles of its text" doubles "$work/told" "$tsdb" -- "$out-text"/0*
+  read_block reply "$out"/0* >"$work/reply"
+  "$BLOCKTOOL" to-openmetrics --values doubles "$work/reply" >"$out.om" ||
+    tell "$name: doubles as text ended with $?"
+  same "$name, doubles as text" shown "$tsdb" "$out.om"
+  "$BLOCKTOOL" from-openmetrics --values doubles --into "$out-back" "$out.om" >"$work/told" 2>&1 ||
+    tell "$name: its own text of doubles is refused: $(last_line)"
+  diff -r "$out" "$out-back" >"$work/same" || tell "$name: other doubles out of its own text"
+  "$BLOCKTOOL" from-rows --values doubles --into "$out-rows" "$work/reply" >"$work/told" ||
+    tell "$name: from-rows of doubles ended with $?"
+  diff -r "$out" "$out-rows" >"$work/same" || tell "$name: other doubles out of its rows"
+  "$BLOCKTOOL" rewrite --into "$out-anew" "$out"/0* >"$work/told" || tell "$name: rewrite of doubles: $?"
+  grep -q '"values":"doubles"' "$out-anew"/0001/meta.json || tell "$name: rewrite forgets the meaning"
+}
+
 # makes NAME COMMAND WORD..: blocktool makes $work/NAME-out of standard input or a file
 makes() {
   "$BLOCKTOOL" "$2" --into "$work/$1-out" "${@:3}" >"$work/told" || tell "$1: $2 ended with $?: $(last_line)"
@@ -136,6 +163,8 @@ for text in "$work"/*.om; do
   name=$(basename "$text" .om)
   [ "$name" != far ] || continue # promtool reads no number of 2^1024 and more
   promtool tsdb create-blocks-from openmetrics "$text" "$work/$name" >/dev/null
+  doubles "$name" "$work/$name" "$work/$name"/0*
+  [ "$name" != anything ] || continue
   for digits in 0 9; do
     convert "$name" "$digits" "$work/$name" -- "$work/$name"/0*
     text "$name" "$digits"
@@ -307,6 +336,7 @@ END
   snapshot=$work/server/snapshots/$snapshot
   convert server 9 "$snapshot" -- "$snapshot"/0*
   REST=round convert server-folder 9 "$snapshot" -- "$snapshot"
+  doubles server "$snapshot" "$snapshot"
   for job in self ${QUERIER:+querier}; do
     scrapes=$(promtool tsdb dump --match="up{job=\"$job\"}" "$snapshot" | grep -c ' 1 ') || true
     echo "$job: $scrapes scrapes"
@@ -320,6 +350,28 @@ fi
   tell "a fraction was not refused"
 cat "$work/told"
 [ -z "$(ls -A "$work/refused" 2>/dev/null)" ] || tell "something stands in the directory of a refused block"
+# with doubles no other option of values may stand; whole numbers become doubles up to 2^53
+for option in '--decimals 1' '--rest drop' '--stale drop'; do
+  status=0
+  "$BLOCKTOOL" from-prometheus --values doubles $option --into "$work/refused" "$work/odd"/0* \
+    >"$work/told" 2>&1 || status=$?
+  [ "$status" = 2 ] || tell "$option beside doubles: status $status"
+done
+printf '%s\n' 'up 9007199254740992 1' 'up -9007199254740992 2' 'up 0 3' '# EOF' >"$work/small.om"
+printf '%s\n' 'up 1 1' 'up 9007199254740993 2' '# EOF' >"$work/large.om"
+makes small from-openmetrics "$work/small.om"
+makes large from-openmetrics "$work/large.om"
+"$BLOCKTOOL" rewrite --values doubles --into "$work/small-doubles" "$work/small-out"/0* >"$work/told" ||
+  tell "small whole numbers became no doubles: $(last_line)"
+grep -q '"values":"doubles"' "$work/small-doubles/0001/meta.json" || tell "they are not said to be doubles"
+cmp "$work/small-doubles/0001/chunks/000001" "$work/small-out/0001/chunks/000001" ||
+  tell "a small whole number does not stand for itself"
+! "$BLOCKTOOL" rewrite --values doubles --into "$work/refused" "$work/large-out"/0* >"$work/told" 2>&1 ||
+  tell "2^53 + 1 became a double"
+grep -q '^refused V4: 9007199254740993 at 2000 ' "$work/told" || tell "V4: $(cat "$work/told")"
+! "$BLOCKTOOL" rewrite --into "$work/refused" "$work/small-doubles"/0* "$work/small-out"/0* \
+  >"$work/told" 2>&1 || tell "values of two meanings were mixed"
+grep -q '^refused V5: ' "$work/told" || tell "V5: $(cat "$work/told")"
 # a directory with something in it is left alone
 ! "$BLOCKTOOL" from-prometheus --into "$work/out-whole-0-drop" "$work/whole"/0* 2>"$work/told" ||
   tell "a full directory was taken"

@@ -33,7 +33,7 @@ INNER = {
 COMMANDS = [f"{name} {inner}".strip() for name in CRATES for inner in ["", *INNER.get(name, [])]]
 PAGES = ["querier.1", "auditor.1", "explain.1", "blocktool.1", "fuzzledge-block.5"]
 DOCUMENTS = ["SELECTORS.md", "FORMATS.md", "HTTP.md", "AUDITING.md", "OPERATING.md", "IMPORTING.md"]
-CODE = r"\b[BCEFHILMOPQTWX]\d{1,2}\b"
+CODE = r"\b[BCEFHILMOPQTVWX]\d{1,2}\b"
 # what stands in a line of blocktool, and how its man page shows it
 SHOWN = {"count": "N", "directory": "DIR", "data": "DIR", "end": "T"}
 # codes that only callers of the crates meet, and no user of a program
@@ -286,8 +286,10 @@ def subjects_of_blocktool(texts):
         "IMPORTING": {(name, choice) for name in table for choice in table[name]},
     }
     yield "first choices of what is kept", {
-        "help": {(name, default) for name, _, default in help_options(importer) if table.get(name)},
-        "IMPORTING": {(name, choices[0]) for name, choices in table.items() if choices},
+        "help": {
+            (name, default) for name, _, default in help_options(importer) if len(table.get(name, [])) > 1
+        },
+        "IMPORTING": {(name, choices[0]) for name, choices in table.items() if len(choices) > 1},
     }
     yield "codes of blocks of Prometheus", {
         "help": set(codes(between(importer, "is refused with", "docs/"))),
@@ -315,6 +317,11 @@ def subjects_of_blocktool(texts):
         "help of check": checked_codes(texts),
         "man": man_items(own),
         "IMPORTING": codes(between(importing, "\n## Blocks of Fuzzledge\n", "\n## ")),
+    }
+    yield "codes of values", {
+        "source": set(re.findall(r"refused (V\d)", texts["fault.rt"])),
+        "man": set(man_items(subsection(refusals, "Values"))),
+        "IMPORTING": set(document_codes(importing, "Doubles")),
     }
     yield "the code of a block of Prometheus", {
         "IMPORTING": codes(importing.split("\n## ")[0]),

@@ -13,6 +13,10 @@ dump`.
         prints the rows of the blocks as a reply
     read_block.py same DIGITS TSDB -- BLOCK..
         `promtool tsdb dump` of the TSDB prints the blocks' samples
+    read_block.py doubles TOLD TSDB -- BLOCK..
+        the blocks hold as doubles, bit for bit, what `promtool tsdb dump` prints of the TSDB, and all of it
+    read_block.py shown TSDB TEXT
+        the text of OpenMetrics has each sample as `promtool tsdb dump` prints it of the TSDB
     read_block.py delete BLOCK
         deletes of each third series the times of its second quarter
     read_block.py change BLOCKTOOL TSDB DIR
@@ -270,6 +274,19 @@ def texts(folder, large):
     ]
     write("far", [("far", rows)])
     many("thousand", 1000, 120)
+    # doubles of any bits, and numbers between doubles
+    anything = []
+    for i in range(3000):
+        x = struct.unpack(">d", random.getrandbits(64).to_bytes(8, "big"))[0]
+        anything.append(repr(x) if x == x and abs(x) != float("inf") else "0.5")
+    for k in range(3000):
+        anything.append("%.*e" % (k % 40, random.uniform(-1, 1) * 10.0 ** random.randint(-320, 300)))
+    anything += [f"{2**53 + i}" for i in range(-4, 5)] + [f"-{2**53 + i}" for i in range(-4, 5)]
+    anything += ["1e5", "1e6", "999999", "1234567", "0.0001", "0.00001", "0.000123", "100000", "1e21", "1e22"]
+    anything += ["9007199254740993", "2.2250738585072011e-308", "5e-324", "2e-324", "1.7976931348623157e308"]
+    anything += ["NaN", "+Inf", "-Inf", "-0", "0", "1", "-1", "0.1", "1e23", "8.5", "4503599627370496.5"]
+    rows = [('{k="%d"}' % (k % 97), v, start + k // 97) for k, v in enumerate(anything)]
+    write("anything", [("anything", rows)])
     if large:
         many("many", 10000, 120)
         many("wide", 100000, 12)
@@ -404,6 +421,72 @@ def compare(digits, rest, told, tsdbs, folders):
     )
 
 
+BITS = 2**64 - 1
+READ_NAN, STALE = 0x7FF8000000000001, 0x7FF0000000000002
+
+
+def bits_of(x):
+    return int.from_bytes(struct.pack(">d", x), "big")
+
+
+def restored(v):
+    """The bits of the double for which a number is kept."""
+    if v == 0 or 1 <= abs(v) <= 2**53:
+        return bits_of(float(v)) if v else 0
+    x = struct.unpack(">d", (v & BITS).to_bytes(8, "big"))[0]
+    if x == x and 1 <= abs(x) <= 2**53 and x == int(x):
+        return int(x) & BITS
+    return v & BITS
+
+
+def dumped(tsdb):
+    """The texts of the values that promtool prints, by series and time."""
+    out = {}
+    for line in dump_of(tsdb).splitlines():
+        i = line.rindex("} ")
+        v, t = line[i + 2 :].split()
+        key = tuple(sorted((a, ast.literal_eval(b)) for a, b in LAB.findall(line[1:i])))
+        out.setdefault(key, {})[int(t)] = v
+    return out
+
+
+def doubles(told, tsdb, folders):
+    want, got = dumped(tsdb), rows_of(folders)
+    assert want.keys() == got.keys(), list(want.keys() ^ got.keys())[:3]
+    kept = nans = 0
+    for key, samples in got.items():
+        assert [t for t, _ in samples] == sorted(want[key]), key
+        for t, v in samples:
+            bits, text = restored(v), want[key][t]
+            if text == "NaN":
+                assert bits in (READ_NAN, STALE), (key, t, hex(bits))
+                nans += 1
+            else:
+                assert bits == bits_of(float(text)), (key, t, text, hex(bits))
+            kept += 1
+    for folder in folders:
+        meta = json.load(open(folder + "/meta.json"))
+        assert (meta["values"], meta["decimals"]) == ("doubles", 0), folder
+    counts = counts_in(told)
+    assert counts["kept"] == sum(counts.values()) == kept, (counts, kept)
+    assert "; values as doubles" in open(told).read()
+    print("the same:", kept, "samples of", len(got), "series bit for bit,", nans, "of them NaN")
+
+
+def shown(tsdb, text):
+    want, got = dumped(tsdb), {}
+    for line in open(text, encoding="utf-8").read().split("\n"):
+        if line.startswith("#") or not line:
+            continue
+        name = re.match("[a-zA-Z_:][a-zA-Z0-9_:]*", line)[0]
+        v, t = line.split(" ")[-2:]
+        labels = [(a, re.sub(r"\\.", lambda m: ESCAPES[m[0]], b[1:-1])) for a, b in LAB.findall(line)]
+        got.setdefault(tuple(sorted([("__name__", name)] + labels)), {})[int(Decimal(t).scaleb(3))] = v
+    for key in want.keys() | got.keys():
+        assert want.get(key) == got.get(key), (key, want.get(key), got.get(key))
+    print("the same:", sum(map(len, got.values())), "samples as promtool prints them")
+
+
 def sums():
     """The checksum of each byte."""
     table = []
@@ -512,6 +595,10 @@ if __name__ == "__main__":
         reply(sys.argv[2:])
     elif sys.argv[1] == "same":
         same(int(sys.argv[2]), sys.argv[3], sys.argv[5:])
+    elif sys.argv[1] == "doubles":
+        doubles(sys.argv[2], sys.argv[3], sys.argv[5:])
+    elif sys.argv[1] == "shown":
+        shown(sys.argv[2], sys.argv[3])
     elif sys.argv[1] == "delete":
         delete(sys.argv[2])
     else:

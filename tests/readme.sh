@@ -25,15 +25,21 @@ cd "$work"
 trap 'stop "${running[@]}" $(jobs -p); rm -rf "$work"' EXIT
 # the program that the commands need, up to the next heading
 tool=
-# a port for Prometheus in place of the page's
-metrics=localhost:$(free_ports 1)
-sed -i "s/localhost:9090/$metrics/" "$work/examples/prometheus.yml"
+# ports in place of the page's: of two Prometheus, and of the store's port for them
+read -r scraper viewer remote < <(free_ports 3)
+metrics=localhost:$scraper
+on_ports() {
+  sed -e "s/localhost:9090/$metrics/g" -e "s/localhost:9091/localhost:$viewer/g" \
+    -e "s/127.0.0.1:9201/127.0.0.1:$remote/g" -e "s/--prometheus-port 9201/--prometheus-port $remote/g" "$@"
+}
+on_ports -i "$work"/examples/*.yml
 
 # starts a server as the command says, on a free port, and prints its line with the port of the command
 start() {
-  local written=${1##*--port } command
+  local written command
+  written=${1##*--port }
   written=${written%% *}
-  command=${1/--port $written/--port 0}
+  command=$(on_ports <<<"${1/--port $written/--port 0}")
   : >"$work/told"
   eval "${command%&} >'$work/told' &"
   listens told
@@ -48,10 +54,12 @@ run() {
     return
   fi
   count=$((count + 1))
-  local typed=${1//localhost:9090/$metrics}
+  local typed
+  typed=$(on_ports <<<"$1")
   case $1 in
     *'serve --port'*'&') start "$1"; typed= ;;
-    'prometheus '*) typed=${1/prometheus /prometheus --web.listen-address=$metrics } ;;
+    'prometheus '*--web.listen-address=*) ;;
+    'prometheus '*) typed=${typed/prometheus /prometheus --web.listen-address=$metrics } ;;
     # a reply ends without a line feed
     'curl '*127.0.0.1:8080*) typed="${1//127.0.0.1:8080/$at} -s; echo" ;;
   esac

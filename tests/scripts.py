@@ -38,6 +38,10 @@ BESIDE = [
     ("serving", "querier", "curl awk python3", "tests/serving.sh"),
     ("nginx", "querier", "nginx openssl curl python3", "tests/nginx.sh"),
     ("browser", "querier", "chromium curl python3", "tests/browser.sh"),
+    (
+        "live", "querier", "prometheus promtool vmagent",
+        "tests/live/run.py rules hostile meanings same viewer shared vmagent",
+    ),
     ("scaling", "querier auditor", "rustc", "tests/scaling.py"),
     ("readme", ALL, "curl python3", "tests/readme.sh"),
     ("pages", ALL, "", "tests/pages.py"),
@@ -49,6 +53,7 @@ ALONE = [
         "pages-browser", "explain", "chromium",
         f'{HTML} "$WORK" && tests/pages-browser.py "$WORK" "$WORK"/*.html',
     ),
+    ("live-killed", "querier", "prometheus promtool", "tests/live/run.py silent killed"),
     ("durable", "querier auditor blocktool", "cc", "tests/durable/run.py"),
     ("allocations", "", "cc rt", "tests/allocations.sh"),
 ]

@@ -20,10 +20,11 @@ def up(*samples, **more):
     return Batch([(labels(**more), list(samples))])
 
 
-def due(every, floor, newest):
-    """The last multiple above the floor of which the newest sample is half of the milliseconds later; or
-    None."""
-    at = (2 * newest - every) // (2 * every) * every
+def due(every, floor, newest, after=None):
+    """The last multiple above the floor that lies so many milliseconds, half of the step if it is not said,
+    before the newest sample and before the clock; or None."""
+    after = every - every // 2 if after is None else after
+    at = (min(newest, int(time.time() * 1000)) - after) // every * every
     return at if at > floor else None
 
 
@@ -31,9 +32,9 @@ def newest_of(world):
     return max((t for samples in world.head.values() for t in samples), default=LEAST)
 
 
-def follow(world, every):
+def follow(world, every, after=None):
     """What the server does by itself after an event."""
-    at = due(every, world.floor, newest_of(world))
+    at = due(every, world.floor, newest_of(world), after)
     if at is not None:
         world.apply(Cut(at))
     return at
@@ -138,7 +139,7 @@ def kept(looks, querier, work):
 
 def one_word(looks, querier):
     """Far times, long steps, and the words that are refused."""
-    for every, newest in [(1, 5), (7, -1), (7200000, 10**12), (2**62 - 1, MOST), (1000, -2500), (3, MOST)]:
+    for every, newest in [(1, 5), (7, -1), (7200000, 10**12), (2**62 - 1, MOST), (1000, -2500), (2**40, MOST)]:
         server, world = Server(querier, "--cut-every", str(every)), World()
         server.wait()
         event = up((newest - 1, 1), (newest, 2))
@@ -165,6 +166,34 @@ def one_word(looks, querier):
         looks.at(
             f"--cut-every with {' '.join(words)[:30]}", wanted, (server.wait(), server.end(), server.told)
         )
+
+
+def late(looks, querier):
+    """Samples that are late by --cut-after, and one from tomorrow."""
+    for every, after, newest in [(1000, 5000, 6999), (1000, 0, 6999), (1000, 5000, 5999), (1000, 6000, 6999)]:
+        server, world = Server(querier, "--cut-every", str(every), "--cut-after", str(after)), World()
+        server.wait()
+        event = up((0, 1), (newest, 2))
+        looks.at(f"{after} after {every}: {event.line()}", OK, server.tell(event), tell=False)
+        world.apply(event)
+        at = follow(world, every, after)
+        wait_for(looks, f"{after} after {every}: a sample at {newest}: cut at {at}", server, world)
+        if at is not None:
+            early, exact = up((at - 1, 1), a="b"), up((at, 1), a="b")
+            looks.at(f"{after} after {every}: one before it", refused("E1", 0), server.tell(early))
+            looks.at(f"{after} after {every}: one at it", OK, server.tell(exact))
+        server.end()
+    day = 86_400_000
+    now = int(time.time() * 1000)
+    server, world = Server(querier, "--cut-every", str(30 * day), "--cut-after", str(day)), World()
+    server.wait()
+    event = up((now - 60 * day, 1), (now + 40 * day, 2))
+    looks.at("a sample of the time to come", OK, server.tell(event))
+    world.apply(event)
+    follow(world, 30 * day, day)
+    wait_for(looks, "it cuts nothing that is to come", server, world)
+    looks.at("a sample of now", OK, server.tell(up((now, 1), a="b")))
+    server.end()
 
 
 def refusals(looks, querier, preload, work):
@@ -269,6 +298,7 @@ def cuts(looks, querier, preload, work, block):
     times(looks, querier, (), "in memory")
     kept(looks, querier, work)
     one_word(looks, querier)
+    late(looks, querier)
     refusals(looks, querier, preload, work)
     ends(looks, querier)
     never(looks, querier, block)

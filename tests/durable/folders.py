@@ -5,7 +5,8 @@ import os
 import signal
 
 from house import (
-    NEW, OK, Batch, Cut, Deletion, Server, World, equals, journal, lines_of, read, recovered, run, tree,
+    NEW, NOTHING, OK, Batch, Cut, Deletion, Server, World, contents_of, equals, journal, lines_of, read,
+    recovered, run, tree,
 )
 
 
@@ -120,6 +121,38 @@ def others(folder):
     os.mkdir(folder)
     with open(f"{folder}/notes", "wb") as file:
         file.write(b"mine")
+
+
+# the head of a store of doubles that has nothing: FORMATS.md has its record
+DOUBLES = (b"\x12" + NOTHING[0][1:],)
+
+
+def meanings(looks, querier, work):
+    """A store of doubles stays one when its journal is begun anew, and its blocks say so; one of whole
+    numbers stays as it was. Their numbers are served as they stand."""
+    looks.at(
+        "the record of FORMATS.md",
+        "0000000c" "05248417" "12ffffffffffffffff7f0000" "5b674550",
+        journal([], DOUBLES)[5:].hex(),
+    )
+    for what, head, member in [
+        ("a store of whole numbers", NOTHING, ""),
+        ("a store of doubles", DOUBLES, ',"values":"doubles"'),
+    ]:
+        folder = f"{work}/{what.replace(' ', '-')}"
+        os.mkdir(folder)
+        with open(f"{folder}/journal", "wb") as file:
+            file.write(journal([up((1, 1)).text(), up((5, 2)).text(), Cut(3).text()], head))
+        server = Server(querier, "--data", folder)
+        looks.that(what, server.wait(), server.told)
+        looks.at(f"{what}: its samples", {(("__name__", "up"), ("suite", "durable")): {1: 1, 5: 2}},
+                 server.select()[1])
+        looks.at(f"{what}: a write", OK, server.tell(up((6, 3))))
+        server.end()
+        contents, _ = contents_of(read(f"{folder}/journal"))
+        looks.at(f"{what}: the kinds of its journal", [head[0][0], 17, 1], [content[0] for content in contents])
+        meta = read(f"{folder}/blocks/1/meta.json").decode()
+        looks.that(f"{what}: meta.json", meta.endswith(f'"decimals":0{member}}}\n'), meta)
 
 
 def refused_folders(looks, querier, work, blocks):
@@ -323,6 +356,7 @@ def folders(looks, querier, preload, work, blocks):
     one_server(looks, querier, work)
     at_once(looks, querier, work)
     new_folders(looks, querier, work)
+    meanings(looks, querier, work)
     refused_folders(looks, querier, work, blocks)
     options(looks, querier, work)
     calls(looks, querier, preload, work)
