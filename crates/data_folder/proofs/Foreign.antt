@@ -1,12 +1,13 @@
--- That what stands at the top and is none of the store's stays.
-use Rattle.std.proofs.Common.{◌≡◌, ◌≢◌, ℕ, Bool, true, false, List, Option, refl, sym, subst}
+-- That what is none of the store's stays.
+use Rattle.std.proofs.Common.{◌≡◌, ◌≢◌, ℕ, Bool, true, false, List, Option, refl}
 use Rattle.std.specs.Prelude.{◌&&◌, not}
 use Rattle.std.specs.Str.{bytes_eq}
 use Rattle.std.proofs.lemmas.Slice.Eq.{bytes_eq-Decides}
-use Rattle.data_folder.specs.Folders.{KeepsAll, KeepsOthers, Left, Untouched}
+use Rattle.data_folder.specs.Folders.{KeepsAll, KeepsOthers, Left}
 use Rattle.data_folder.specs.JournalFile.{journal_name, next_name}
 use Rattle.data_folder.specs.JournalLaws.{StaysBeside}
-use Rattle.data_folder.specs.Sweeping.{KeepsForeign, KeepsStore, has_slash, is_foreign, is_top}
+use Rattle.data_folder.specs.Sweeping.{KeepsForeign, KeepsStore, is_foreign, is_lasting}
+use Rattle.data_folder.specs.Sweeping.{is_of_block}
 
 and_left : (a b : Bool) → (a && b) ≡ true → a ≡ true
 and_left true b h = refl
@@ -20,20 +21,20 @@ not_both : {A : Type 0} (b : Bool) → b ≡ true → not b ≡ true → A
 not_both true t f = absurd cc
 not_both false t f = absurd cc
 
--- a foreign name stands at the top, and is not the journal's nor that of the one in the making
+-- a foreign name is lasting, and is not the journal's nor that of the one in the making
 
-pub at_top : (name : List ℕ) → is_foreign name ≡ true → is_top name ≡ true
-at_top name h = and_left (is_top name) (not (bytes_eq name journal_name)) h
+pub lasts : (name : List ℕ) → is_foreign name ≡ true → is_lasting name ≡ true
+lasts name h = and_left (is_lasting name) (not (bytes_eq name journal_name)) h
 
 pub not_journal : (name : List ℕ) → is_foreign name ≡ true → name ≢ journal_name
 not_journal name h is =
     not_both (bytes_eq name journal_name) ((bytes_eq-Decides name journal_name).1 is)
-    (and_right (is_top name) (not (bytes_eq name journal_name)) h)
+    (and_right (is_lasting name) (not (bytes_eq name journal_name)) h)
 
 pub not_next : (name : List ℕ) → is_foreign name ≡ true → name ≢ next_name
 not_next name h is =
     not_both (bytes_eq name next_name) ((bytes_eq-Decides name next_name).1 is)
-    (and_right (not (has_slash name)) (not (bytes_eq name next_name)) (at_top name h))
+    (and_right (not (is_of_block name)) (not (bytes_eq name next_name)) (lasts name h))
 
 module _ {F : Type 0} (shows : F → List ℕ → Option (List ℕ) → Type 0)
     (kept : F → List ℕ → ℕ → Type 0) where
@@ -75,8 +76,8 @@ module _ {F : Type 0} (shows : F → List ℕ → Option (List ℕ) → Type 0)
   pub foreign_kept : (names : List (List ℕ)) (old new : F)
       → KeepsStore shows kept sound moment left_since names old new → KeepsForeign shows kept old new
   foreign_kept names old new k = record {
-    same = λ name x own shown. k.top name x (at_top name own) shown;
-    durable = λ name n own durable. k.top_durable name n (at_top name own) durable;
+    same = λ name x own shown. k.lasting name x (lasts name own) shown;
+    durable = λ name n own durable. k.durable name n (lasts name own) durable;
   }
 
 module _ {F : Type 0} (shows : F → List ℕ → Option (List ℕ) → Type 0)

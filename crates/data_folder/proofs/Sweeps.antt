@@ -1,18 +1,17 @@
 -- What a sweep leaves.
 use Rattle.std.proofs.Common.{◌≡◌, ◌≢◌, ℕ, Bool, true, false, List, [], ◌∷◌, ◌++◌}
-use Rattle.std.proofs.Common.{Option, Some, length, refl, sym, subst, ap, ◌∙◌}
+use Rattle.std.proofs.Common.{Option, Some, length, refl, subst, ap, ◌∙◌}
 use Rattle.std.proofs.Common.{◌⊎◌, inl, inr, ⊎_elim}
 use Rattle.std.specs.Prelude.{◌||◌}
 use Rattle.std.specs.Str.{bytes_eq}
 use Rattle.std.proofs.lemmas.List.Folds.{list_any-append}
-use Rattle.std.proofs.lemmas.Slice.Eq.{bytes_eq-Decides}
 use Rattle.journal.specs.Records.{file_of}
 use Rattle.data_folder.specs.Folders.{Elapses, KeepsAll, KeepsOthers, Left, LeavesAll}
 use Rattle.data_folder.specs.Folders.{HasFile, LeavesOnly, LeavesOthers, MayLeaveOf}
 use Rattle.data_folder.specs.JournalFile.{journal_name}
 use Rattle.data_folder.specs.Rolls.{Keeps}
 use Rattle.data_folder.specs.States.{AreThere, HasFiles, HasStore, Named}
-use Rattle.data_folder.specs.Sweeping.{AreAmong, AreKept, KeepsStore, is_among, is_kept, is_top}
+use Rattle.data_folder.specs.Sweeping.{AreAmong, AreKept, KeepsStore, is_among, is_kept, is_lasting}
 use Rattle.data_folder.proofs.Moments.{goes_on, joined, started}
 use Rattle.data_folder.proofs.Rolls.{journal_whole, whole_left}
 
@@ -45,12 +44,12 @@ not_journal names name apart = not_kept names name journal_name apart refl
 not_file : (names : List (List ℕ)) (name : List ℕ) (file : Named)
     → is_kept names name ≡ false → is_among names file.0 ≡ true → file.0 ≢ name
 not_file names name file apart among =
-    not_kept names name file.0 apart (or_two (is_top file.0) (is_among names file.0) among)
+    not_kept names name file.0 apart (or_two (is_lasting file.0) (is_among names file.0) among)
 
-not_top : (names : List (List ℕ)) (name other : List ℕ) → is_kept names name ≡ false
-    → is_top other ≡ true → other ≢ name
-not_top names name other apart top =
-    not_kept names name other apart (or_one (is_top other) (is_among names other) top)
+not_lasting : (names : List (List ℕ)) (name other : List ℕ) → is_kept names name ≡ false
+    → is_lasting other ≡ true → other ≢ name
+not_lasting names name other apart lasts =
+    not_kept names name other apart (or_one (is_lasting other) (is_among names other) lasts)
 
 -- a name among these is among more of them
 
@@ -76,7 +75,7 @@ kept_more : (names more : List (List ℕ)) (files : List Named) → AreKept name
     → AreKept (names ++ more) files
 kept_more names more [] k = tt
 kept_more names more (file ∷ files) k = (
-  or_either (is_top file.0) (is_among names file.0) (is_among (names ++ more) file.0)
+  or_either (is_lasting file.0) (is_among names file.0) (is_among (names ++ more) file.0)
       (one_more names more file.0) k.0,
   kept_more names more files k.1,
 )
@@ -173,8 +172,8 @@ module _ {F : Type 0} (shows : F → List ℕ → Option (List ℕ) → Type 0)
     journal = λ contents len h. h;
     files = λ files among there. there;
     any_moment = λ contents files len h among there. at_rest f contents files len h there;
-    top = λ name x top shown. shown;
-    top_durable = λ name n top durable. durable;
+    lasting = λ name x lasts shown. shown;
+    durable = λ name n lasts durable. durable;
     left = λ files k there. files_rest f files there;
   }
 
@@ -200,10 +199,10 @@ module _ {F : Type 0} (shows : F → List ℕ → Option (List ℕ) → Type 0)
                   (l.others journal_name (Some (file_of contents)) (length (file_of contents)) away
                   away h.file.shown h.file.durable));
             });
-        top = λ other x top shown.
-            let far = not_top names name other apart top in k.same other x far far shown;
-        top_durable = λ other n top durable.
-            let far = not_top names name other apart top in k.durable other n far far durable;
+        lasting = λ other x lasts shown.
+            let far = not_lasting names name other apart lasts in k.same other x far far shown;
+        durable = λ other n lasts durable.
+            let far = not_lasting names name other apart lasts in k.durable other n far far durable;
         left = λ files among there.
             goes_on moment left_since old old new (HasFiles files)
             (LeavesOthers shows kept name name old P) (files_rest old files there) time
@@ -257,8 +256,8 @@ module _ {F : Type 0} (shows : F → List ℕ → Option (List ℕ) → Type 0)
               (l journal_name (Some (file_of contents)) (length (file_of contents)) h.file.shown
               h.file.durable));
         });
-    top = λ name x top shown. k.same name x shown;
-    top_durable = λ name n top durable. k.durable name n durable;
+    lasting = λ name x lasts shown. k.same name x shown;
+    durable = λ name n lasts durable. k.durable name n durable;
     left = λ files among there.
         goes_on moment left_since old old new (HasFiles files) (LeavesAll shows kept old)
         (files_rest old files there) time (λ left l. all_left files old left l there);
@@ -273,8 +272,8 @@ module _ {F : Type 0} (shows : F → List ℕ → Option (List ℕ) → Type 0)
     files = λ files among there. k.files files (among_more names more files among) there;
     any_moment = λ contents files len h among there.
         k.any_moment contents files len h (among_more names more files among) there;
-    top = k.top;
-    top_durable = k.top_durable;
+    lasting = k.lasting;
+    durable = k.durable;
     left = λ files among there. k.left files (kept_more names more files among) there;
   }
 
@@ -283,12 +282,12 @@ module _ {F : Type 0} (shows : F → List ℕ → Option (List ℕ) → Type 0)
       → is_kept names file.0 ≡ true → HasFile shows kept file.0 file.1 old
       → HasFile shows kept file.0 file.1 new
   one_there names old new file k among has =
-      ⊎_elim (λ top. record {
-        shown = k.top file.0 (Some file.1) top has.shown;
-        durable = k.top_durable file.0 (length file.1) top has.durable;
+      ⊎_elim (λ lasts. record {
+        shown = k.lasting file.0 (Some file.1) lasts has.shown;
+        durable = k.durable file.0 (length file.1) lasts has.durable;
       })
       (λ own. (k.files (file ∷ []) (own, tt) (has, tt)).0)
-      (or_cases (is_top file.0) (is_among names file.0) among)
+      (or_cases (is_lasting file.0) (is_among names file.0) among)
 
   kept_there : (names : List (List ℕ)) (old new : F)
       → KeepsStore shows kept sound moment left_since names old new → (files : List Named)
@@ -312,9 +311,9 @@ module _ {F : Type 0} (shows : F → List ℕ → Option (List ℕ) → Type 0)
         (first.any_moment contents files len h among there)
         (second.any_moment contents files len (first.journal contents len h) among
         (first.files files among there));
-    top = λ name x top shown. second.top name x top (first.top name x top shown);
-    top_durable = λ name n top durable.
-        second.top_durable name n top (first.top_durable name n top durable);
+    lasting = λ name x lasts shown. second.lasting name x lasts (first.lasting name x lasts shown);
+    durable = λ name n lasts durable.
+        second.durable name n lasts (first.durable name n lasts durable);
     left = λ files among there.
         joined moment left_since old mid new (HasFiles files) (first.left files among there)
         (second.left files among (kept_there names old mid first files among there));

@@ -1,6 +1,8 @@
 -- Which files a sweep leaves.
-use Rattle.std.specs.Prelude.{◌≡◌, ◌==◌, ◌&&◌, ◌||◌, ℕ, Bool, true, not, List, Option, map}
-use Rattle.std.specs.Prelude.{string_bytes}
+use Rattle.std.specs.Prelude.{◌≡◌, ◌&&◌, ◌||◌, ℕ, Bool, true, false, not, List, [], ◌∷◌, Option}
+use Rattle.std.specs.Prelude.{None, Some, codes, drop, if◌then◌else◌, length, map, string_bytes}
+use Rattle.std.specs.Prelude.{take}
+use Rattle.std.specs.Char.{is_ascii_digit}
 use Rattle.std.specs.declared.alloc.Global.{Global}
 use Rattle.std.specs.declared.string.String.{String}
 use Rattle.std.specs.List.{AllByRecursion, list_any}
@@ -18,24 +20,47 @@ names_in names = map (λ (name : String Global). string_bytes name) names
 abbrev pub is_among : List (List ℕ) → List ℕ → Bool
 is_among names name = list_any (λ (other : List ℕ). bytes_eq other name) names
 
--- whether a name has a slash: then it stands in a folder of this one
-abbrev pub has_slash : List ℕ → Bool
-has_slash name = list_any (λ (byte : ℕ). byte == 47) name
+-- what follows a text that a name begins with
+abbrev pub after : List ℕ → List ℕ → Option (List ℕ)
+after front name =
+    if bytes_eq (take (length front) name) front then Some (drop (length front) name) else None
 
--- whether a name stands at the top of the folder, as the journal does, and is not that of the
--- journal in the making
-abbrev pub is_top : List ℕ → Bool
-is_top name = not (has_slash name) && not (bytes_eq name next_name)
+-- what follows digits
+abbrev pub after_digits : List ℕ → List ℕ
+after_digits [] = []
+after_digits (byte ∷ bytes) = if is_ascii_digit byte then after_digits bytes else byte ∷ bytes
 
--- whether a name stands at the top, or is one of these
+-- whether this follows the number of a block in the name of its folder, of a file of it, or of the
+-- folder of its chunks
+abbrev pub ends_block : List ℕ → Bool
+ends_block rest =
+    bytes_eq rest (codes "") || bytes_eq rest (codes "/meta.json")
+    || bytes_eq rest (codes "/index") || bytes_eq rest (codes "/chunks")
+    || bytes_eq rest (codes "/chunks/000001") || bytes_eq rest (codes "/tombstones")
+
+-- whether there is something behind `blocks/`, and it is the number of a block and such an end
+abbrev pub is_block_path : Option (List ℕ) → Bool
+is_block_path None = false
+is_block_path (Some path) = ends_block (after_digits path)
+
+-- whether a name is that of a file of a block, or of a folder of one, as `blocks/7/index`
+abbrev pub is_of_block : List ℕ → Bool
+is_of_block name = is_block_path (after (codes "blocks/") name)
+
+-- whether a name is neither of a block nor that of the journal in the making: what stands under it,
+-- as the journal, is never written or removed beside a store
+abbrev pub is_lasting : List ℕ → Bool
+is_lasting name = not (is_of_block name) && not (bytes_eq name next_name)
+
+-- whether a name is lasting, or is one of these
 abbrev pub is_kept : List (List ℕ) → List ℕ → Bool
-is_kept names name = is_top name || is_among names name
+is_kept names name = is_lasting name || is_among names name
 
--- whether a name stands at the top and is none of the store's, as `lock`
+-- whether a name is none of the store's, as `lock`, or `blocks/notes`
 abbrev pub is_foreign : List ℕ → Bool
-is_foreign name = is_top name && not (bytes_eq name journal_name)
+is_foreign name = is_lasting name && not (bytes_eq name journal_name)
 
--- what stands at the top and is none of the store's has what it had, as much of it for good
+-- what is none of the store's has what it had, as much of it for good
 pub record KeepsForeign {F : Type 0} (shows : F → List ℕ → Option (List ℕ) → Type 0)
     (kept : F → List ℕ → ℕ → Type 0) (old new : F) : Type 0 where
   pub same : (name : List ℕ) (x : Option (List ℕ)) → is_foreign name ≡ true → shows old name x
@@ -47,11 +72,11 @@ pub record KeepsForeign {F : Type 0} (shows : F → List ℕ → Option (List �
 abbrev pub AreAmong : List (List ℕ) → List Named → Type 0
 AreAmong names files = AllByRecursion (λ (file : Named). is_among names file.0 ≡ true) files
 
--- the files stand at the top, or have names among these
+-- the files have lasting names, or names among these
 abbrev pub AreKept : List (List ℕ) → List Named → Type 0
 AreKept names files = AllByRecursion (λ (file : Named). is_kept names file.0 ≡ true) files
 
--- A journal and the files of these names stay, and so does all that stands at the top, also a
+-- A journal and the files of these names stay, and so does all that has a lasting name, also a
 -- journal whose end is torn. A crash at any moment since old leaves them.
 pub record KeepsStore {F : Type 0} (shows : F → List ℕ → Option (List ℕ) → Type 0)
     (kept : F → List ℕ → ℕ → Type 0) (sound : F → Bool) (moment : F → ℕ)
@@ -64,9 +89,9 @@ pub record KeepsStore {F : Type 0} (shows : F → List ℕ → Option (List ℕ)
       → Keeps shows kept sound contents old len → AreAmong names files
       → AreThere shows kept files old
       → LeavesOnly moment left_since old new (HasStore files contents)
-  pub top : (name : List ℕ) (x : Option (List ℕ)) → is_top name ≡ true → shows old name x
+  pub lasting : (name : List ℕ) (x : Option (List ℕ)) → is_lasting name ≡ true → shows old name x
       → shows new name x
-  pub top_durable : (name : List ℕ) (n : ℕ) → is_top name ≡ true → kept old name n
+  pub durable : (name : List ℕ) (n : ℕ) → is_lasting name ≡ true → kept old name n
       → kept new name n
   pub left : (files : List Named) → AreKept names files → AreThere shows kept files old
       → LeavesOnly moment left_since old new (HasFiles files)

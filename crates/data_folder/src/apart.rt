@@ -12,8 +12,8 @@ use std::alloc::Global;
 /// Why a file is not written beside a store.
 #[derive(Clone, Copy, Debug, PartialEq, Eq, Drop)]
 pub enum ApartError {
-    /// The name stands at the top of the folder, as the journal does, or is that of a file to be
-    /// kept. Nothing was changed.
+    /// The name is no block's, as the journal's, or is that of a file to be kept. Nothing was
+    /// changed.
     Kept,
     /// No memory is left.
     Memory,
@@ -21,12 +21,11 @@ pub enum ApartError {
     Medium,
 }
 
-/// Writes a file beside what stands at the top of the folder and the files to be kept, and keeps it
-/// from then on: its name is then the last of theirs. A name at the top, as the journal's, or one
-/// of theirs is refused.
+/// Writes a file of a block beside the files to be kept, and keeps it from then on: its name is then
+/// the last of theirs. A name of theirs, or that is no block's, as the journal's, is refused.
 ///
-/// So after any number of such calls the journal, all else at the top and all files that were to be
-/// kept are as they were, and each file that was written is whole; a crash at any moment leaves
+/// So after any number of such calls the journal, all that is no block's and all files that were to
+/// be kept are as they were, and each file that was written is whole; a crash at any moment leaves
 /// them so. After an `Err` nothing is known of this name, unless it was refused.
 pub fn write_apart<F: Folder>(
     alloc: Global,
@@ -40,14 +39,14 @@ pub fn write_apart<F: Folder>(
     ensures kept { OnOk result (names_in kept.new.items
         ≡ names_in kept.old.items ++ name.now ∷ []) }
     ensures err { OnErr result (kept.new.items ≡ kept.old.items) }
-    // A name is refused exactly where it stands at the top or is one of those to be kept.
+    // A name is refused exactly where it is no block's or is one of those to be kept.
     ensures refused { IsErrOf result ApartError.Kept
         → (is_kept (names_in kept.old.items) name.now ≡ true) × (folder.new ≡ folder.old) }
     ensures taken { is_kept (names_in kept.old.items) name.now ≡ true
         → result ≡ Err ApartError.Kept }
     ensures failed { IsErrOf result ApartError.Medium → F.failed folder.new ≡ true }
     ensures sound { F.sound folder.new ≡ true }
-    // What stands at the top and the files to be kept stay, whatever the answer, also in a crash.
+    // All that is no block's and the files to be kept stay, whatever the answer, also in a crash.
     ensures stays { KeepsStore F.shows F.kept F.sound F.moment F.left_since
         (names_in kept.old.items) folder.old folder.new }
 {

@@ -1,8 +1,8 @@
 //! Files that no journal names.
 
-ghost use Rattle.std.specs.Prelude.{◌≡◌, ◌≤◌, true};
-ghost use Rattle.data_folder.specs.Sweeping.{KeepsStore, has_slash, is_among, is_kept, is_top};
-ghost use Rattle.data_folder.specs.Sweeping.{names_in};
+ghost use Rattle.std.specs.Prelude.{◌≡◌, ◌≤◌, codes, option_map, true};
+ghost use Rattle.data_folder.specs.Sweeping.{KeepsStore, after, after_digits, ends_block, is_among};
+ghost use Rattle.data_folder.specs.Sweeping.{is_kept, is_lasting, is_of_block, names_in};
 
 use crate::folder::Folder;
 use crate::rolling::NEXT;
@@ -18,33 +18,65 @@ fn is_among(names: &[String], name: &str) -> bool
     false
 }
 
-fn has_slash(name: &str) -> bool
-    ensures { result ≡ has_slash name.now }
+/// What follows digits.
+fn after_digits(text: &[u8]) -> &[u8]
+    ensures { result.now ≡ after_digits text.now }
 {
-    for byte in name.as_bytes() {
-        if *byte == b'/' {
-            return true;
+    let mut rest = text;
+    while let Some((byte, after)) = rest.split_first() {
+        if !byte.is_ascii_digit() {
+            return rest;
         }
+        rest = after;
     }
-    false
+    rest
 }
 
-/// Whether a name stands at the top of the folder, and is not that of the journal in the making.
-fn is_top(name: &str) -> bool
-    ensures { result ≡ is_top name.now }
+/// Whether this follows the number of a block in the name of its folder, of a file of it, or of the
+/// folder of its chunks.
+fn ends_block(rest: &[u8]) -> bool
+    ensures { result ≡ ends_block rest.now }
 {
-    !has_slash(name) && name != NEXT
+    rest == b"".as_slice()
+        || rest == b"/meta.json".as_slice()
+        || rest == b"/index".as_slice()
+        || rest == b"/chunks".as_slice()
+        || rest == b"/chunks/000001".as_slice()
+        || rest == b"/tombstones".as_slice()
 }
 
-/// Whether a name stands at the top of the folder, or is one of these.
+fn after_blocks(name: &[u8]) -> Option<&[u8]>
+    ensures { option_map (λ path. path.now) result ≡ after (codes "blocks/") name.now }
+{
+    name.strip_prefix(b"blocks/")
+}
+
+/// Whether a name is that of a file of a block, or of a folder of one.
+fn is_of_block(name: &str) -> bool
+    ensures { result ≡ is_of_block name.now }
+{
+    match after_blocks(name.as_bytes()) {
+        Some(path) => ends_block(after_digits(path)),
+        None => false,
+    }
+}
+
+/// Whether a name is neither of a block nor that of the journal in the making.
+fn is_lasting(name: &str) -> bool
+    ensures { result ≡ is_lasting name.now }
+{
+    !is_of_block(name) && name != NEXT
+}
+
+/// Whether a name is lasting, or is one of these.
 pub(crate) fn is_kept(names: &[String], name: &str) -> bool
     ensures { result ≡ is_kept (names_in names.now) name.now }
 {
-    is_top(name) || is_among(names, name)
+    is_lasting(name) || is_among(names, name)
 }
 
-/// Removes a file, unless it stands at the top or is one of those to be kept. How many could not be
-/// removed.
+/// Removes what has a name, unless it is lasting or is one of those to be kept. How many could not
+/// be removed.
 fn remove_litter<F: Folder>(folder: &mut F, name: &str, kept: &[String]) -> usize
     requires { F.sound folder.old ≡ true }
     ensures few { result ≤ 1 }
@@ -61,8 +93,8 @@ fn remove_litter<F: Folder>(folder: &mut F, name: &str, kept: &[String]) -> usiz
     }
 }
 
-/// Removes the files of these names that are not among those to be kept, and never what stands at
-/// the top of the folder, as the journal, but for the journal in the making. How many of them could
+/// Removes, of these names, files of blocks that are not among those to be kept, folders of blocks
+/// in which nothing stands, and the journal in the making. No other name is touched. How many could
 /// not be removed.
 ///
 /// The files to be kept are those that the head of the journal names, so whatever else stands in

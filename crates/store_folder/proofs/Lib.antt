@@ -3,12 +3,14 @@ pub mod Faults
 pub mod Files
 pub mod Fronts
 pub mod Kept
+pub mod Numbers
 pub mod OpenedBlocks
 pub mod Openings
 pub mod Plains
 pub mod Refusals
 pub mod Rolls
 pub mod Saves
+pub mod Says
 pub mod Starts
 pub mod Swept
 pub mod Told

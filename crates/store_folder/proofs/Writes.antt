@@ -8,7 +8,7 @@ use Rattle.std.proofs.lemmas.List.{map-append}
 use Rattle.std.proofs.lemmas.List.Folds.{list_any-append}
 use Rattle.std.proofs.lemmas.Slice.Eq.{bytes_eq-Decides}
 use Rattle.data_folder.specs.Folders.{HasFile, Left, MayLeaveOf}
-use Rattle.data_folder.specs.States.{Named}
+use Rattle.data_folder.specs.States.{AreThere, Named}
 use Rattle.data_folder.specs.Sweeping.{AreAmong, KeepsStore, is_among}
 use Rattle.data_folder.proofs.Sweeps.{of_fewer, then_kept}
 use Rattle.head.specs.Heads.{BlockPart}
@@ -72,6 +72,28 @@ module _ {F : Type 0} (shows : F → List ℕ → Option (List ℕ) → Type 0)
   at_joined (p ∷ ps) qs [] cs f first second = absurd first
   at_joined (p ∷ ps) qs (b ∷ bs) cs f first second =
       (first.0, at_joined ps qs bs cs f first.1 second)
+
+  -- what the meta.json of blocks says stays, if their files do
+  pub says_still : (values : Values) (before : List (List ℕ)) (places : List Place) (f g : F)
+      → ((files : List Named) → AreAmong (before ++ names_at places) files
+      → AreThere shows kept files f → AreThere shows kept files g)
+      → EachSays shows kept values places f → EachSays shows kept values places g
+  says_still values before [] f g still says = tt
+  says_still values before (p ∷ places) f g still says =
+      let name = name_in p.0 (codes "meta.json") in
+      let rest : List (List ℕ) =
+      name_in p.0 (codes "index") ∷ name_in p.0 (codes "chunks/000001")
+      ∷ name_in p.0 (codes "tombstones") ∷ names_at places in
+      let file : Named = (name, says.0.0) in
+      let among : AreAmong (before ++ (name ∷ rest)) (file ∷ []) =
+      (among_last before (name ∷ rest) name (itself name rest), tt) in
+      let there = still (file ∷ []) among (says.0.1, tt) in (
+        (says.0.0, there.0, says.0.2),
+        says_still values (before ++ names_of p) places f g
+            (subst (λ (names : List (List ℕ)). (files : List Named) → AreAmong names files
+            → AreThere shows kept files f → AreThere shows kept files g)
+            (sym (append_assoc before (names_of p) (names_at places))) still) says.1,
+      )
 
 module _ {F : Type 0} (shows : F → List ℕ → Option (List ℕ) → Type 0)
     (kept : F → List ℕ → ℕ → Type 0) (sound : F → Bool) (moment : F → ℕ)
@@ -152,28 +174,7 @@ module _ {F : Type 0} (shows : F → List ℕ → Option (List ℕ) → Type 0)
       (wrote_same third.0 chunks files.chunks m o c d q three)
       (wrote_same fourth.0 tombstones files.tombstones o p d e r four)))
 
-  -- what the meta.json of blocks says stays, if their names are kept
-
-  says_stay : (values : Values) (before : List (List ℕ)) (places : List Place) (f g : F)
-      → Stays (before ++ names_at places) f g → EachSays shows kept values places f
-      → EachSays shows kept values places g
-  says_stay values before [] f g stays says = tt
-  says_stay values before (p ∷ places) f g stays says =
-      let name = name_in p.0 (codes "meta.json") in
-      let rest : List (List ℕ) =
-      name_in p.0 (codes "index") ∷ name_in p.0 (codes "chunks/000001")
-      ∷ name_in p.0 (codes "tombstones") ∷ names_at places in
-      let file : Named = (name, says.0.0) in
-      let among : AreAmong (before ++ (name ∷ rest)) (file ∷ []) =
-      (among_last before (name ∷ rest) name (itself name rest), tt) in
-      let still = stays.files (file ∷ []) among (says.0.1, tt) in (
-        (says.0.0, still.0, says.0.2),
-        says_stay values (before ++ names_of p) places f g
-            (subst (λ (names : List (List ℕ)). Stays names f g)
-            (sym (append_assoc before (names_of p) (names_at places))) stays) says.1,
-      )
-
-  -- so it is with one block more
+  -- what the meta.json of blocks says stays, if their names are kept; so it is with one block more
   pub says_more : (values : Values) (before names : List (List ℕ)) (places next : List Place)
       (p : Place) (f g : F) → names ≡ before ++ names_at places → Stays names f g
       → next ≡ places ++ p ∷ [] → EachSays shows kept values places f
@@ -181,8 +182,8 @@ module _ {F : Type 0} (shows : F → List ℕ → Option (List ℕ) → Type 0)
   says_more values before names places next p f g is stays more says one =
       subst (λ (ps : List Place). EachSays shows kept values ps g) (sym more)
       (joined (λ (q : Place). Says shows kept values g q) places (p ∷ [])
-      (says_stay values before places f g
-      (subst (λ (ns : List (List ℕ)). Stays ns f g) is stays) says) (one, tt))
+      (says_still shows kept values before places f g
+      (subst (λ (ns : List (List ℕ)). Stays ns f g) is stays).files says) (one, tt))
 
   -- blocks stay, whose names are kept
   pub at_stays : (places : List Place) (parts : List BlockPart) (names : List (List ℕ)) (f g : F)

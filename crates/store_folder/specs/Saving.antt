@@ -1,5 +1,6 @@
 -- When a snapshot is saved in the place of the events that made it.
-use Rattle.std.specs.Prelude.{◌≡◌, ◌≤◌, ℕ, Bool, List, Option, Ok, length, take}
+use Rattle.std.specs.Prelude.{◌≡◌, ◌<◌, ◌≤◌, ◌⊎◌, ℕ, Bool, List, Option, Ok, length, take}
+use Rattle.std.specs.List.{AllByRecursion}
 use Rattle.data_folder.specs.declared.journal_file.JournalFile.{JournalFile}
 use Rattle.data_folder.specs.Folders.{Left}
 use Rattle.head.specs.Heads.{BlockPart, SnapshotParts, world_of}
@@ -20,3 +21,12 @@ pub record MaySave {F : Type 0} (shows : F → List ℕ → Option (List ℕ) �
   pub world : replayed first.world events ≡ Ok (world_of s)
   pub few : same ≤ length held
   pub front : AreLike (take same s.blocks) (take same parts)
+
+-- the number is above those of the folders of these places, unless there is none above it
+abbrev pub IsAbove : ℕ → List Place → Type 0
+IsAbove n places =
+    AllByRecursion (λ (p : Place). (p.0 < n) ⊎ (18446744073709551615 ≤ n)) places
+
+-- the folders of these places have lower numbers
+abbrev pub AreBelow : ℕ → List Place → Type 0
+AreBelow n places = AllByRecursion (λ (p : Place). p.0 < n) places

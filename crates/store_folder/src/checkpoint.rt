@@ -1,6 +1,6 @@
 //! A store that saves its snapshot in the place of the events that made it.
 
-ghost use Rattle.std.specs.Prelude.{◌≡◌, ◌≤◌, ◌⊎◌, List, Ok, [], false, true, length, map, take};
+ghost use Rattle.std.specs.Prelude.{◌≡◌, ◌≤◌, ◌⊎◌, ℕ, List, Ok, [], false, true, length, map, take};
 ghost use Rattle.std.specs.Prelude.{Err, IfErr, IfOk, OnOk};
 ghost use Rattle.data_folder.specs.Sweeping.{KeepsForeign};
 ghost use Rattle.event_journal.specs.Holding.{contents_with};
@@ -11,7 +11,9 @@ ghost use Rattle.head_record.specs.Saved.{save};
 ghost use Rattle.head_record.specs.Spelling.{head_texts};
 ghost use Rattle.journal.specs.Records.{file_of};
 ghost use Rattle.store_folder.specs.Holding.{HoldsOrLost};
+ghost use Rattle.store_folder.specs.Saving.{AreBelow, IsAbove};
 ghost use Rattle.store_folder.specs.Starting.{StartFinds};
+ghost use Rattle.store_folder.specs.Writing.{EachSays};
 
 use crate::error::{RollFault, WriteFault};
 use crate::keeping::StoreKeeper;
@@ -24,8 +26,13 @@ use journal::JournalError;
 use keeper::KeepError;
 use std::alloc::{AllocError, Global};
 
-/// A number above those of the folders of these places.
-pub fn next_number(places: &[BlockPlace]) -> u64 {
+/// The least number from 1 on that is above those of the folders of these places; the greatest
+/// number if none is.
+pub fn next_number(places: &[BlockPlace]) -> u64
+    ensures some { 1 ≤ result }
+    ensures above { IsAbove result places.now }
+    ensures least { (n : ℕ) → 1 ≤ n → AreBelow n places.now → result ≤ n }
+{
     let mut next = 1u64;
     for place in places {
         next = next.max(place.folder().saturating_add(1));
@@ -122,8 +129,13 @@ impl<N: Beginning, F: Folder + Drop> StoreKeeper<N, F> {
         ensures closed { self.old.store.events.journal.closed ≡ true
             → (result ≡ Err (RollFault.Folder RollError.Closed)) × (self.new ≡ self.old) }
         ensures terms { self.new.terms.most ≡ self.old.terms.most }
-        // What stands at the top and is none of the store's stays.
+        // What is none of the store's stays.
         ensures foreign { KeepsForeign F.shows F.kept self.old.store.events.journal.medium.folder
+            self.new.store.events.journal.medium.folder }
+        // Once the `meta.json` of each block says what the values mean, it does so from then on.
+        ensures says { EachSays F.shows F.kept N.first.values self.old.places.items
+            self.old.store.events.journal.medium.folder
+            → EachSays F.shows F.kept N.first.values self.new.places.items
             self.new.store.events.journal.medium.folder }
     {
         if self.store.events.journal.closed {

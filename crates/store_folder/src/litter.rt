@@ -119,8 +119,11 @@ impl<N: Beginning, F: Folder + Drop> StoreJournal<N, F> {
             self.old.events.journal.closed events places.now parts
             → StartFinds F.moment F.left_since self.old.events.journal.medium.folder
             self.new.events.journal.medium.folder N.first events }
-        // What stands at the top and is none of the store's stays.
+        // What is none of the store's stays, and so do the files of the blocks at these places.
         ensures foreign { KeepsForeign F.shows F.kept self.old.events.journal.medium.folder
+            self.new.events.journal.medium.folder }
+        ensures kept { KeepsStore F.shows F.kept F.sound F.moment F.left_since
+            (names_at places.now) self.old.events.journal.medium.folder
             self.new.events.journal.medium.folder }
     {
         sweep_apart(alloc, &mut self.events.journal.medium.folder, places)
@@ -167,6 +170,9 @@ impl<N: Beginning, F: Folder + Drop> StoreJournal<N, F> {
             N.first events }
         ensures foreign { KeepsForeign F.shows F.kept self.old.events.journal.medium.folder
             self.new.events.journal.medium.folder }
+        ensures blocks { (files : List Named) → AreAmong (names_at places.now) files
+            → AreThere F.shows F.kept files self.old.events.journal.medium.folder
+            → AreThere F.shows F.kept files self.new.events.journal.medium.folder }
     {
         if self.events.journal.closed {
             return;
@@ -175,9 +181,10 @@ impl<N: Beginning, F: Folder + Drop> StoreJournal<N, F> {
     }
 }
 
-ghost use Rattle.std.specs.Prelude.{IfOk, true};
+ghost use Rattle.std.specs.Prelude.{IfOk, OnErr, true};
 ghost use Rattle.data_folder.specs.Folders.{Untouched};
-ghost use Rattle.data_folder.specs.Sweeping.{KeepsStore, names_in};
+ghost use Rattle.data_folder.specs.States.{AreThere, Named};
+ghost use Rattle.data_folder.specs.Sweeping.{AreAmong, KeepsStore, names_in};
 ghost use Rattle.store_folder.specs.Sweeps.{ListsNumber, has_number, is_number, names_at};
 
 /// Whether something lies in a folder under a name that a block of a store has: whether one of the
@@ -185,6 +192,7 @@ ghost use Rattle.store_folder.specs.Sweeps.{ListsNumber, has_number, is_number, 
 pub fn has_blocks<F: Folder>(alloc: Global, folder: &mut F) -> Result<bool, BlockFault>
     requires { F.sound folder.old ≡ true }
     ensures told { IfOk result (ListsNumber F.lists folder.new) }
+    ensures failed { OnErr result (F.failed folder.new ≡ true) }
     ensures sound { F.sound folder.new ≡ true }
     ensures untouched { Untouched F.shows F.kept F.moment F.left_since
         folder.old folder.new }
@@ -196,8 +204,8 @@ pub fn has_blocks<F: Folder>(alloc: Global, folder: &mut F) -> Result<bool, Bloc
 }
 
 /// Removes what [`StoreJournal::sweep_blocks`] does from a folder of which no journal is open. All
-/// that stands at the top stays, as the journal, also one whose end is torn, but for a next
-/// journal; and so do the files of blocks at these places.
+/// that is no block's stays, as the journal, also one whose end is torn, but for a next journal; and
+/// so do the files of blocks at these places.
 pub fn sweep_apart<F: Folder>(
     alloc: Global,
     folder: &mut F,

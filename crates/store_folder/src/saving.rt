@@ -2,7 +2,8 @@
 
 ghost use Rattle.std.specs.Prelude.{◌≡◌, ◌⊎◌, ◌≤◌, ◌-◌, ◌++◌, List, Err, false, true, drop, length};
 ghost use Rattle.std.specs.Prelude.{[], IfErr, IfOk, OnErr, OnOk, take};
-ghost use Rattle.data_folder.specs.Sweeping.{KeepsForeign, KeepsStore};
+ghost use Rattle.data_folder.specs.States.{AreThere, Named};
+ghost use Rattle.data_folder.specs.Sweeping.{AreAmong, KeepsForeign, KeepsStore};
 ghost use Rattle.event_journal.specs.Holding.{contents_with};
 ghost use Rattle.head.specs.Heads.{BlockPart};
 ghost use Rattle.head.specs.Worlds.{Event as Change};
@@ -39,9 +40,9 @@ fn places_of(
 }
 
 /// Writes the blocks of a snapshot but the first so many, in folders of the numbers from `next` on,
-/// and gives what is saved of it, with this meaning of its values. All that stands at the top
-/// stays, as the journal, also one whose end is torn; and so do the files of blocks at the held
-/// places, of which the first so many are those of the snapshot's first blocks.
+/// and gives what is saved of it, with this meaning of its values. All that is no
+/// block's stays, as the journal, also one whose end is torn; and so do the files of blocks at the
+/// held places, of which the first so many are those of the snapshot's first blocks.
 pub fn write_saved<F: Folder>(
     alloc: Global,
     folder: &mut F,
@@ -156,9 +157,19 @@ impl<N: Beginning, F: Folder + Drop> StoreJournal<N, F> {
             ⊎ (F.failed self.new.events.journal.medium.folder ≡ true) }
         ensures closed { self.old.events.journal.closed ≡ true
             → (result ≡ Err (RollFault.Folder RollError.Closed)) × (self.new ≡ self.old) }
-        // What stands at the top and is none of the store's stays.
+        // What is none of the store's stays, and so do the files of the held blocks.
         ensures foreign { KeepsForeign F.shows F.kept self.old.events.journal.medium.folder
             self.new.events.journal.medium.folder }
+        ensures blocks { (files : List Named) → AreAmong (names_at held.now) files
+            → AreThere F.shows F.kept files self.old.events.journal.medium.folder
+            → AreThere F.shows F.kept files self.new.events.journal.medium.folder }
+        // If the `meta.json` of each of these says what the values mean, then so does that of each
+        // block that the head names.
+        ensures says { IfOk result (λ places.
+            EachSays F.shows F.kept N.first.values held.now
+            self.old.events.journal.medium.folder
+            → EachSays F.shows F.kept N.first.values places.items
+            self.new.events.journal.medium.folder) }
     {
         if self.events.journal.closed {
             return Err(RollFault::Folder(RollError::Closed));

@@ -1,10 +1,15 @@
-use Rattle.std.proofs.Common.{List, ap, inl, map, sym, ◌∙◌}
+use Rattle.std.proofs.Common.{List, ap, inl, map, subst, sym, ◌∙◌}
 use Rattle.block.specs.Blocks.{Shown}
 use Rattle.data_folder.proofs.Foreign.{foreign_rests, foreign_then}
+use Rattle.data_folder.specs.Sweeping.{AreAmong}
 use Rattle.head.specs.Blocks.{part_in}
+use Rattle.head_record.specs.Saved.{Place}
 use Rattle.store_folder.specs.KeeperLaws.{as_store}
+use Rattle.store_folder.specs.Sweeps.{names_at}
+use Rattle.store_folder.specs.Writing.{EachSays}
 use Rattle.store_folder.proofs.Fronts.{failed_like, may_save, open_like, saved_like}
 use Rattle.store_folder.proofs.Rolls.{finds_on, stays_so}
+use Rattle.store_folder.proofs.Says.{says_on}
 use Rattle.store_folder.proofs.keeping.StoreKeeper.roll.Goals as goal
 
 pub save-requires : goal.save-requires
@@ -212,3 +217,39 @@ returns-in-Err-clause-foreign g c =
     foreign_then f.shows f.kept c.args.self.now.store.events.journal.medium.folder
     c.save.new.self.events.journal.medium.folder c.sweep_after.new.self.events.journal.medium.folder
     c.save.ensures.foreign c.sweep_after.ensures.foreign
+
+-- what the meta.json of blocks says
+
+pub returns-then-self-clause-says : goal.returns-then-self-clause-says
+returns-then-self-clause-says g c says = says
+
+pub returns-in_default-clause-says : goal.returns-in_default-clause-says
+returns-in_default-clause-says g c says = says
+
+pub returns-in-Ok-save-clause-says : goal.returns-in-Ok-save-clause-says
+returns-in-Ok-save-clause-says g c says =
+    let f = g.F.Folder in
+    let values = g.N.Beginning.first.values in
+    let old = c.args.self.now.store.events.journal.medium.folder in
+    let mid = c.save.new.self.events.journal.medium.folder in
+    let new = c.sweep_blocks.new.self.events.journal.medium.folder in
+    says_on f.shows f.kept values c.in-Ok-save.places.items mid new
+    (λ files among there. c.sweep_blocks.ensures.kept.files files
+    (subst (λ (ps : List Place). AreAmong (names_at ps) files) (sym c.deref-in-Ok-save.ensures.value)
+    among) there)
+    (c.in-Ok-save.ensures.says
+    (subst (λ (ps : List Place). EachSays f.shows f.kept values ps old) (sym c.deref-3.ensures.value)
+    says))
+
+pub returns-in-Err-clause-says : goal.returns-in-Err-clause-says
+returns-in-Err-clause-says g c says =
+    let f = g.F.Folder in
+    let values = g.N.Beginning.first.values in
+    let old = c.args.self.now.store.events.journal.medium.folder in
+    let new = c.sweep_after.new.self.events.journal.medium.folder in
+    says_on f.shows f.kept values c.args.self.now.places.items old new
+    (λ files among there. c.sweep_after.ensures.blocks files
+    (subst (λ (ps : List Place). AreAmong (names_at ps) files) (sym c.deref-in-Err.ensures.value) among)
+    (c.save.ensures.blocks files
+    (subst (λ (ps : List Place). AreAmong (names_at ps) files) (sym c.deref-3.ensures.value) among)
+    there)) says

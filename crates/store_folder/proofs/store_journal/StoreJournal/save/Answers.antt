@@ -7,9 +7,10 @@ use Rattle.head_record.specs.Saved.{Place, Saved, save}
 use Rattle.head_record.specs.Spelling.{head_texts}
 use Rattle.journal.specs.Records.{file_of}
 use Rattle.store_folder.specs.Holding.{HoldsAt}
-use Rattle.store_folder.specs.Writing.{places_from}
+use Rattle.store_folder.specs.Writing.{EachSays, places_from}
 use Rattle.store_folder.proofs.Saves.{enough, like_made, may_roll, still_held, writing_finds}
 use Rattle.store_folder.proofs.Rolls.{finds_on}
+use Rattle.store_folder.proofs.Says.{says_on, says_saved, there_beside}
 use Rattle.store_folder.proofs.store_journal.StoreJournal.save.Goals as goal
 
 pub write_saved-requires-clause-blocks : goal.write_saved-requires-clause-blocks
@@ -306,3 +307,48 @@ returns-clause-foreign g c =
     c.write_saved.ensures.stays)
     (foreign_beside f.shows f.kept c.write_saved.new.folder
     c.roll.new.self.events.journal.medium.folder c.roll.ensures.others)
+
+-- the files of the held blocks, and what the meta.json of blocks says
+
+pub returns-in-Err-clause-blocks : goal.returns-in-Err-clause-blocks
+returns-in-Err-clause-blocks g c files among there =
+    c.write_saved.ensures.stays.files files among there
+
+pub returns-in_default-clause-blocks : goal.returns-in_default-clause-blocks
+returns-in_default-clause-blocks g c files among there =
+    c.write_saved.ensures.stays.files files among there
+
+pub returns-in-Ok-roll-clause-blocks : goal.returns-in-Ok-roll-clause-blocks
+returns-in-Ok-roll-clause-blocks g c files among there =
+    let f = g.F.Folder in
+    there_beside f.shows f.kept c.args.held.now files c.write_saved.new.folder
+    c.roll.new.self.events.journal.medium.folder c.roll.ensures.others among
+    (c.write_saved.ensures.stays.files files among there)
+
+pub returns-clause-blocks : goal.returns-clause-blocks
+returns-clause-blocks g c files among there =
+    let f = g.F.Folder in
+    there_beside f.shows f.kept c.args.held.now files c.write_saved.new.folder
+    c.roll.new.self.events.journal.medium.folder c.roll.ensures.others among
+    (c.write_saved.ensures.stays.files files among there)
+
+pub returns-in-Ok-roll-clause-says : goal.returns-in-Ok-roll-clause-says
+returns-in-Ok-roll-clause-says g c says =
+    let f = g.F.Folder in
+    let old = c.args.self.now.events.journal.medium.folder in
+    let mid = c.write_saved.new.folder in
+    let new = c.roll.new.self.events.journal.medium.folder in
+    let values = g.N.Beginning.first.values in
+    let same = c.args.same in
+    let held = c.args.held.now in
+    let count = length c.args.snapshot.now.blocks - same in
+    let places = take same held ++ places_from c.args.next count in
+    let written = says_saved f.shows f.kept values c.values-values.result same c.args.next count held
+    old mid c.values-values.ensures (λ files among there. c.write_saved.ensures.stays.files files among there)
+    says c.in-Ok.ensures.says in
+    let named = c.in-Ok-from_slice.ensures.items ∙ c.places.ensures
+    ∙ ap (λ (h : Saved). h.places) c.in-Ok.ensures.saved in
+    subst (λ (ps : List Place). EachSays f.shows f.kept values ps new) (sym named)
+    (says_on f.shows f.kept values places mid new
+    (λ files among there. there_beside f.shows f.kept places files mid new c.roll.ensures.others among there)
+    written)

@@ -35,3 +35,10 @@ pub returns-then-self-clause-foreign : goal.returns-then-self-clause-foreign
 returns-then-self-clause-foreign g c =
     let f = g.F.Folder in
     foreign_rests f.shows f.kept c.args.self.now.events.journal.medium.folder
+
+pub returns-then-self-clause-blocks : goal.returns-then-self-clause-blocks
+returns-then-self-clause-blocks g c files among there = there
+
+pub returns-clause-blocks : goal.returns-clause-blocks
+returns-clause-blocks g c files among there =
+    c.sweep_blocks.ensures.kept.files files among there

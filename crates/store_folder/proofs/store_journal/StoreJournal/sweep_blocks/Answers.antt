@@ -33,3 +33,6 @@ returns-clause-foreign g c =
     let f = g.F.Folder in
     foreign_kept f.shows f.kept f.sound f.moment f.left_since (names_at c.args.places.now)
     c.args.self.now.events.journal.medium.folder c.sweep_apart.new.folder c.sweep_apart.ensures.kept
+
+pub returns-clause-kept : goal.returns-clause-kept
+returns-clause-kept g c = c.sweep_apart.ensures.kept
