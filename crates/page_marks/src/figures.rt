@@ -62,7 +62,7 @@ pub(crate) struct Placed {
     pub(crate) rank: u64,
 }
 
-fn placed(end: End, number: i64) -> Placed
+fn place_of(end: End, number: i64) -> Placed
     ensures same { result.number ≡ number }
     ensures ranked { (bits : ℕ) → AreBitsOf number bits → result.rank ≡ rank_of end bits }
 {
@@ -86,9 +86,9 @@ fn end_of(end: End, samples: &[Sample]) -> i64
     requires { 0 < length samples.now }
     ensures { IsEnd end samples.now result }
 {
-    let mut found = placed(end, samples[0].v());
+    let mut found = place_of(end, samples[0].v());
     for sample in samples {
-        found = first_of(found, placed(end, sample.v()));
+        found = first_of(found, place_of(end, sample.v()));
     }
     found.number
 }
