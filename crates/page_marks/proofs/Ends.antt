@@ -1,6 +1,6 @@
 -- The first of doubles from an end, found one by one.
 use Rattle.std.proofs.Common.{◌≡◌, ◌<◌, ◌≤◌, ◌+◌, ℕ, ℤ, List, length, ◌⊎◌, inl, inr, arith}
-use Rattle.std.proofs.Common.{refl, ap, sym, subst, ◌∙◌}
+use Rattle.std.proofs.Common.{ap, sym, subst, ◌∙◌}
 use Rattle.std.specs.Prelude.{Some, slice_get}
 use Rattle.std.proofs.lemmas.Bool.{cases_order}
 use Rattle.std.proofs.lemmas.Option.{slice_get_within}
@@ -49,9 +49,11 @@ first_next end samples i s p q r here number ranked one before_p before_q first 
     among (inr e) =
         subst (λ (x : Placed). HasValue samples x.number) (sym e)
         (record { at = i; sample = s; there = here; value = number })
+
     is_ranked : (r ≡ p) ⊎ (r ≡ q) → IsRanked end r
     is_ranked (inl e) = subst (λ (x : Placed). IsRanked end x) (sym e) first.ranked
     is_ranked (inr e) = subst (λ (x : Placed). IsRanked end x) (sym e) ranked
+
     lowest : (at : ℕ) (t : ℤ × ℤ) (bits : ℕ) → at < i + 1 → slice_get samples at ≡ Some t
         → AreBitsOf t.1 bits → (at ≡ i) ⊎ ((at < i) ⊎ (i < at)) → r.rank ≤ rank_of end bits
     lowest at t bits h there are (inl e) =

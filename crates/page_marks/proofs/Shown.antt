@@ -13,14 +13,14 @@ use Rattle.page_marks.specs.Values.{figure_values, AreRowValues, AreValuesOf}
 -- the values of a row that has samples
 pub with_figures : (values : Values) (samples : List (ℤ × ℤ)) (f : Figures) → 0 < length samples
     → AreFiguresOf values samples f → AreRowValues values samples (figure_values values f)
-with_figures values [] f some are = omega (arith, some)
+with_figures values [] f some are = absurd (omega (arith, some))
 with_figures values (s ∷ ss) f some are = (f, are, refl)
 
 -- and of one that has none
 pub without_samples : (values : Values) (samples : List (ℤ × ℤ)) → length samples ≤ 0
     → AreRowValues values samples []
 without_samples values [] none = refl
-without_samples values (s ∷ ss) none = omega (arith, none)
+without_samples values (s ∷ ss) none = absurd (omega (arith, none))
 
 -- what the rows from a place on show, behind what the others show
 abbrev pub Continues : Values → List Row → ℕ → List Value → Type 0

@@ -95,7 +95,8 @@ fn end_of(end: End, samples: &[Sample]) -> i64
 
 /// The figures of samples whose values are kept for doubles.
 fn double_figures_of(samples: &[Sample]) -> Option<Figures>
-    ensures some { 0 < length samples.now → IsSome result }
+    requires { 0 < length samples.now }
+    ensures some { IsSome result }
     ensures figures { IfSome result (AreDoubleFigures samples.now) }
 {
     let Figures { first, last, .. } = whole_figures_of(samples)?;
@@ -111,8 +112,12 @@ fn double_figures_of(samples: &[Sample]) -> Option<Figures>
 /// least and the greatest of doubles are those of the doubles that are numbers, if there is one.
 pub fn figures_of(values: Values, samples: &[Sample]) -> Option<Figures>
     ensures some { 0 < length samples.now → IsSome result }
-    ensures figures { IfSome result (AreFiguresOf values samples.now) }
+    ensures figures { IfSome result (λ f.
+        (0 < length samples.now) × AreFiguresOf values samples.now f) }
 {
+    if samples.is_empty() {
+        return None;
+    }
     match values {
         Values::Whole => whole_figures_of(samples),
         Values::Doubles => double_figures_of(samples),

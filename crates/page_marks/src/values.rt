@@ -17,10 +17,19 @@ fn append_figures(
 ) -> Result<(), AllocError>
     ensures { OnOk result (shown.new.items ≡ shown.old.items ++ figure_values values figures) }
 {
-    shown.push(values.of(figures.first))?;
-    shown.push(values.of(figures.last))?;
-    shown.push(values.of(figures.least))?;
-    Ok(shown.push(values.of(figures.greatest))?)
+    let Figures {
+        first,
+        last,
+        least,
+        greatest,
+    } = figures;
+    let all = [
+        values.of(first),
+        values.of(last),
+        values.of(least),
+        values.of(greatest),
+    ];
+    shown.extend_from_slice(&all)
 }
 
 fn append_row(shown: &mut Vec<Value>, values: Values, samples: &[Sample]) -> Result<(), AllocError>
@@ -28,7 +37,10 @@ fn append_row(shown: &mut Vec<Value>, values: Values, samples: &[Sample]) -> Res
         × AreRowValues values samples.now more) }
 {
     match figures_of(values, samples) {
-        Some(figures) => append_figures(shown, values, figures),
+        Some(figures) => {
+            append_figures(shown, values, figures)?;
+            Ok(())
+        }
         None => Ok(()),
     }
 }
