@@ -4,7 +4,7 @@ use Rattle.labels.specs.Labels.{Labels}
 use Rattle.matchers.specs.Views.{MatcherView}
 use Rattle.matchers.specs.Satisfies.{satisfies}
 
--- the places, counted from one, of the matchers that do not accept what a label set has
+-- the places, counted from this one, of the matchers that do not accept what a label set has
 abbrev pub rejecting_from : ℕ → List MatcherView → Labels → List ℕ
 rejecting_from place [] labels = []
 rejecting_from place (m ∷ ms) labels =

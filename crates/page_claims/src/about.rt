@@ -50,6 +50,8 @@ fn has(row: &Row, labels: &LabelSet) -> bool
 pub fn row_with(rows: &[Row], labels: &LabelSet) -> Option<usize>
     ensures found { IfSome result (λ at. (at < length rows.now)
         × ((row : RowValue) → slice_get rows.now at ≡ Some row → row.0 ≡ labels.now)) }
+    ensures first { IfSome result (λ at. (i : ℕ) (row : RowValue) → i < at
+        → slice_get rows.now i ≡ Some row → row.0 ≡ labels.now → ⊥) }
     ensures none { IfNone result ((at : ℕ) (row : RowValue) → slice_get rows.now at ≡ Some row
         → row.0 ≡ labels.now → ⊥) }
 {

@@ -1,6 +1,6 @@
 //! How many intervals have each verdict.
 
-ghost use Rattle.std.specs.Prelude.{◌≡◌, ◌+◌, ◌<◌, ◌≤◌, ◌++◌, ℕ, List, length};
+ghost use Rattle.std.specs.Prelude.{◌≡◌, ◌+◌, ◌<◌, ◌≤◌, ◌++◌, ℕ, List, [], length};
 ghost use Rattle.cover.specs.declared.certificate.Interval.{Interval};
 ghost use Rattle.page_claims.specs.Counting.{slot_of, count_in};
 
@@ -39,6 +39,8 @@ pub fn count_in(intervals: &[Interval], slot: usize) -> usize
 pub fn shown_of<T>(things: &[T], most: usize) -> (&[T], &[T])
     ensures all { result.0.now ++ result.1.now ≡ things.now }
     ensures few { length result.0.now ≤ most }
+    // Something is left out only if so many are shown.
+    ensures full { length result.0.now < most → result.1.now ≡ [] }
 {
     things.split_at(most.min(things.len()))
 }

@@ -1,6 +1,6 @@
 //! The figures of a row.
 
-ghost use Rattle.std.specs.Prelude.{◌≡◌, ◌<◌, length, IsSome, IfSome};
+ghost use Rattle.std.specs.Prelude.{◌≡◌, ◌<◌, [], length, None, IsSome, IfSome};
 ghost use Rattle.page_claims.specs.Figuring.{least_of, greatest_of, AreFigures};
 
 use labels::Sample;
@@ -40,6 +40,7 @@ fn greatest_of(number: i64, samples: &[Sample]) -> i64
 /// The figures of samples, in their order; `None` if there is none.
 pub fn figures_of(samples: &[Sample]) -> Option<Figures>
     ensures some { 0 < length samples.now → IsSome result }
+    ensures none { samples.now ≡ [] → result ≡ None }
     ensures figures { IfSome result
         (λ f. AreFigures samples.now f.first f.last f.least f.greatest) }
 {

@@ -1,5 +1,5 @@
 -- A world with blocks beneath it.
-use Rattle.std.proofs.Common.{◌≡◌, ℕ, ℤ, List, [], ◌∷◌, ◌++◌, Result, Ok, Err, IfErr, IfOk, ap}
+use Rattle.std.proofs.Common.{◌≡◌, ◌+◌, ℕ, ℤ, List, [], ◌∷◌, ◌++◌, Result, Ok, Err, IfErr, IfOk, ap}
 use Rattle.std.proofs.Common.{length, length-append, subst, sym, ◌∙◌}
 use Rattle.std.specs.Int.{int_max}
 use Rattle.head.specs.Heads.{BlockPart, HeadSeries, SnapshotParts, head_part, newest_in, world_of}
@@ -10,7 +10,8 @@ use Rattle.head_record.specs.Saved.{Saved}
 use Rattle.labels.specs.Contents.{Content}
 use Rattle.labels.specs.Parts.{Part, laid_over, over}
 use Rattle.labels.proofs.ContentLaws.{is_sorted-over}
-use Rattle.store_folder.specs.States.{started}
+use Rattle.store_folder.specs.Origins.{Origin}
+use Rattle.store_folder.specs.States.{origin_of, started}
 use Rattle.store_joiner.specs.Adds.{beneath, with_beneath}
 use Rattle.store_joiner.specs.Joins.{parts_in}
 use Rattle.store_joiner.proofs.Held.{over_beneath, over_both}
@@ -68,3 +69,14 @@ pub if_beneath : {E : Type 0} (r : Result SnapshotParts E) (x : SnapshotParts) (
     → world_of x ≡ w → IfOk r (λ s. s ≡ x) → IfOk r (λ s. world_of s ≡ w)
 if_beneath (Ok s) x w is made = ap world_of made ∙ is
 if_beneath (Err e) x w is made = tt
+
+-- how many blocks it has
+pub counted : (others own : List BlockPart) (floor : ℤ) (first : Origin) (saved : Saved)
+    (s : SnapshotParts) (n : ℕ) → n ≡ length s.blocks
+    → world_of s ≡ with_beneath others floor (world_of (started saved own))
+    → first ≡ origin_of saved own → n ≡ length others + first.world.blocks
+unfolding world_of
+counted others own floor first saved s n is made begins =
+    is
+    ∙ (ap (λ (w : World). w.blocks) made
+    ∙ ap (λ (o : Origin). length others + o.world.blocks) (sym begins))

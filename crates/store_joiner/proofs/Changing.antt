@@ -1,5 +1,5 @@
 -- A folder that is opened to be changed: what was found, and where a store is begun.
-use Rattle.std.proofs.Common.{◌≡◌, ◌⊎◌, inl, inr, ⊎_elim, ℕ, ◌≤◌, List, [], ◌∷◌, Option, None}
+use Rattle.std.proofs.Common.{◌≡◌, ◌+◌, inl, inr, ⊎_elim, ℕ, ◌≤◌, List, [], ◌∷◌, Option, None}
 use Rattle.std.proofs.Common.{Some, Result, Ok, refl, sym, ap, arith, map, subst, ◌∙◌}
 use Rattle.std.proofs.Common.{Bool, true, false}
 use Rattle.std.specs.Prelude.{IfSome}
@@ -208,6 +208,17 @@ finds_first moment left_since f made found events w is none world finds =
     subst (λ (o : Origin). FindsNow moment left_since f (other_of o (made o.world))) is
     (subst (λ (x : World). FindsNow moment left_since f (other_of found (made x)))
     (same_first found.world events w none world) finds)
+
+-- which has no others
+pub counts_first : (found : Origin) (events : List Event) (w : World) (n k : ℕ)
+    → found ≡ beginning Whole → events ≡ [] → replayed found.world events ≡ Ok w
+    → n ≡ k + w.blocks → n ≡ k
+unfolding world_of
+counts_first found events w n k is none world count =
+    let none : w.blocks ≡ 0 =
+    ap (λ (x : World). x.blocks) (same_first found.world events w none world)
+    ∙ ap (λ (o : Origin). o.world.blocks) is in
+    omega (arith, count, none)
 
 -- a store was not found where no journal is
 

@@ -1,7 +1,6 @@
 -- A store that begins with its blocks joined.
 use Rattle.std.proofs.Common.{◌≡◌, ◌⊎◌, inl, inr, ⊎_elim, ℕ, ◌≤◌, Bool, false, List, [], ◌∷◌}
 use Rattle.std.proofs.Common.{◌++◌, ◌+◌, zero, suc, Option, Some, Result, Ok, refl, sym, ap, subst, ◌∙◌}
-use Rattle.std.proofs.Common.{arith}
 use Rattle.std.specs.Prelude.{length}
 use Rattle.std.specs.List.{AllByRecursion}
 use Rattle.block_folder.specs.declared.values.Values.{Values}
@@ -14,7 +13,7 @@ use Rattle.data_folder.proofs.Moments.{weaker}
 use Rattle.event_journal.specs.Holding.{contents_with}
 use Rattle.head.specs.Heads.{BlockPart, SnapshotParts, head_part, newest_in, world_of}
 use Rattle.head.specs.Refusals.{Refusal}
-use Rattle.head.specs.Worlds.{Event, World}
+use Rattle.head.specs.Worlds.{World}
 use Rattle.head_record.specs.Saved.{Place, Saved, save}
 use Rattle.head_record.specs.Spelling.{head_texts, IsSaved}
 use Rattle.journal.specs.Group.{IsJournalText}

@@ -2,7 +2,7 @@
 use Rattle.std.proofs.Common.{◌≡◌, ◌⊎◌, inl, inr, ⊎_elim, ℕ, ◌≤◌, Bool, false, List, []}
 use Rattle.std.proofs.Common.{◌++◌, Option, Some, Result, Ok, Err, IfOk, IfErr, refl, sym, ap}
 use Rattle.std.proofs.Common.{append-nil, arith, length, map, subst, ◌∙◌}
-use Rattle.std.specs.Prelude.{MatchResult}
+use Rattle.std.specs.Prelude.{MatchResult, OnOk}
 use Rattle.std.proofs.lemmas.List.{length-map}
 use Rattle.block.specs.Blocks.{Shown}
 use Rattle.block_folder.specs.declared.values.Values.{Values}
@@ -42,6 +42,10 @@ pub if_both : {A E : Type 0} (r : Result A E) (P Q R : A → Type 0)
     → ((x : A) → P x → Q x → R x) → IfOk r P → IfOk r Q → IfOk r R
 if_both (Ok x) P Q R f p q = f x p q
 if_both (Err e) P Q R f p q = tt
+
+pub of_ok : {A E : Type 0} (r : Result A E) (P : Type 0) → OnOk r P → IfOk r (λ (x : A). P)
+of_ok (Ok x) P p = p
+of_ok (Err e) P p = tt
 
 pub if_err : {A E : Type 0} (r : Result A E) (P Q : E → Type 0) → ((e : E) → P e → Q e)
     → IfErr r P → IfErr r Q

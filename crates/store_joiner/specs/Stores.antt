@@ -124,4 +124,5 @@ IsLater (faults.Begin e) = Unit {0}
 IsLater (faults.Roll e) = Unit {0}
 IsLater (faults.Again e) = Unit {0}
 IsLater faults.Changed = Unit {0}
+IsLater faults.Meaning = Unit {0}
 IsLater (faults.Unfit e n) = Unit {0}

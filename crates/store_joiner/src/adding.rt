@@ -1,7 +1,7 @@
 //! Blocks that are added to the store of a folder.
 
-ghost use Rattle.std.specs.Prelude.{◌≡◌, ℕ, List, [], IfErr, IfOk, MatchResult, None, Ok, Some};
-ghost use Rattle.std.specs.Prelude.{false, map, true};
+ghost use Rattle.std.specs.Prelude.{◌≡◌, ◌↔◌, ◌+◌, ◌⊎◌, ℕ, List, [], IfErr, IfOk, IsTrue, MatchResult};
+ghost use Rattle.std.specs.Prelude.{None, Ok, OnOk, Some, false, length, map, true};
 ghost use Rattle.block_folder.specs.declared.values.Values.TheVariants.{Whole};
 ghost use Rattle.data_folder.specs.Folders.{HasFile, LeavesOnly, Untouched};
 ghost use Rattle.data_folder.specs.JournalFile.{journal_name};
@@ -17,6 +17,7 @@ ghost use Rattle.store_folder.specs.Origins.{beginning};
 ghost use Rattle.store_folder.specs.Plain.{begins_plain};
 ghost use Rattle.store_folder.specs.Starting.{IsNoneOrNothing};
 ghost use Rattle.store_folder.specs.States.{IsAfter, origin_of};
+ghost use Rattle.store_folder.specs.Sweeps.{ListsNumber};
 ghost use Rattle.store_joiner.specs.Adds.{with_beneath};
 ghost use Rattle.store_joiner.specs.Finds.{FindsEither, FindsNow, other_of};
 ghost use Rattle.store_joiner.specs.Stores.{Changes, HasBlocks, HasStore, HasStoreFor, IsAddedTo};
@@ -33,8 +34,15 @@ use head::Snapshot;
 use std::alloc::Global;
 use std::marker::Brand;
 use store_folder::{
-    Beginning, RollFault, StartError, StartedStore, begin_store, has_blocks, open_store,
+    Beginning, FoundStore, RollFault, StartError, StartedStore, begin_store, has_blocks, open_store,
 };
+
+/// How many blocks a snapshot has.
+fn count_of(snapshot: &Snapshot) -> usize
+    ensures { result ≡ length snapshot.now.blocks }
+{
+    snapshot.blocks().len()
+}
 
 /// Adds the blocks of an opening to a store of which the journal has no events. How many blocks it
 /// then has.
@@ -56,6 +64,8 @@ fn add_saved<N: Beginning, F: Folder + Drop>(
         (with_beneath opening.now.blocks opening.now.floor N.first.world)) }
     ensures finds { IfOk result (λ x. FindsNow F.moment F.left_since x.1 (other_of N.first
         (with_beneath opening.now.blocks opening.now.floor N.first.world))) }
+    ensures counted { IfOk result (λ x.
+        x.0 ≡ length opening.now.blocks + N.first.world.blocks) }
     ensures stays { IfErr result (λ e.
         (e.0 ≡ ChangeFault.Roll (RollFault.Folder RollError.Lost) → ⊥)
         → FindsNow F.moment F.left_since e.1 N.first) }
@@ -73,17 +83,27 @@ fn add_saved<N: Beginning, F: Folder + Drop>(
         Ok(next) => next,
         Err(error) => return Err((ChangeFault::Unfit(error, count), found.folder)),
     };
+    let total = count_of(&next);
     match replace::<N, F>(alloc, found, &next) {
-        Ok(folder) => Ok((count, folder)),
+        Ok(folder) => Ok((total, folder)),
         Err(fault) => Err(fault),
     }
 }
 
-/// Adds the blocks of an opening to a store that was found, after what its journal has was saved.
+/// Whether the values of a store mean this.
+fn has_values(store: &FoundStore, values: Values) -> bool
+    ensures { IsTrue result ↔ (store.now.journal.head.values ≡ values) }
+{
+    store.journal.head.values().is_same(values)
+}
+
+/// Adds the blocks of an opening, whose values mean this, to a store that was found, after what its
+/// journal has was saved.
 fn add_found<F: Folder + Drop>(
     alloc: Global,
     found: Found<F>,
     opening: &Snapshot,
+    values: Values,
 ) -> Result<(usize, F), (ChangeFault, F)>
     requires sound { F.sound found.folder ≡ true }
     requires found { IsFoundStore F.shows F.kept found.store.journal
@@ -100,9 +120,11 @@ fn add_found<F: Folder + Drop>(
     ensures finds { TellsFiles F.shows → IfOk result (λ x. (w : World) × (replayed
         (origin_of found.store.journal.head (map part_in found.store.blocks.items)).world
         found.store.journal.events.items ≡ Ok w)
+        × (x.0 ≡ length opening.now.blocks + w.blocks)
         × FindsNow F.moment F.left_since x.1 (other_of
         (origin_of found.store.journal.head (map part_in found.store.blocks.items))
         (with_beneath opening.now.blocks opening.now.floor w))) }
+    ensures meant { OnOk result (found.store.journal.head.values ≡ values) }
     ensures stays { TellsFiles F.shows → IfErr result (λ e.
         (e.0 ≡ ChangeFault.Roll (RollFault.Folder RollError.Lost) → ⊥)
         → StaysNow F.moment F.left_since e.1
@@ -113,6 +135,9 @@ fn add_found<F: Folder + Drop>(
         (λ x. KeepsForeign F.shows F.kept found.folder x.1)
         (λ e. KeepsForeign F.shows F.kept found.folder e.1) }
 {
+    if !has_values(&found.store, values) {
+        return Err((ChangeFault::Meaning, found.folder));
+    }
     match save(alloc, found) {
         Ok(saved) => add_saved::<Brand, F>(alloc, saved, opening),
         Err(fault) => Err(fault),
@@ -177,6 +202,10 @@ fn begin_found<F: Folder + Drop>(alloc: Global, folder: F) -> Result<Found<F>, (
     ensures later { IfErr result (λ e. (cause : StartError) → e.0 ≡ ChangeFault.Open cause → ⊥) }
     ensures none { IfErr result (λ e. e.0 ≡ ChangeFault.NoStore
         → F.shows e.1 journal_name None) }
+    ensures nothing { IfErr result (λ e. e.0 ≡ ChangeFault.NoStore
+        → Untouched F.shows F.kept F.moment F.left_since folder e.1) }
+    ensures listed { IfErr result (λ e. e.0 ≡ ChangeFault.NoStore
+        → (F.failed e.1 ≡ true) ⊎ ListsNumber F.lists e.1 true) }
     ensures saved { IfOk result (λ x. x.store.journal.events.items ≡ []) }
     ensures any_moment { MatchResult result
         (λ x. LeavesOnly F.moment F.left_since folder x.folder NoneOrStands)
@@ -194,7 +223,7 @@ fn begin_found<F: Folder + Drop>(alloc: Global, folder: F) -> Result<Found<F>, (
     let mut folder = folder;
     match has_blocks(alloc, &mut folder) {
         Ok(false) => begin_again(alloc, folder),
-        _ => Err((ChangeFault::NoStore, folder)),
+        Ok(true) | Err(_) => Err((ChangeFault::NoStore, folder)),
     }
 }
 
@@ -204,20 +233,26 @@ fn add_first<F: Folder + Drop>(
     alloc: Global,
     folder: F,
     opening: &Snapshot,
+    values: Values,
 ) -> Result<(usize, F), (ChangeFault, F)>
     requires sound { F.sound folder ≡ true }
     requires none { F.shows folder journal_name None × F.kept folder journal_name 0 }
     ensures later { IfErr result (λ e. (cause : StartError) → e.0 ≡ ChangeFault.Open cause → ⊥) }
     ensures none { IfErr result (λ e. e.0 ≡ ChangeFault.NoStore
         → F.shows e.1 journal_name None) }
+    ensures nothing { IfErr result (λ e. e.0 ≡ ChangeFault.NoStore
+        → Untouched F.shows F.kept F.moment F.left_since folder e.1) }
+    ensures listed { IfErr result (λ e. e.0 ≡ ChangeFault.NoStore
+        → (F.failed e.1 ≡ true) ⊎ ListsNumber F.lists e.1 true) }
     ensures any_moment { TellsFiles F.shows → MatchResult result
         (λ x. LeavesOnly F.moment F.left_since folder x.1
         (NoneOrFinds (IsAddedTo opening.now.blocks opening.now.floor)))
         (λ e. LeavesOnly F.moment F.left_since folder e.1
         (NoneOrFinds (IsAddedTo opening.now.blocks opening.now.floor))) }
-    ensures finds { TellsFiles F.shows → IfOk result (λ x. FindsNow F.moment F.left_since x.1
-        (other_of (beginning Whole)
+    ensures finds { TellsFiles F.shows → IfOk result (λ x. (x.0 ≡ length opening.now.blocks)
+        × FindsNow F.moment F.left_since x.1 (other_of (beginning Whole)
         (with_beneath opening.now.blocks opening.now.floor (beginning Whole).world))) }
+    ensures meant { OnOk result (values ≡ Whole) }
     ensures blocks { HasBlocks F.shows F.lists F.kept F.moment F.left_since folder
         → MatchResult result (λ x. ⊥)
         (λ e. Untouched F.shows F.kept F.moment F.left_since folder e.1) }
@@ -225,21 +260,26 @@ fn add_first<F: Folder + Drop>(
         (λ x. KeepsForeign F.shows F.kept folder x.1)
         (λ e. KeepsForeign F.shows F.kept folder e.1) }
 {
+    if !values.is_same(Values::Whole) {
+        return Err((ChangeFault::Meaning, folder));
+    }
     match begin_found(alloc, folder) {
-        Ok(found) => add_found(alloc, found, opening),
+        Ok(found) => add_found(alloc, found, opening, values),
         Err(fault) => Err(fault),
     }
 }
 
-/// Adds the blocks of an opening to the store of a folder, before its own: where both have a sample
-/// of one label set at one time, the store's stands. What its journal has is saved first. A folder
-/// that has neither a journal nor blocks gets a store of whole numbers. How many blocks it then
-/// has, and the folder, which an `Err` gives back too. `Unfit` if they are more than 63, or if the
-/// floor would stand above samples of the head.
+/// Adds the blocks of an opening, whose values mean this, to the store of a folder, before its own:
+/// where both have a sample of one label set at one time, the store's stands. What its journal has
+/// is saved first. A folder that has neither a journal nor blocks gets a store of whole numbers. How
+/// many blocks it then has, and the folder, which an `Err` gives back too. `Meaning` if the values
+/// of the store mean something else; `Unfit` if the blocks are more than 63, or if the floor would
+/// stand above samples of the head.
 pub fn add_to_store<F: Folder + Drop>(
     alloc: Global,
     folder: F,
     opening: &Snapshot,
+    values: Values,
 ) -> Result<(usize, F), (ChangeFault, F)>
     requires { F.sound folder ≡ true }
     // The folder tells what its files have, and a store with a head lies there. A crash at any
@@ -252,11 +292,13 @@ pub fn add_to_store<F: Folder + Drop>(
         events (IsAddedTo opening.now.blocks opening.now.floor))
         (λ e. StaysOrFinds F.moment F.left_since folder e.1 (origin_of saved parts)
         events (IsAddedTo opening.now.blocks opening.now.floor)) }
-    // After `Ok` it finds their world laid over the blocks.
+    // After `Ok` it finds their world laid over the blocks, in the number of blocks that is told; and
+    // the values of both mean the same.
     ensures finds { TellsFiles F.shows → (saved : Saved) (parts : List BlockPart)
         (events : List Change) → (s : HasStore F.shows F.kept saved parts events folder)
         → begins_plain s.file ≡ false → IfOk result (λ x. (w : World)
         × (replayed (origin_of saved parts).world events ≡ Ok w)
+        × (x.0 ≡ length opening.now.blocks + w.blocks) × (saved.values ≡ values)
         × FindsNow F.moment F.left_since x.1 (other_of (origin_of saved parts)
         (with_beneath opening.now.blocks opening.now.floor w))) }
     // After an `Err` it finds the store as it was, unless the journal was lost.
@@ -269,9 +311,14 @@ pub fn add_to_store<F: Folder + Drop>(
     ensures unchanged { IfErr result (λ e. (cause : StartError) → e.0 ≡ ChangeFault.Open cause
         → (cause ≡ StartError.Medium → ⊥)
         → Untouched F.shows F.kept F.moment F.left_since folder e.1) }
-    // That there is no store is told only of a folder that has no journal.
+    // That there is no store is told only of a folder that has no journal, and below whose `blocks`
+    // a number is listed, or could not be looked for. Then nothing is changed.
     ensures none { IfErr result (λ e. e.0 ≡ ChangeFault.NoStore
         → F.shows e.1 journal_name None) }
+    ensures listed { IfErr result (λ e. e.0 ≡ ChangeFault.NoStore
+        → (F.failed e.1 ≡ true) ⊎ ListsNumber F.lists e.1 true) }
+    ensures nothing { IfErr result (λ e. e.0 ≡ ChangeFault.NoStore
+        → Untouched F.shows F.kept F.moment F.left_since folder e.1) }
     // Where the journal is not one of events alone, what is changed is a store that was there. So a
     // folder with a damaged journal, or without a file of a block that the journal names, stays as
     // it is.
@@ -295,6 +342,7 @@ pub fn add_to_store<F: Folder + Drop>(
         → F.shows folder journal_name (Some file) → begins_plain file ≡ true
         → IfOk result (λ x. (events : List Change) × (w : World) × Stands [] file events
         × (replayed (beginning Whole).world events ≡ Ok w)
+        × (x.0 ≡ length opening.now.blocks + w.blocks) × (values ≡ Whole)
         × FindsNow F.moment F.left_since x.1 (other_of (beginning Whole)
         (with_beneath opening.now.blocks opening.now.floor w))) }
     // In a folder without a journal, where a block lies nothing is changed: who has lost a journal
@@ -312,9 +360,10 @@ pub fn add_to_store<F: Folder + Drop>(
         (λ e. LeavesOnly F.moment F.left_since folder e.1
         (NoneOrFinds (IsAddedTo opening.now.blocks opening.now.floor))) }
     ensures first_finds { TellsFiles F.shows → F.shows folder journal_name None
-        → IfOk result (λ x. FindsNow F.moment F.left_since x.1 (other_of (beginning Whole)
+        → IfOk result (λ x. (x.0 ≡ length opening.now.blocks) × (values ≡ Whole)
+        × FindsNow F.moment F.left_since x.1 (other_of (beginning Whole)
         (with_beneath opening.now.blocks opening.now.floor (beginning Whole).world))) }
-    // What stands at the top and is none of the store's stays.
+    // What is none of the store's stays.
     ensures foreign { MatchResult result
         (λ x. KeepsForeign F.shows F.kept folder x.1)
         (λ e. KeepsForeign F.shows F.kept folder e.1) }
@@ -322,8 +371,8 @@ pub fn add_to_store<F: Folder + Drop>(
     let mut folder = folder;
     match open_store(alloc, &mut folder) {
         Ok(opened) => match opened {
-            Some(store) => add_found(alloc, Found { folder, store }, opening),
-            None => add_first(alloc, folder, opening),
+            Some(store) => add_found(alloc, Found { folder, store }, opening, values),
+            None => add_first(alloc, folder, opening, values),
         },
         Err(error) => Err((ChangeFault::Open(error), folder)),
     }

@@ -20,6 +20,8 @@ pub enum ChangeFault {
     Again(StartError),
     /// What is read again is not what was saved.
     Changed,
+    /// The values of the store mean something else than those of the blocks to be added.
+    Meaning,
     /// No snapshot has the blocks that the store would have, which are so many.
     Unfit(ResumeError, usize),
 }

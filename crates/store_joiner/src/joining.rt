@@ -233,7 +233,7 @@ pub fn join_store<F: Folder + Drop>(
         × (replayed (beginning Whole).world events ≡ Ok w) × (x.0.before ≡ w.blocks)
         × FindsNow F.moment F.left_since x.1
         (other_of (beginning Whole) (with_blocks x.0.after w))) }
-    // What stands at the top and is none of the store's stays.
+    // What is none of the store's stays.
     ensures foreign { MatchResult result
         (λ x. KeepsForeign F.shows F.kept folder x.1)
         (λ e. KeepsForeign F.shows F.kept folder e.1) }

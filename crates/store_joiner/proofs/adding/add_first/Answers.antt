@@ -1,12 +1,14 @@
-use Rattle.std.proofs.Common.{map}
+use Rattle.std.proofs.Common.{length, map}
 use Rattle.block_folder.specs.declared.values.Values.TheVariants.{Whole}
-use Rattle.data_folder.proofs.Foreign.{foreign_then}
+use Rattle.data_folder.proofs.Foreign.{foreign_rests, foreign_then}
+use Rattle.data_folder.proofs.Moments.{untouched}
 use Rattle.head.specs.Blocks.{part_in}
 use Rattle.store_folder.specs.Origins.{beginning}
 use Rattle.store_folder.specs.States.{origin_of}
 use Rattle.store_joiner.specs.Adds.{with_beneath}
 use Rattle.store_joiner.specs.Stores.{IsAddedTo}
-use Rattle.store_joiner.proofs.Changing.{finds_first, first_changed, origin_again}
+use Rattle.store_joiner.proofs.Changing.{counts_first, finds_first, first_changed, first_rests}
+use Rattle.store_joiner.proofs.Changing.{none_left, origin_again}
 use Rattle.store_joiner.proofs.Stores.{if_ok, match_so}
 use Rattle.store_joiner.proofs.adding.add_first.Goals as goal
 
@@ -36,8 +38,12 @@ returns-in-Ok-clause-finds g c tells =
     let parts = map part_in x.store.blocks.items in
     let is = origin_again (beginning Whole) head parts (c.in-Ok.ensures.after tells) in
     if_ok c.add_found.result _ _
-    (λ y z. finds_first f.moment f.left_since y.1 (with_beneath o.blocks o.floor)
-    (origin_of head parts) x.store.journal.events.items z.0 is c.in-Ok.ensures.saved z.1 z.2)
+    (λ y z. (
+      counts_first (origin_of head parts) x.store.journal.events.items z.0 y.0 (length o.blocks) is
+          c.in-Ok.ensures.saved z.1 z.2,
+      finds_first f.moment f.left_since y.1 (with_beneath o.blocks o.floor) (origin_of head parts)
+          x.store.journal.events.items z.0 is c.in-Ok.ensures.saved z.1 z.3,
+    ))
     (c.add_found.ensures.finds tells)
 
 pub returns-in-Ok-clause-blocks : goal.returns-in-Ok-clause-blocks
@@ -51,3 +57,24 @@ returns-in-Ok-clause-foreign g c =
     c.in-Ok.ensures.foreign k)
     (λ e k. foreign_then f.shows f.kept c.args.folder c.in-Ok.found.folder e.1
     c.in-Ok.ensures.foreign k) c.add_found.ensures.foreign
+
+-- the values mean something else
+
+pub returns-then-not-is_same-clause-any_moment : goal.returns-then-not-is_same-clause-any_moment
+returns-then-not-is_same-clause-any_moment g c tells =
+    let f = g.F.Folder in
+    let old = c.args.folder in
+    first_rests f.moment f.left_since old old
+    (IsAddedTo c.args.opening.now.blocks c.args.opening.now.floor)
+    (none_left f.shows f.kept f.moment f.left_since g.met.F.Folder.only_now old old c.requires.none.0
+    c.requires.none.1 (untouched f.shows f.kept f.moment f.left_since old))
+
+pub returns-then-not-is_same-clause-blocks : goal.returns-then-not-is_same-clause-blocks
+returns-then-not-is_same-clause-blocks g c has =
+    let f = g.F.Folder in
+    untouched f.shows f.kept f.moment f.left_since c.args.folder
+
+pub returns-then-not-is_same-clause-foreign : goal.returns-then-not-is_same-clause-foreign
+returns-then-not-is_same-clause-foreign g c =
+    let f = g.F.Folder in
+    foreign_rests f.shows f.kept c.args.folder

@@ -1,12 +1,13 @@
-use Rattle.std.proofs.Common.{map}
+use Rattle.std.proofs.Common.{map, refl}
 use Rattle.head.specs.Blocks.{part_in}
 use Rattle.head.specs.Heads.{world_of}
 use Rattle.store_folder.specs.States.{origin_of, started}
 use Rattle.store_joiner.specs.Adds.{with_beneath}
 use Rattle.store_joiner.specs.Stores.{IsAddedTo}
-use Rattle.store_joiner.proofs.Stores.{finds_then, if_err, if_ok, match_so, means_so}
-use Rattle.store_joiner.proofs.Stores.{then_finds}
-use Rattle.data_folder.proofs.Foreign.{foreign_then}
+use Rattle.store_joiner.proofs.Stores.{finds_then, if_both, if_err, match_so, means_so}
+use Rattle.store_folder.proofs.Starts.{stays_found}
+use Rattle.store_joiner.proofs.Stores.{stays, stays_now, then_finds}
+use Rattle.data_folder.proofs.Foreign.{foreign_rests, foreign_then}
 use Rattle.store_joiner.proofs.adding.add_found.Goals as goal
 
 pub returns-in-Ok-clause-any_moment : goal.returns-in-Ok-clause-any_moment
@@ -33,15 +34,16 @@ returns-in-Ok-clause-finds g c tells =
     let x = c.in-Ok.saved in
     let w = world_of (started x.store.journal.head (map part_in x.store.blocks.items)) in
     let after = c.in-Ok.ensures.after tells in
-    if_ok c.add_saved.result _ _
-    (λ y finds. (
+    if_both c.add_saved.result _ _ _
+    (λ y counted finds. (
       w,
       after.world,
+      counted,
       means_so f.moment f.left_since y.1
           (with_beneath c.args.opening.now.blocks c.args.opening.now.floor w)
           c.args.found.store.journal.head.values x.store.journal.head.values after.values finds,
     ))
-    c.add_saved.ensures.finds
+    c.add_saved.ensures.counted c.add_saved.ensures.finds
 
 pub returns-in-Ok-clause-stays : goal.returns-in-Ok-clause-stays
 returns-in-Ok-clause-stays g c tells =
@@ -65,3 +67,31 @@ returns-in-Ok-clause-foreign g c =
     c.in-Ok.ensures.foreign k)
     (λ e k. foreign_then f.shows f.kept c.args.found.folder c.in-Ok.saved.folder e.1
     c.in-Ok.ensures.foreign k) c.add_saved.ensures.foreign
+
+-- the values mean something else
+
+pub returns-then-not-has_values-clause-any_moment : goal.returns-then-not-has_values-clause-any_moment
+returns-then-not-has_values-clause-any_moment g c tells =
+    let f = g.F.Folder in
+    let s = c.args.found.store in
+    let parts = map part_in s.blocks.items in
+    stays f.moment f.left_since c.args.found.folder c.args.found.folder (origin_of s.journal.head parts)
+    s.journal.events.items (IsAddedTo c.args.opening.now.blocks c.args.opening.now.floor)
+    (stays_found f.shows f.kept f.sound f.moment f.left_since g.met.F.Folder.only_now
+    (origin_of s.journal.head parts) c.args.found.folder s.journal parts c.requires.found refl)
+
+pub returns-then-not-has_values-clause-stays : goal.returns-then-not-has_values-clause-stays
+returns-then-not-has_values-clause-stays g c tells unless =
+    let f = g.F.Folder in
+    let met = g.met.F.Folder in
+    let s = c.args.found.store in
+    let parts = map part_in s.blocks.items in
+    stays_now f.shows f.kept f.sound f.moment f.left_since met.only_now met.earlier
+    c.args.found.folder c.args.found.folder (origin_of s.journal.head parts) s.journal.events.items
+    (stays_found f.shows f.kept f.sound f.moment f.left_since met.only_now
+    (origin_of s.journal.head parts) c.args.found.folder s.journal parts c.requires.found refl)
+
+pub returns-then-not-has_values-clause-foreign : goal.returns-then-not-has_values-clause-foreign
+returns-then-not-has_values-clause-foreign g c =
+    let f = g.F.Folder in
+    foreign_rests f.shows f.kept c.args.found.folder

@@ -6,6 +6,7 @@ use Rattle.store_folder.specs.Origins.{Origin}
 use Rattle.store_folder.proofs.Starts.{stays_found}
 use Rattle.store_joiner.specs.Adds.{with_beneath}
 use Rattle.store_joiner.specs.Finds.{other_of}
+use Rattle.store_joiner.proofs.Adds.{counted}
 use Rattle.store_joiner.proofs.Stores.{finds_all, found_as, now_first}
 use Rattle.data_folder.proofs.Foreign.{foreign_rests}
 use Rattle.store_joiner.proofs.adding.add_saved.Goals as goal
@@ -52,3 +53,10 @@ pub returns-in-Err-clause-foreign : goal.returns-in-Err-clause-foreign
 returns-in-Err-clause-foreign g c =
     let f = g.F.Folder in
     foreign_rests f.shows f.kept c.args.found.folder
+
+pub returns-in-Ok-replace-clause-counted : goal.returns-in-Ok-replace-clause-counted
+returns-in-Ok-replace-clause-counted g c =
+    let s = c.args.found.store in
+    let o = c.args.opening.now in
+    counted o.blocks (map part_in s.blocks.items) o.floor g.N.Beginning.first s.journal.head
+    c.in-Ok.next c.count_of-total.result c.count_of-total.ensures c.in-Ok.ensures.world c.requires.first

@@ -10,7 +10,7 @@ use Rattle.store_folder.specs.declared.reading.FoundStore.{FoundStore}
 use Rattle.store_joiner.specs.Stores.{IsAddedTo, StandsOrFinds, StaysNow}
 use Rattle.store_joiner.proofs.Stores.{as_found, has_for, if_err, match_so, stays, stays_now}
 use Rattle.store_joiner.proofs.Stores.{then_stays, untouched_finds}
-use Rattle.std.proofs.Common.{◌≡◌, [], None, inl, inr, map, refl, rules}
+use Rattle.std.proofs.Common.{◌≡◌, ◌+◌, [], None, ap, inl, inr, length, map, refl, rules, sym, ◌∙◌}
 use Rattle.head.specs.Blocks.{part_in}
 use Rattle.head.specs.Worlds.{replayed}
 use Rattle.store_folder.specs.Starting.{nothing_saved}
@@ -18,7 +18,8 @@ use Rattle.store_folder.specs.Finding.{IsFoundStore}
 use Rattle.store_joiner.specs.Adds.{with_beneath}
 use Rattle.store_joiner.specs.Finds.{FindsNow, other_of}
 use Rattle.data_folder.proofs.Foreign.{foreign_beside, foreign_then}
-use Rattle.store_joiner.proofs.Stores.{if_ok}
+use Rattle.head_record.specs.Saved.{Saved}
+use Rattle.store_joiner.proofs.Stores.{if_both, of_ok}
 use Rattle.store_joiner.proofs.Changing.{changes_found, first_rests, none_left, not_none}
 use Rattle.store_joiner.proofs.Changing.{plain_changed, plain_found, plain_rests, some_of}
 use Rattle.head.specs.Worlds.{World}
@@ -172,12 +173,19 @@ returns-in-Some-clause-plain_finds g c tells file shown plain =
     let found = some_of c.in-Ok.opened s _ c.in-Some.is
     (c.in-Ok.ensures.plain tells file shown plain) in
     let store = plain_found f.shows f.kept mid s is found.1 in
-    if_ok c.add_found.result _ _
-    (λ x y. (let r = as_found (λ (first : Origin) (es : List Event). (replayed first.world es ≡ Ok y.0)
+    if_both c.add_found.result _ _ _
+    (λ x means y. (let r = as_found (λ (first : Origin) (es : List Event). (replayed first.world es ≡ Ok y.0)
     × FindsNow f.moment f.left_since x.1 (other_of first (with_beneath o.blocks o.floor y.0)))
-    nothing_saved [] s.journal.events.items s store (y.1, y.2) in
-    (s.journal.events.items, y.0, found.0, r.0, r.1)))
-    (c.add_found.ensures.finds tells)
+    nothing_saved [] s.journal.events.items s store (y.1, y.3) in (
+      s.journal.events.items,
+      y.0,
+      found.0,
+      r.0,
+      y.2,
+      sym means ∙ ap (λ (h : Saved). h.values) found.1,
+      r.1,
+    )))
+    (of_ok c.add_found.result _ c.add_found.ensures.meant) (c.add_found.ensures.finds tells)
 
 -- where no journal is
 
@@ -230,12 +238,13 @@ returns-in-Some-clause-finds g c tells saved parts events h plain =
     subst (λ (o : Option FoundStore). GivesStore (f.failed c.open_store.new.folder) saved parts
     events (found o)) c.in-Some.is
     (c.in-Ok.ensures.only tells h.file saved parts events h.has plain h.journal h.blocks) in
-    if_ok c.add_found.result _ _
-    (λ x finds. as_found (λ (o : Origin) (es : List Event). (w : World)
-    × (replayed o.world es ≡ Ok w)
+    if_both c.add_found.result _ _ _
+    (λ x means finds. (let y = as_found (λ (o : Origin) (es : List Event). (w : World)
+    × (replayed o.world es ≡ Ok w) × (x.0 ≡ length b.blocks + w.blocks)
     × FindsNow f.moment f.left_since x.1 (other_of o (with_beneath b.blocks b.floor w)))
-    saved parts events c.in-Some.store is finds)
-    (c.add_found.ensures.finds tells)
+    saved parts events c.in-Some.store is finds in
+    (y.0, y.1, y.2, sym (ap (λ (h : Saved). h.values) is.head) ∙ means, y.3)))
+    (of_ok c.add_found.result _ c.add_found.ensures.meant) (c.add_found.ensures.finds tells)
 
 -- a store is begun
 
@@ -278,3 +287,19 @@ returns-in-None-clause-foreign g c =
     match_so c.add_first.result _ _ _ _
     (λ x k. foreign_then f.shows f.kept old mid x.1 before k)
     (λ e k. foreign_then f.shows f.kept old mid e.1 before k) c.add_first.ensures.foreign
+
+pub returns-in-None-clause-nothing : goal.returns-in-None-clause-nothing
+returns-in-None-clause-nothing g c =
+    let f = g.F.Folder in
+    let earlier = g.met.F.Folder.earlier in
+    let old = c.args.folder in
+    let mid = c.open_store.new.folder in
+    if_err c.add_first.result _ _
+    (λ e u is. untouched_on f.shows f.kept f.moment f.left_since earlier old mid e.1
+    (c.in-Ok.ensures.nothing (ap found c.in-None.is)) (u is))
+    c.add_first.ensures.nothing
+
+pub returns-in-None-clause-first_finds : goal.returns-in-None-clause-first_finds
+returns-in-None-clause-first_finds g c tells shown =
+    if_both c.add_first.result _ _ _ (λ x means finds. (finds.0, means, finds.1))
+    (of_ok c.add_first.result _ c.add_first.ensures.meant) (c.add_first.ensures.finds tells)

@@ -28,8 +28,8 @@ returns-in-Ok-false-clause-foreign g c =
     (λ e k. foreign_then f.shows f.kept old mid e.1 before k)
     c.begin_again.ensures.foreign
 
-pub returns-in_default-clause-any_moment : goal.returns-in_default-clause-any_moment
-returns-in_default-clause-any_moment g c =
+pub returns-in-Ok-true-clause-any_moment : goal.returns-in-Ok-true-clause-any_moment
+returns-in-Ok-true-clause-any_moment g c =
     let f = g.F.Folder in
     none_left f.shows f.kept f.moment f.left_since g.met.F.Folder.only_now c.args.folder
     c.has_blocks.new.folder c.requires.none.0 c.requires.none.1 c.has_blocks.ensures.untouched

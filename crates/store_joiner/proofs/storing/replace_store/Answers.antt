@@ -7,8 +7,10 @@ use Rattle.journal.specs.Group.{IsJournalText}
 use Rattle.data_folder.specs.Sweeping.{KeepsStore}
 use Rattle.data_folder.proofs.Moments.{joined}
 use Rattle.store_folder.specs.Sweeps.{names_at}
-use Rattle.store_folder.specs.Writing.{places_from}
+use Rattle.block_folder.specs.declared.values.Values.{Values}
+use Rattle.store_folder.specs.Writing.{EachSays, places_from}
 use Rattle.store_folder.proofs.Rolls.{goes_on}
+use Rattle.store_folder.proofs.Says.{files_apart, says_on}
 use Rattle.store_joiner.specs.Finds.{other_of}
 use Rattle.store_joiner.proofs.Joins.{as_before, begun_anew, counted, finds_first}
 use Rattle.store_joiner.proofs.Joins.{finds_other}
@@ -312,3 +314,27 @@ returns-in-Ok-roll-clause-foreign g c =
     c.roll.ensures.others))
     (foreign_kept f.shows f.kept f.sound f.moment f.left_since _ c.roll.new.journal.medium.folder
     c.sweep_apart.new.folder c.sweep_apart.ensures.kept)
+
+-- what the meta.json of its blocks says
+
+pub returns-in-Ok-roll-clause-says : goal.returns-in-Ok-roll-clause-says
+returns-in-Ok-roll-clause-says g c =
+    let f = g.F.Folder in
+    let values = g.N.Beginning.first.values in
+    let n = length c.args.next.now.blocks - 0 in
+    let written = places_from c.next_number.result n in
+    let mid = c.write_saved.new.folder in
+    let new = c.roll.new.journal.medium.folder in
+    let last = c.sweep_apart.new.folder in
+    let says =
+    subst (λ (v : Values). EachSays f.shows f.kept v written mid) c.values-values.ensures
+    c.in-Ok.ensures.says in
+    let rolled = says_on f.shows f.kept values written mid new
+    (λ files among there. c.in-Ok-roll.ensures.files files (files_apart written files among) there) says in
+    let named = c.in-Ok-from_slice.ensures.items ∙ c.places.ensures
+    ∙ ap (λ (h : Saved). h.places) c.in-Ok.ensures.saved in
+    let swept = subst (λ (ps : List Place). KeepsStore f.shows f.kept f.sound f.moment f.left_since
+    (names_at ps) new last) (c.deref-in-Ok-roll.ensures.value ∙ named) c.sweep_apart.ensures.kept in
+    subst (λ (ps : List Place). EachSays f.shows f.kept values ps last) (sym named)
+    (says_on f.shows f.kept values written new last
+    (λ files among there. swept.files files among there) rolled)
