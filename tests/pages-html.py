@@ -417,10 +417,10 @@ def of_doubles(rng):
     yield Case("doubles", reply, words, checks=[has("The values are doubles")])
     yield Case("numbers-of-doubles", reply, two, checks=[lacks("The values are doubles")])
     nan = 0x7FF0000000000002
-    paths = lambda name, page: holds(f"{name}: no line of NaNs", "<path" not in page.split('id="rows"')[1])
+    paths = lambda name, page: holds(f"{name}: no line of NaNs", "<path" not in page.split('id="rows"')[-1])
     yield Case("stale", of_numbers([[nan, nan]]), words, checks=[paths])
     yield Case("text-doubles", reply, [*words, "--text"])
-    yield Case("other-values", reply, [*two, "--values", "whole"], status=2,
+    yield Case("other-values", reply, [*two, "--values", "whole"], status=1,
                checks=[lambda name, page: holds(f"{name}: no page", page == "")])
 
 

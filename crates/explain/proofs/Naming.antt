@@ -18,7 +18,7 @@ use Rattle.audit_command.specs.declared.fault.Fault.TheVariants.{Memory}
 use Rattle.explain.specs.Series.{named_texts, BreakRule, IsLabelsFault, labels_fault}
 use Rattle.explain.specs.Series.{selector_fault, IsSeriesFault, by_selector, by_labels}
 use Rattle.explain.specs.declared.fault.Fault.{Fault}
-use Rattle.explain.specs.declared.fault.Fault.TheVariants.{Audit, NoSeries}
+use Rattle.explain.specs.declared.fault.Fault.TheVariants.{Audit, NoSeries, NoMeaning}
 
 abbrev ok_of : Labels → Result Labels LabelError
 ok_of labels = Ok labels
@@ -59,6 +59,7 @@ why_no_selector text PatternRefused refused = by_selector PatternRefused refused
 pub why_no_series : (text : List ℕ) (matchers : List MatcherView) → IsAccepted text matchers
     → (fault : Fault) → IsLabelsFault matchers fault → IsSeriesFault text fault
 why_no_series text matchers accepted NoSeries h = by_labels matchers accepted h
+why_no_series text matchers accepted NoMeaning h = h
 why_no_series text matchers accepted (Audit Memory) h = tt
 why_no_series text matchers accepted (Audit BadReply) h = h
 why_no_series text matchers accepted (Audit CannotReadInput) h = h

@@ -3,8 +3,9 @@ use Rattle.std.proofs.Common.{ℕ, List, Option}
 use Rattle.audit_command.proofs.Endings as audits
 use Rattle.explain.specs.Running.{KeepsAt}
 use Rattle.explain.specs.declared.fault.Fault.{Fault}
-use Rattle.explain.specs.declared.fault.Fault.TheVariants.{Audit, NoSeries}
+use Rattle.explain.specs.declared.fault.Fault.TheVariants.{Audit, NoSeries, NoMeaning}
 
 pub unused : (fault : Fault) (old : Option (List ℕ)) → KeepsAt fault old old
 unused (Audit fault) old = audits.unused fault old
 unused NoSeries old = audits.keeps_itself old
+unused NoMeaning old = audits.keeps_itself old

@@ -16,7 +16,7 @@ use Rattle.matchers.specs.declared.matcher.Op.{Op}
 use Rattle.matchers.specs.declared.matcher.Op.TheVariants.{Equal, NotEqual, Like, NotLike}
 use Rattle.audit_command.specs.declared.fault.Fault.TheVariants as faults
 use Rattle.explain.specs.declared.fault.Fault.{Fault}
-use Rattle.explain.specs.declared.fault.Fault.TheVariants.{Audit, NoSeries}
+use Rattle.explain.specs.declared.fault.Fault.TheVariants.{Audit, NoSeries, NoMeaning}
 
 abbrev pub is_equal : Op → Bool
 is_equal Equal = true
@@ -44,6 +44,7 @@ pub record BreakRule (matchers : List MatcherView) : Type 0 where
 -- why they are no label set: by a rule that they break, or memory failed
 abbrev pub IsLabelsFault : List MatcherView → Fault → Type 0
 IsLabelsFault matchers NoSeries = BreakRule matchers
+IsLabelsFault matchers NoMeaning = ⊥
 IsLabelsFault matchers (Audit faults.Memory) = Unit {0}
 IsLabelsFault matchers (Audit _) = ⊥
 
@@ -82,5 +83,6 @@ pub data IsNoSeries (text : List ℕ) : Type 0 where
 -- why no series is read: the text is none, or memory failed
 abbrev pub IsSeriesFault : List ℕ → Fault → Type 0
 IsSeriesFault text NoSeries = IsNoSeries text
+IsSeriesFault text NoMeaning = ⊥
 IsSeriesFault text (Audit faults.Memory) = Unit {0}
 IsSeriesFault text (Audit _) = ⊥

@@ -1,8 +1,9 @@
 -- What a page shows, and why there is none.
 use Rattle.std.specs.Prelude.{◌≡◌, ℕ, Bool, true, false, List, [], ◌∷◌, Option, None, Some, length}
-use Rattle.std.specs.Prelude.{map, option_map}
+use Rattle.std.specs.Prelude.{map, option_map, codes, if◌then◌else◌}
 use Rattle.std.specs.List.{flat_map}
 use Rattle.std.specs.Option.{option_copied}
+use Rattle.std.specs.Str.{bytes_eq}
 use Rattle.labels.specs.Labels.{Labels}
 use Rattle.matchers.specs.Views.{QueryView}
 use Rattle.reply_reader.specs.Replies.{text_said, told_of}
@@ -14,6 +15,8 @@ use Rattle.sha2.specs.Sha256.{sha256}
 use Rattle.page_claims.specs.Judging.{place_of}
 use Rattle.page_claims.specs.declared.told.Told.{Told}
 use Rattle.page.specs.Pages.{IsPageOf, IsTextOf}
+use Rattle.page_text.specs.declared.value.Values.{Values}
+use Rattle.page_text.specs.declared.value.Values.TheVariants.{Whole, Doubles}
 use Rattle.page.specs.declared.shown.Shown.{Shown}
 use Rattle.page.specs.declared.write.Page.{Page}
 use Rattle.audit_command.specs.Asking.{directories_of}
@@ -26,7 +29,7 @@ use Rattle.explain.specs.Series.{IsSeries, IsSeriesFault}
 use Rattle.explain.specs.declared.answer.Found.{Found}
 use Rattle.explain.specs.declared.command.Asked.{Asked}
 use Rattle.explain.specs.declared.fault.Fault.{Fault}
-use Rattle.explain.specs.declared.fault.Fault.TheVariants.{Audit, NoSeries}
+use Rattle.explain.specs.declared.fault.Fault.TheVariants.{Audit, NoSeries, NoMeaning}
 
 -- the label set of the text, or none where no text is
 abbrev pub IsAboutText : Option (List ℕ) → Option Labels → Type 0
@@ -51,10 +54,25 @@ IsAboutTextFault (Some text) fault = IsSeriesFault text fault
 abbrev pub IsAboutFault : Asked → Fault → Type 0
 IsAboutFault asked fault = IsAboutTextFault (about_text asked) fault
 
+-- what values mean: whole numbers if nothing is said of them, and doubles if that is said
+abbrev pub meaning_of : Option (List ℕ) → Option Values
+meaning_of None = Some Whole
+meaning_of (Some text) = if bytes_eq text (codes "doubles") then Some Doubles else None
+
+-- what the values are said to mean, if it is a meaning
+abbrev pub values_of : Asked → Option Values
+values_of asked = meaning_of (option_map (λ text. text.now) asked.values)
+
+-- what is said of the values is no meaning of them
+pub record IsNoMeaning (asked : Asked) (fault : Fault) : Type 0 where
+  pub none : values_of asked ≡ None
+  pub fault_is : fault ≡ NoMeaning
+
 -- a fault of the audit's own
 abbrev pub IsAuditFault : (AuditFault → Type 0) → Fault → Type 0
 IsAuditFault cause (Audit fault) = cause fault
 IsAuditFault cause NoSeries = ⊥
+IsAuditFault cause NoMeaning = ⊥
 
 -- what was done with each part of the reply that the text says, its answers and its rows
 pub record IsToldIn (text : List ℕ) (told : Told) : Type 0 where
@@ -81,20 +99,20 @@ pub record HasRead (reads : Host) (input : Option (List ℕ)) (asked : Asked) (f
     : Type 0 where
   pub is_query : IsQueryOf asked.audit found.query
   pub is_about : IsAbout asked found.about
+  pub is_meaning : values_of asked ≡ Some found.values
   pub all : IsAllOf input found.text.items
   pub is_told : IsToldIn found.text.items found.told
   pub are_tables : AreTablesAt reads (directories_of asked.audit) found.tables.items
   pub are_lines : AreLinesOf found.tables.items found.query found.text.items found.lines.items
 
--- what is shown is what was read, by what its values are said to mean, with the length and the
--- SHA-256 of the reply
+-- what is shown is what was read, with the length and the SHA-256 of the reply
 pub record Shows (asked : Asked) (found : Found) (shown : Shown) : Type 0 where
   pub selector : shown.selector ≡ asked.audit.selector
   pub query : shown.query.now ≡ found.query
   pub told : shown.told.now ≡ found.told
   pub tables : shown.tables.now ≡ found.tables.items
   pub lines : shown.lines.now ≡ found.lines.items
-  pub values : shown.values ≡ asked.values
+  pub values : shown.values ≡ found.values
   pub about : option_copied shown.about ≡ found.about
   pub length_is : shown.length ≡ length found.text.items
   pub digest_is : shown.digest ≡ sha256 found.text.items
@@ -118,10 +136,16 @@ pub record IsAnswer (reads : Host) (input : Option (List ℕ)) (asked : Asked) (
   pub page_of_found : IsPageOfFound asked found page
 
 -- the query is accepted, and so is the series that somebody asks about
-pub record IsTaken (asked : Asked) : Type 0 where
+pub record IsNamed (asked : Asked) : Type 0 where
   pub query : IsAllowed asked.audit
   pub about : Option Labels
   pub is_about : IsAbout asked about
+
+-- and so is what is said of the values
+pub record IsTaken (asked : Asked) : Type 0 where
+  pub named : IsNamed asked
+  pub values : Values
+  pub is_meaning : values_of asked ≡ Some values
 
 -- what the reader holds is a reply
 pub record HoldsReply (input : Option (List ℕ)) : Type 0 where
@@ -131,14 +155,15 @@ pub record HoldsReply (input : Option (List ℕ)) : Type 0 where
   pub is_told : IsToldIn text told
 
 -- Why no page is written: by the query; by the series that is asked about, if the query is
--- accepted; by the reply, if both are; by the directories, if there is a reply too; or by the
--- writer, if there is a page.
+-- accepted; by what is said of the values, if both are; by the reply, if all are; by the
+-- directories, if there is a reply too; or by the writer, if there is a page.
 pub data IsAnswerFault (reads : Host) (input : Option (List ℕ)) (asked : Asked)
     (fault : Fault) : Type 0 where
   by_query : IsAuditFault (IsSelectionFault asked.audit) fault
       → IsAnswerFault reads input asked fault
   by_series : IsAllowed asked.audit → IsAboutFault asked fault
       → IsAnswerFault reads input asked fault
+  by_values : IsNamed asked → IsNoMeaning asked fault → IsAnswerFault reads input asked fault
   by_reply : IsTaken asked → IsAuditFault (IsReplyFault input) fault
       → IsAnswerFault reads input asked fault
   by_directories : IsTaken asked → HoldsReply input

@@ -1,10 +1,10 @@
 //! The page of a reply.
 
-ghost use Rattle.std.specs.Prelude.{IfOk, IfErr};
+ghost use Rattle.std.specs.Prelude.{◌≡◌, Some, IfOk, IfErr};
 ghost use Rattle.audit_command.specs.Auditing.{IsTextFault};
 ghost use Rattle.explain.specs.Showing.{IsAbout, IsAboutFault, IsAuditFault, IsToldIn};
 ghost use Rattle.explain.specs.Showing.{AreLinesOf, IsShownAs, HasRead, IsPageOfFound};
-ghost use Rattle.explain.specs.Showing.{Shows, IsAnswer, IsAnswerFault};
+ghost use Rattle.explain.specs.Showing.{Shows, IsAnswer, IsAnswerFault, values_of, IsNoMeaning};
 
 use crate::command::Asked;
 use crate::fault::Fault;
@@ -15,6 +15,7 @@ use labels::LabelSet;
 use matchers::Query;
 use page::{Page, Shown, write_page, write_text};
 use page_claims::Told;
+use page_text::Values;
 use sha2::{Digest, Sha256};
 use std::alloc::{AllocError, Global};
 use std::io::Read;
@@ -27,6 +28,23 @@ fn about_of(alloc: Global, asked: &Asked<'_>) -> Result<Option<LabelSet>, Fault>
     match asked.about {
         Some(text) => Ok(Some(series_of(alloc, text)?)),
         None => Ok(None),
+    }
+}
+
+/// What the values mean.
+fn values_of(asked: &Asked<'_>) -> Result<Values, Fault>
+    ensures ok { IfOk result (λ values. values_of asked.now ≡ Some values) }
+    ensures err { IfErr result (λ fault. IsNoMeaning asked.now fault) }
+{
+    match asked.values {
+        None => Ok(Values::Whole),
+        Some(text) => {
+            if text == "doubles" {
+                Ok(Values::Doubles)
+            } else {
+                Err(Fault::NoMeaning)
+            }
+        }
     }
 }
 
@@ -67,12 +85,13 @@ fn write_shown(alloc: Global, text: bool, shown: &Shown<'_>) -> Result<Page, All
     }
 }
 
-/// What was read: the query, the series that somebody asks about, the text of the reply and what it
-/// says, what is known of the blocks, and what the auditor says of the reply.
+/// What was read: the query, the series that somebody asks about, what the values mean, the text of
+/// the reply and what it says, what is known of the blocks, and what the auditor says of the reply.
 #[derive(Drop)]
 pub struct Found {
     pub query: Query,
     pub about: Option<LabelSet>,
+    pub values: Values,
     pub text: Vec<u8>,
     pub told: Told,
     pub tables: Vec<BlockTable>,
@@ -93,6 +112,7 @@ fn read_all<F: ReadFiles, R: Read>(
 {
     let query = query_of(alloc, &asked.audit)?;
     let about = about_of(alloc, asked)?;
+    let values = values_of(asked)?;
     let text = all_of(alloc, input)?;
     let told = told_in(alloc, text.as_slice())?;
     let tables = tables_at(alloc, files, asked.audit.directories.as_slice())?;
@@ -100,6 +120,7 @@ fn read_all<F: ReadFiles, R: Read>(
     Ok(Found {
         query,
         about,
+        values,
         text,
         told,
         tables,
@@ -130,7 +151,7 @@ fn page_of(alloc: Global, asked: &Asked<'_>, found: &Found) -> Result<Page, Allo
         told: &found.told,
         tables: found.tables.as_slice(),
         lines: found.lines.as_slice(),
-        values: asked.values,
+        values: found.values,
         about: found.about.as_ref(),
         length: found.text.len() as u64,
         digest: Sha256::digest(found.text.as_slice()),
@@ -140,8 +161,8 @@ fn page_of(alloc: Global, asked: &Asked<'_>, found: &Found) -> Result<Page, Allo
 
 /// The page of the reply that a reader gives.
 ///
-/// The selector is checked, then the range, then the series that is asked about; then the reply is
-/// read, to its end, and then the files in each directory, in the order given. The page shows what
+/// The selector is checked, then the range, then the series that is asked about, then what is said
+/// of the values; then the reply is read, to its end, and then the files in each directory, in the order given. The page shows what
 /// was read, and what the auditor says of it if a directory was given.
 pub fn answer<F: ReadFiles, R: Read>(
     alloc: Global,

@@ -6,13 +6,10 @@ ghost use Rattle.clap.specs.Words.{app_of, rule_of, rows_of, first_of, one_of, m
 ghost use Rattle.clap.specs.Words.{fault_of, FailsBy};
 ghost use Rattle.audit_command.specs.Asking.{texts_of};
 ghost use Rattle.explain.specs.Asking.{about_rule, text_rule, values_rule, named_app};
-ghost use Rattle.explain.specs.Asking.{explain_app, IsFlagIn, meaning_of, IsAskedIn};
-ghost use Rattle.explain.specs.Asking.{IsAskedBy};
+ghost use Rattle.explain.specs.Asking.{explain_app, IsFlagIn, IsAskedIn, IsAskedBy};
 
 use audit_command::{Asked as AuditAsked, asked_in as audit_in, with_arguments};
-use clap::builder::ValueParser;
 use clap::{Arg, ArgAction, ArgMatches, Command, Error};
-use page_text::Values;
 use std::alloc::{AllocError, Global};
 
 /// What the words ask for, as it was written: nothing is checked.
@@ -24,8 +21,8 @@ pub struct Asked<'a> {
     pub about: Option<&'a str>,
     /// Whether the page is to be a text for a terminal.
     pub text: bool,
-    /// What the values of the reply mean: whole numbers, if nothing is said of them.
-    pub values: Values,
+    /// What the values of the reply are said to mean.
+    pub values: Option<&'a str>,
 }
 
 const LINES: &str =
@@ -41,9 +38,9 @@ reply does not say what its values mean: the store's blocks do.
 selector is, with = alone. --text writes the claim, the key, a strip of letters for each part and
 that sentence.
 
-Exit status: 0 the page says that no series is missing; 1 it does not, or the selector, the range or
-the series is refused; 2 a fault of the words; 3 a file or standard input cannot be read, or it
-holds no reply, or the page cannot be written; 4 no memory
+Exit status: 0 the page says that no series is missing; 1 it does not, or the selector, the range,
+the series or the meaning of values is refused; 2 a fault of the words; 3 a file or standard input
+cannot be read, or it holds no reply, or the page cannot be written; 4 no memory
 
 Example: querier select up data/0001 | explain --selector up data/0001 >answer.html"#;
 
@@ -72,9 +69,6 @@ fn text<'a>(alloc: Global) -> Arg<'a>
         .help("Writes a text of 80 columns for a terminal, and no HTML")
 }
 
-/// What can be said of values.
-const MEANINGS: &[&str] = &["doubles"];
-
 /// The option `--values doubles`.
 fn values<'a>(alloc: Global) -> Arg<'a>
     ensures rule { rule_of result ≡ values_rule }
@@ -83,8 +77,7 @@ fn values<'a>(alloc: Global) -> Arg<'a>
     Arg::new(alloc, "values")
         .long("values")
         .value_name("WHAT")
-        .value_parser(ValueParser::from(MEANINGS))
-        .help("What values are, if not whole numbers")
+        .help("What values are, if not whole numbers: doubles")
 }
 
 /// The program, without its arguments.
@@ -124,20 +117,11 @@ fn text_in(found: &ArgMatches<'_>) -> bool
     found.get_flag("text")
 }
 
-/// What values mean, if this is said of them, or nothing.
-fn meaning_of(said: Option<&str>) -> Values
-    ensures { result ≡ meaning_of (option_map (λ text. text.now) said) }
+fn values_in<'a>(found: &ArgMatches<'a>) -> Option<&'a str>
+    ensures { option_map (λ text. text.now) result
+        ≡ first_of (codes "values") (rows_of (found_of found.now)) }
 {
-    match said {
-        Some(text) if text == "doubles" => Values::Doubles,
-        _ => Values::Whole,
-    }
-}
-
-fn values_in(found: &ArgMatches<'_>) -> Values
-    ensures { result ≡ meaning_of (first_of (codes "values") (rows_of (found_of found.now))) }
-{
-    meaning_of(found.get_str("values"))
+    found.get_str("values")
 }
 
 fn asked_in<'a>(alloc: Global, found: &ArgMatches<'a>) -> Result<Asked<'a>, AllocError>

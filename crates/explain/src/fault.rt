@@ -15,6 +15,8 @@ pub enum Fault {
     Audit(AuditFault),
     /// What is asked about is no series.
     NoSeries,
+    /// What is said of values is no meaning of them.
+    NoMeaning,
 }
 
 impl Fault {
@@ -25,7 +27,7 @@ impl Fault {
     {
         match self {
             Fault::Audit(fault) => fault.status(),
-            Fault::NoSeries => 1,
+            Fault::NoSeries | Fault::NoMeaning => 1,
         }
     }
 
@@ -37,6 +39,7 @@ impl Fault {
         match self {
             Fault::Audit(fault) => fault.tell(to),
             Fault::NoSeries => writeln!(to, "refused --about: no series"),
+            Fault::NoMeaning => writeln!(to, "refused --values: no meaning"),
         }
     }
 }

@@ -1,16 +1,16 @@
 //! How far below the top of a sparkline a value stands.
 
+ghost use Rattle.std.specs.Prelude.{◌≡◌};
+ghost use Rattle.double_text.specs.Texts.{is_nan_bits};
+
 use page_claims::Figures;
 use page_layout::share;
 use page_text::Values;
 use stored_doubles::restored;
 
-/// The place of a row's greatest value, and of its least.
-const TOP: u64 = 2;
-
+/// The place of a row's least value; that of its greatest stands so many steps above it.
 const BOTTOM: u64 = 26;
 
-/// How many steps there are from the one to the other.
 const STEPS: u64 = 24;
 
 /// The place of each value of a row whose values are all the same.
@@ -21,10 +21,23 @@ const MIDDLE: u64 = 14;
 pub(crate) enum Scale {
     Whole { least: i64, greatest: i64 },
     Doubles { least: f64, greatest: f64 },
+    /// There is no double but NaNs.
+    Nothing,
 }
 
-fn double_of(number: i64) -> f64 {
-    f64::from_bits(restored(number))
+fn is_nan(bits: u64) -> bool
+    ensures { result ≡ is_nan_bits bits }
+{
+    bits % 0x8000_0000_0000_0000 > 0x7FF0_0000_0000_0000
+}
+
+/// The double for which a number is kept, if it is no NaN.
+fn double_of(number: i64) -> Option<f64> {
+    let bits = restored(number);
+    if is_nan(bits) {
+        return None;
+    }
+    Some(f64::from_bits(bits))
 }
 
 /// How many steps above the least a double stands.
@@ -41,34 +54,6 @@ fn steps_above(value: f64, least: f64, greatest: f64) -> u64 {
     steps
 }
 
-impl Scale {
-    /// The scale of a row with these figures.
-    pub(crate) fn new(values: Values, figures: Figures) -> Scale {
-        let Figures {
-            least,
-            greatest,
-            ..
-        } = figures;
-        match values {
-            Values::Whole => Scale::Whole { least, greatest },
-            Values::Doubles => Scale::Doubles {
-                least: double_of(least),
-                greatest: double_of(greatest),
-            },
-        }
-    }
-
-    /// Where a value stands, from [`TOP`] to [`BOTTOM`]; a NaN stands nowhere.
-    pub(crate) fn height_of(self, number: i64) -> Option<u64> {
-        match self {
-            Scale::Whole { least, greatest } => Some(whole_height(number, least, greatest)),
-            Scale::Doubles { least, greatest } => {
-                double_height(double_of(number), least, greatest)
-            }
-        }
-    }
-}
-
 fn whole_height(value: i64, least: i64, greatest: i64) -> u64 {
     let span = greatest.abs_diff(least);
     if span == 0 {
@@ -77,12 +62,38 @@ fn whole_height(value: i64, least: i64, greatest: i64) -> u64 {
     BOTTOM.saturating_sub(share(value.abs_diff(least), span, STEPS))
 }
 
-fn double_height(value: f64, least: f64, greatest: f64) -> Option<u64> {
-    if value.is_nan() {
-        return None;
-    }
+fn double_height(value: f64, least: f64, greatest: f64) -> u64 {
     if least == greatest {
-        return Some(MIDDLE);
+        return MIDDLE;
     }
-    Some(BOTTOM.saturating_sub(steps_above(value, least, greatest)))
+    BOTTOM.saturating_sub(steps_above(value, least, greatest))
+}
+
+impl Scale {
+    /// The scale of a row with these figures.
+    pub(crate) fn new(values: Values, figures: Figures) -> Scale {
+        let Figures {
+            least,
+            greatest,
+            ..
+        } = figures;
+        if values == Values::Whole {
+            return Scale::Whole { least, greatest };
+        }
+        match (double_of(least), double_of(greatest)) {
+            (Some(least), Some(greatest)) => Scale::Doubles { least, greatest },
+            _ => Scale::Nothing,
+        }
+    }
+
+    /// Where a value stands, as so many units below the top; a NaN stands nowhere.
+    pub(crate) fn height_of(self, number: i64) -> Option<u64> {
+        match self {
+            Scale::Whole { least, greatest } => Some(whole_height(number, least, greatest)),
+            Scale::Doubles { least, greatest } => {
+                Some(double_height(double_of(number)?, least, greatest))
+            }
+            Scale::Nothing => None,
+        }
+    }
 }
