@@ -1,0 +1,9 @@
+//! The journal of a kept store, as an auditor reads it.
+//!
+//! A [`Kept`] is what the file says: what the values mean, the floor, the folders of the blocks,
+//! the series of the head, and the changes behind it, each a [`Change`].
+#![tactic(auto)]
+
+mod kept;
+
+pub use kept::{Change, Kept, KeptSeries, Values};
