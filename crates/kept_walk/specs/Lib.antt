@@ -1,1 +1,5 @@
+pub mod Contents
+pub mod Fields
+pub mod Forms
 pub mod Kept
+pub mod Reading

@@ -4,6 +4,7 @@
 //! the series of the head, and the changes behind it, each a [`Change`].
 #![tactic(auto)]
 
+mod fault;
 mod kept;
 
 pub use kept::{Change, Kept, KeptSeries, Values};
