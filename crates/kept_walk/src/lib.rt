@@ -5,6 +5,9 @@
 #![tactic(auto)]
 
 mod fault;
+mod fields;
 mod kept;
+mod neighbours;
+mod parts;
 
 pub use kept::{Change, Kept, KeptSeries, Values};
