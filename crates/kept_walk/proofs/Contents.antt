@@ -21,11 +21,12 @@ use Rattle.kept_walk.specs.Contents.{SpellsEvent, SpellsSeries, SpellsOpening}
 use Rattle.kept_walk.specs.Fields as form
 use Rattle.kept_walk.specs.Forms.{Form, octet, number, signed, string, both, list, such, shown}
 use Rattle.kept_walk.specs.Kept.{Event, batch, deletion, cut, Series}
+use Rattle.kept_walk.specs.Outcome.{Finds, Gives}
 use Rattle.kept_walk.specs.Reading.{Reader, octet_at, number_at, signed_at, string_at, such_at, as_at}
 use Rattle.kept_walk.specs.Reading.{both_at, list_at, all_of, pair_at, labels_at, sample_at}
 use Rattle.kept_walk.specs.Reading.{samples_at, run_at, runs_at, op_of, matcher_of, matcher_at}
 use Rattle.kept_walk.specs.Reading.{deletion_at, place_at, opening_at, series_in, series_at}
-use Rattle.kept_walk.specs.Reading.{by_kind, event_at, if_bounded, event_of, series_of}
+use Rattle.kept_walk.specs.Reading.{removal, by_kind, event_at, if_bounded, event_of, series_of}
 use Rattle.kept_walk.specs.Reading.{Opening, opening_whole, opening_of}
 use Rattle.kept_walk.proofs.Readers.{Takes, Reads, Spells, octet_reads, number_reads, signed_reads}
 use Rattle.kept_walk.proofs.Readers.{string_reads, both_reads, such_reads, list_reads, as_reads}
@@ -157,9 +158,6 @@ as_event kind f at one meant text has bytes x fits h =
       behind = first.behind;
     })
 
-abbrev deletion_of : List MatcherView × (ℤ × ℤ) → Event
-deletion_of x = deletion x.0 x.1.0 x.1.1
-
 abbrev refused : Result (Event × List ℕ) Fault
 refused = Err faults.Form
 
@@ -175,7 +173,7 @@ kind_takes : (kind : ℕ) (bytes : List ℕ) (x : Event × List ℕ) → IsBytes
 kind_takes (suc zero) bytes x fits h =
     as_event 1 form.runs runs_at runs_reads batch (λ a. refl) (λ a i. i) bytes x fits h
 kind_takes (suc (suc zero)) bytes x fits h =
-    as_event 2 form.deletion_parts deletion_at deletion_reads deletion_of (λ a. refl) (λ a i. i) bytes x fits h
+    as_event 2 form.deletion_parts deletion_at deletion_reads removal (λ a. refl) (λ a i. i) bytes x fits h
 kind_takes (suc (suc (suc zero))) bytes x fits h =
     as_event 3 signed signed_at signed_reads cut (λ a. refl) (λ a i. i) bytes x fits h
 kind_takes zero bytes x fits h = absurd (let none : refused ≡ Ok x = h in cc)
@@ -289,3 +287,16 @@ opening_read content (Doubles, said) h =
     let whole = all_again form.opening opening_at opening_reads (form.opening.text said) said
     (record { text = refl; fits = h.fits }) in
     ap opening_of h.text ∙ rw whole refl
+
+differ : {A : Type 0} (read : Result A Fault) (a : A) → read ≡ Err faults.Form → read ≡ Ok a → ⊥
+differ (Ok x) a e o = absurd cc
+differ (Err f) a e o = absurd cc
+
+-- what is found, and that nothing is where the form is another
+
+pub finds : {X A : Type 0} (view : X → A) (P : A → Type 0) (result : Result X Fault)
+    (read : Result A Fault) → Gives view result read → ((a : A) → read ≡ Ok a → P a)
+    → ((a : A) → P a → read ≡ Ok a) → Finds view P result
+finds view P (Ok x) read g found again = found (view x) g
+finds view P (Err faults.Memory) read g found again = tt
+finds view P (Err faults.Form) read g found again = λ a p. differ read a g (again a p)

@@ -1,4 +1,6 @@
 pub mod Contents
+pub mod Counts
+pub mod InTurn
 pub mod LabelSets
 pub mod Loops
 pub mod NextTo

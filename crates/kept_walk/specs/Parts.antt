@@ -1,7 +1,10 @@
--- What is read of an event, without where it lies in memory.
-use Rattle.std.specs.Prelude.{List, map}
+-- What is read, without where it lies in memory.
+use Rattle.std.specs.Prelude.{List, [], map}
 use Rattle.matchers.specs.Views.{MatcherView}
-use Rattle.kept_walk.specs.Kept.{Event, batch, deletion, cut}
+use Rattle.kept_walk.specs.Kept.{Event, batch, deletion, cut, Store}
+use Rattle.kept_walk.specs.Reading.{Opening}
+use Rattle.kept_walk.specs.declared.parts.HeadParts.{HeadParts}
+use Rattle.kept_walk.specs.declared.parts.OpeningParts.{OpeningParts}
 use Rattle.kept_walk.specs.declared.parts.MatcherParts.{MatcherParts}
 use Rattle.kept_walk.specs.declared.parts.EventParts.{EventParts}
 use Rattle.kept_walk.specs.declared.parts.EventParts.TheVariants.{Batch, Deletion, Cut}
@@ -16,3 +19,17 @@ abbrev pub event_in : EventParts → Event
 event_in (Batch runs) = batch runs.items
 event_in (Deletion matchers from to) = deletion (matchers_in matchers.items) from to
 event_in (Cut time) = cut time
+
+-- what a first content says
+abbrev pub opening_in : OpeningParts → Opening
+opening_in o = (o.values, (o.floor, (o.places.items, o.count)))
+
+-- the head of a store, of which nothing is known behind it
+abbrev pub head_in : HeadParts → Store
+head_in h = record {
+  values = h.values;
+  floor = h.floor;
+  folders = h.folders.items;
+  head = h.series.items;
+  events = [];
+}

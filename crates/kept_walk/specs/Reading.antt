@@ -124,10 +124,13 @@ all_of at bytes = do
 
 -- contents, by their kinds
 
+abbrev pub removal : List MatcherView × (ℤ × ℤ) → Event
+removal x = deletion x.0 x.1.0 x.1.1
+
 abbrev pub by_kind : ℕ → Reader Event
 by_kind kind =
     if kind == 1 then as_at batch runs_at
-    else if kind == 2 then as_at (λ x. deletion x.0 x.1.0 x.1.1) deletion_at
+    else if kind == 2 then as_at removal deletion_at
     else if kind == 3 then as_at cut signed_at
     else λ bytes. Err faults.Form
 
@@ -151,9 +154,6 @@ series_of content = do
 
 abbrev pub Opening : Type 0
 Opening = Values × (ℤ × (List (ℕ × ℕ) × ℕ))
-
-abbrev pub meaning : Values → ℤ × (List (ℕ × ℕ) × ℕ) → Opening
-meaning values said = (values, said)
 
 unfoldable pub opening_whole : Values → List ℕ → Result Opening Fault
 opening_whole values bytes = do

@@ -4,8 +4,10 @@
 //! the series of the head, and the changes behind it, each a [`Change`].
 #![tactic(auto)]
 
+mod events;
 mod fault;
 mod fields;
+mod heads;
 mod kept;
 mod neighbours;
 mod parts;
