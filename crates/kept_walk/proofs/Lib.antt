@@ -4,4 +4,6 @@ pub mod InTurn
 pub mod LabelSets
 pub mod Loops
 pub mod NextTo
+pub mod OneHead
 pub mod Readers
+pub mod Stops

@@ -1,3 +1,4 @@
+pub mod Codes
 pub mod Contents
 pub mod Fields
 pub mod Forms
@@ -5,3 +6,4 @@ pub mod Kept
 pub mod Outcome
 pub mod Parts
 pub mod Reading
+pub mod Refusals

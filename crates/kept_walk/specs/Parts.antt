@@ -1,13 +1,22 @@
 -- What is read, without where it lies in memory.
-use Rattle.std.specs.Prelude.{List, [], map}
+use Rattle.std.specs.Prelude.{ℕ, List, [], map, Result, Vec}
+use Rattle.std.specs.Borrow.{Bor}
+use Rattle.std.specs.declared.alloc.Global.{Global}
 use Rattle.matchers.specs.Views.{MatcherView}
+use Rattle.journal.specs.Contents.{contents_in}
 use Rattle.kept_walk.specs.Kept.{Event, batch, deletion, cut, Store}
 use Rattle.kept_walk.specs.Reading.{Opening}
 use Rattle.kept_walk.specs.declared.parts.HeadParts.{HeadParts}
 use Rattle.kept_walk.specs.declared.parts.OpeningParts.{OpeningParts}
+use Rattle.kept_walk.specs.Contents.{BeginsWithHead}
+use Rattle.kept_walk.specs.Outcome.{Finds}
+use Rattle.kept_walk.specs.declared.fault.Fault.{Fault}
 use Rattle.kept_walk.specs.declared.parts.MatcherParts.{MatcherParts}
 use Rattle.kept_walk.specs.declared.parts.EventParts.{EventParts}
 use Rattle.kept_walk.specs.declared.parts.EventParts.TheVariants.{Batch, Deletion, Cut}
+
+abbrev pub Bytes : Type 0
+Bytes = Vec ℕ Global
 
 abbrev pub matcher_in : MatcherParts → MatcherView
 matcher_in m = record { name = m.name.now; op = m.op; text = m.text.now }
@@ -33,3 +42,11 @@ head_in h = record {
   head = h.series.items;
   events = [];
 }
+
+-- the head that contents begin with, and those behind it
+abbrev pub head_seen : HeadParts × Bor (List Bytes) → Store × List (List ℕ)
+head_seen x = (head_in x.0, contents_in x.1.now)
+
+abbrev pub FindsHead : List (List ℕ) → Result (HeadParts × Bor (List Bytes)) Fault → Type 0
+FindsHead contents result =
+    Finds head_seen (λ (p : Store × List (List ℕ)). BeginsWithHead contents p.0 p.1) result

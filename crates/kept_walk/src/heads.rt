@@ -1,11 +1,12 @@
 //! Reading the contents of a head.
 
-ghost use Rattle.std.specs.Prelude.{◌≡◌, ◌∷◌, IfOk, drop, map, length, nat_lt};
+ghost use Rattle.std.specs.Prelude.{◌≡◌, ◌<◌, ◌≤◌, ◌∷◌, [], IfOk, IfErr, map, length, take, drop};
 ghost use Rattle.std.specs.List.{AllZip};
 ghost use Rattle.journal.specs.Contents.{contents_in};
-ghost use Rattle.kept_walk.specs.Contents.{BeginsWithHead, SpellsOpening, SpellsSeries};
+ghost use Rattle.kept_walk.specs.declared.fault.Fault.TheVariants.{Form};
+ghost use Rattle.kept_walk.specs.Contents.{SpellsOpening, SpellsSeries};
 ghost use Rattle.kept_walk.specs.Outcome.{Finds, Gives};
-ghost use Rattle.kept_walk.specs.Parts.{head_in, opening_in};
+ghost use Rattle.kept_walk.specs.Parts.{FindsHead, head_in, opening_in};
 ghost use Rattle.kept_walk.specs.Reading.{all_of, opening_of, opening_whole, series_at, series_of};
 
 use crate::fault::Fault;
@@ -102,4 +103,62 @@ fn folders_of(alloc: Global, places: &[(u64, u64)]) -> Result<Vec<u64>, AllocErr
         folders.push(place.0)?;
     }
     Ok(folders)
+}
+
+/// The contents of as many series as an opening says, and those behind them.
+fn parted(count: u64, others: &[Vec<u8>]) -> Result<(&[Vec<u8>], &[Vec<u8>]), Fault>
+    ensures enough { IfOk result (λ x. count ≤ length (contents_in others.now)) }
+    ensures own { IfOk result (λ x. contents_in x.0.now ≡ take count (contents_in others.now)) }
+    ensures behind { IfOk result (λ x. contents_in x.1.now ≡ drop count (contents_in others.now)) }
+    ensures few { IfErr result (λ e. (e ≡ Form) × (length (contents_in others.now) < count)) }
+{
+    if (others.len() as u64) < count {
+        return Err(Fault::Form);
+    }
+    Ok(others.split_at(count as usize))
+}
+
+fn head_of(opening: OpeningParts, folders: Vec<u64>, series: Vec<KeptSeries>) -> HeadParts
+    ensures { head_in result ≡ record {
+      values = opening.values;
+      floor = opening.floor;
+      folders = folders.items;
+      head = series.items;
+      events = [];
+    } }
+{
+    HeadParts {
+        values: opening.values,
+        floor: opening.floor,
+        folders,
+        series,
+    }
+}
+
+/// The head whose first content this is, and the contents behind those of its series.
+fn head_after<'a>(
+    alloc: Global,
+    first: &[u8],
+    others: &'a [Vec<u8>],
+) -> Result<(HeadParts, &'a [Vec<u8>]), Fault>
+    ensures { FindsHead (first.now ∷ contents_in others.now) result }
+{
+    let opening = read_opening(alloc, first)?;
+    let (own, behind) = parted(opening.count, others)?;
+    let series = each_series(alloc, own)?;
+    let folders = folders_of(alloc, &opening.places)?;
+    Ok((head_of(opening, folders, series), behind))
+}
+
+/// The head that contents begin with, and the contents behind it.
+pub(crate) fn read_head(
+    alloc: Global,
+    contents: &[Vec<u8>],
+) -> Result<(HeadParts, &[Vec<u8>]), Fault>
+    ensures { FindsHead (contents_in contents.now) result }
+{
+    match contents.split_first() {
+        Some((first, others)) => head_after(alloc, first, others),
+        None => Err(Fault::Form),
+    }
 }

@@ -4,6 +4,8 @@
 //! the series of the head, and the changes behind it, each a [`Change`].
 #![tactic(auto)]
 
+mod changes;
+mod error;
 mod events;
 mod fault;
 mod fields;
@@ -11,5 +13,7 @@ mod heads;
 mod kept;
 mod neighbours;
 mod parts;
+mod reading;
 
+pub use error::KeptError;
 pub use kept::{Change, Kept, KeptSeries, Values};
