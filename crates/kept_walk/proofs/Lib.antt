@@ -5,5 +5,7 @@ pub mod LabelSets
 pub mod Loops
 pub mod NextTo
 pub mod OneHead
+pub mod OneStore
 pub mod Readers
+pub mod Refusing
 pub mod Stops

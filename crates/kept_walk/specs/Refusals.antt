@@ -123,6 +123,11 @@ DeniesRecords file (records.Length at) =
     (contents : List (List ℕ)) × Splits HasBadLength file contents × (at ≡ length (file_of contents))
 DeniesRecords file e = ⊥
 
+-- the refusal of a journal's records
+abbrev pub of_records : JournalError → KeptError
+of_records records.Memory = errors.Memory
+of_records e = errors.Journal e
+
 -- a file is refused so: the first check that failed. That memory ran out says nothing of it.
 abbrev pub Denies : List ℕ → KeptError → Type 0
 Denies file errors.Memory = ⊤

@@ -5,7 +5,7 @@ ghost use Rattle.journal.specs.Contents.{contents_in};
 ghost use Rattle.kept_walk.specs.Contents.{BeginsWithHead, IsKept, begins_event};
 ghost use Rattle.kept_walk.specs.Kept.{Store};
 ghost use Rattle.kept_walk.specs.Parts.{head_in};
-ghost use Rattle.kept_walk.specs.Refusals.{Denies, FindsStore, GivesStore};
+ghost use Rattle.kept_walk.specs.Refusals.{Denies, FindsStore, GivesStore, of_records};
 
 use crate::changes::each_change;
 use crate::error::KeptError;
@@ -59,6 +59,15 @@ fn read_contents(alloc: Global, contents: &[Vec<u8>]) -> Result<Kept, KeptError>
     }
 }
 
+fn of_records(error: JournalError) -> KeptError
+    ensures { result ≡ of_records error }
+{
+    match error {
+        JournalError::Memory => KeptError::Memory,
+        error => KeptError::Journal(error),
+    }
+}
+
 impl Kept {
     /// What the file of a journal says, which a crash may have left; or the first fault.
     ///
@@ -74,8 +83,7 @@ impl Kept {
     {
         match recover(alloc, file) {
             Ok(recovered) => read_contents(alloc, &recovered.contents),
-            Err(JournalError::Memory) => Err(KeptError::Memory),
-            Err(error) => Err(KeptError::Journal(error)),
+            Err(error) => Err(of_records(error)),
         }
     }
 }
