@@ -1,14 +1,12 @@
 -- Each content is read as what it spells, and as nothing else.
-use Rattle.std.proofs.Common.{◌≡◌, ℕ, ◌<◌, ◌≤◌, zero, suc, Bool, true, false, List, [], ◌∷◌, ◌++◌, length, ℤ}
+use Rattle.std.proofs.Common.{◌≡◌, ℕ, ◌<◌, ◌≤◌, zero, suc, false, List, ◌∷◌, ◌++◌, ℤ}
 use Rattle.std.proofs.Common.{Result, Ok, Err, refl, sym, ap, subst, ◌∙◌, arith, inl, inr, eqb}
 use Rattle.std.proofs.lemmas.Bool.{eqb-true, false_from_ne_true}
 use Rattle.std.proofs.lemmas.Bool.Decides.{nat_tests}
 use Rattle.wire.specs.Spelling.{IsBytes}
 use Rattle.wire.proofs.KnownReads.{chosen}
-use Rattle.wire.proofs.Steps.{bind_ok, passed, same_value, rest_fits}
-use Rattle.wire.specs.Outcome.{◌>>=◌, or_refused}
+use Rattle.wire.proofs.Steps.{bind_ok, passed, same_value}
 use Rattle.labels.specs.Labels.{Labels}
-use Rattle.labels.specs.Rows.{Row}
 use Rattle.matchers.specs.Views.{MatcherView}
 use Rattle.matchers.specs.declared.matcher.Op.{Op}
 use Rattle.matchers.specs.declared.matcher.Op.TheVariants.{Equal, NotEqual, Like, NotLike}
@@ -19,16 +17,16 @@ use Rattle.kept_walk.specs.declared.kept.Values.TheVariants.{Whole, Doubles}
 use Rattle.kept_walk.specs.Contents.{event_text, HasText, is_bounded, head_kind}
 use Rattle.kept_walk.specs.Contents.{SpellsEvent, SpellsSeries, SpellsOpening}
 use Rattle.kept_walk.specs.Fields as form
-use Rattle.kept_walk.specs.Forms.{Form, octet, number, signed, string, both, list, such, shown}
+use Rattle.kept_walk.specs.Forms.{Form, octet, number, signed, string, both, list, such}
 use Rattle.kept_walk.specs.Kept.{Event, batch, deletion, cut, Series}
 use Rattle.kept_walk.specs.Outcome.{Finds, Gives}
 use Rattle.kept_walk.specs.Reading.{Reader, octet_at, number_at, signed_at, string_at, such_at, as_at}
 use Rattle.kept_walk.specs.Reading.{both_at, list_at, all_of, pair_at, labels_at, sample_at}
 use Rattle.kept_walk.specs.Reading.{samples_at, run_at, runs_at, op_of, matcher_of, matcher_at}
 use Rattle.kept_walk.specs.Reading.{deletion_at, place_at, opening_at, series_in, series_at}
-use Rattle.kept_walk.specs.Reading.{removal, by_kind, event_at, if_bounded, event_of, series_of}
+use Rattle.kept_walk.specs.Reading.{removal, by_kind, event_at, event_of, series_of}
 use Rattle.kept_walk.specs.Reading.{Opening, opening_whole, opening_of}
-use Rattle.kept_walk.proofs.Readers.{Takes, Reads, Spells, octet_reads, number_reads, signed_reads}
+use Rattle.kept_walk.proofs.Readers.{Takes, Reads, octet_reads, number_reads, signed_reads}
 use Rattle.kept_walk.proofs.Readers.{string_reads, both_reads, such_reads, list_reads, as_reads}
 use Rattle.kept_walk.proofs.Readers.{all_takes, all_again}
 

@@ -1,6 +1,6 @@
 -- Pairs that pass the tests are a label set, and the loop over their names.
 use Rattle.std.proofs.Common.{◌≡◌, ℕ, zero, suc, ◌+◌, ◌-◌, ◌<◌, ◌≤◌, Bool, true, false, List, []}
-use Rattle.std.proofs.Common.{◌∷◌, length, get_or, Bor, sym, ap, ◌∙◌, subst, refl, arith}
+use Rattle.std.proofs.Common.{◌∷◌, length, get_or, Bor, sym, ap, ◌∙◌, refl, arith}
 use Rattle.std.specs.Prelude.{◌&&◌, nat_le}
 use Rattle.std.specs.List.{list_all}
 use Rattle.std.specs.Ordering.{is_lt}

@@ -1,5 +1,5 @@
 -- The head that contents begin with: one at most.
-use Rattle.std.proofs.Common.{◌≡◌, ℕ, zero, suc, ◌+◌, ◌<◌, ◌≤◌, List, [], ◌∷◌, ◌++◌, map, length}
+use Rattle.std.proofs.Common.{◌≡◌, ℕ, zero, suc, ◌<◌, ◌≤◌, List, [], ◌∷◌, ◌++◌, map, length}
 use Rattle.std.proofs.Common.{take, drop, refl, sym, ap, subst, ◌∙◌, arith, ℤ}
 use Rattle.std.specs.List.{AllZip}
 use Rattle.std.proofs.lemmas.List.{length-append, take-append-drop}
@@ -7,7 +7,7 @@ use Rattle.std.proofs.lemmas.Slice.Zip.{AllZip-long}
 use Rattle.wire.proofs.Steps.{same_value}
 use Rattle.kept_walk.specs.Contents.{BeginsWithHead, SpellsOpening, SpellsSeries}
 use Rattle.kept_walk.specs.Kept.{Series, Store, Event}
-use Rattle.kept_walk.specs.Reading.{Opening, opening_of}
+use Rattle.kept_walk.specs.Reading.{Opening}
 use Rattle.kept_walk.specs.declared.kept.Values.{Values}
 use Rattle.kept_walk.proofs.Contents.{opening_read, series_read}
 use Rattle.kept_walk.proofs.InTurn.{unique}

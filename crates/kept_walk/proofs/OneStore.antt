@@ -1,5 +1,5 @@
 -- Contents are those of one store at most, and a refusal says that they are of none.
-use Rattle.std.proofs.Common.{◌≡◌, ◌≢◌, ◌⊎◌, ℕ, Bool, true, false, List, [], ◌∷◌, ◌++◌, Result, Ok, Err}
+use Rattle.std.proofs.Common.{◌≡◌, ◌≢◌, ℕ, true, false, List, [], ◌∷◌, ◌++◌, Result, Ok, Err}
 use Rattle.std.proofs.Common.{refl, sym, ap, subst, ◌∙◌, inl, inr, length}
 use Rattle.std.specs.Prelude.{IfOk, IfErr}
 use Rattle.std.specs.List.{Contains}
@@ -17,7 +17,7 @@ use Rattle.kept_walk.specs.declared.kept.Values.{Values}
 use Rattle.kept_walk.specs.declared.kept.Values.TheVariants.{Whole, Doubles}
 use Rattle.kept_walk.proofs.Contents.{event_read}
 use Rattle.kept_walk.proofs.InTurn.{placed, unique}
-use Rattle.kept_walk.proofs.OneHead.{SameHead, one_head, one_store}
+use Rattle.kept_walk.proofs.OneHead.{one_head, one_store}
 
 abbrev Contents : Type 0
 Contents = List (List ℕ)

@@ -1,21 +1,20 @@
 -- What a reader reads is the one text of its value, and each text is read.
-use Rattle.std.proofs.Common.{◌≡◌, ℕ, ◌<◌, zero, suc, Bool, true, false, List, [], ◌∷◌, ◌++◌, length}
-use Rattle.std.proofs.Common.{Result, Ok, Err, refl, sym, ap, subst, ◌∙◌, append_assoc, arith, ℤ}
+use Rattle.std.proofs.Common.{◌≡◌, ℕ, zero, suc, Bool, List, [], ◌∷◌, ◌++◌, length}
+use Rattle.std.proofs.Common.{Ok, refl, sym, ap, subst, ◌∙◌, append_assoc, arith}
 use Rattle.std.specs.List.{flat_map, AllByRecursion}
 use Rattle.std.specs.Str.{is_utf8}
 use Rattle.std.proofs.lemmas.List.{append-nil}
 use Rattle.std.proofs.lemmas.List.Concat.{flat_map-cons}
 use Rattle.wire.specs.Spelling.{uvarint, varint, IsBytes}
 use Rattle.wire.specs.Reading as wire
-use Rattle.wire.specs.Outcome.{◌>>=◌, or_refused}
+use Rattle.wire.specs.Outcome.{or_refused}
 use Rattle.wire.proofs.Fields.{bytes_takes, bytes_again}
 use Rattle.wire.proofs.Laws.{uvarint_takes, uvarint_again}
 use Rattle.wire.proofs.Signed.{varint_takes, varint_again}
 use Rattle.wire.proofs.Steps.{bind_ok, refused_ok, passed, same_value, rest_fits}
-use Rattle.kept_walk.specs.declared.fault.Fault.{Fault}
 use Rattle.kept_walk.specs.declared.fault.Fault.TheVariants as faults
 use Rattle.kept_walk.specs.Forms.{Form, octet, number, signed, string, both, list, such, shown}
-use Rattle.kept_walk.specs.Reading.{Reader, octet_at, number_at, signed_at, if_passed, such_at, as_at}
+use Rattle.kept_walk.specs.Reading.{Reader, octet_at, number_at, signed_at, such_at, as_at}
 use Rattle.kept_walk.specs.Reading.{both_at, each_at, list_at, string_at, if_ended, all_of}
 
 -- the text of a value in front, and bytes behind it

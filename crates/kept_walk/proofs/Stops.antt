@@ -1,13 +1,13 @@
 -- Where a loop over the contents of events stops.
-use Rattle.std.proofs.Common.{◌≡◌, ℕ, suc, ◌+◌, ◌<◌, List, ◌∷◌, ◌++◌, map, length, take, drop, get_or}
-use Rattle.std.proofs.Common.{Err, refl, sym, ap, subst, ◌∙◌, arith, Vec, append_assoc}
+use Rattle.std.proofs.Common.{◌≡◌, ℕ, suc, ◌<◌, List, ◌∷◌, ◌++◌, map, length, take, drop, get_or}
+use Rattle.std.proofs.Common.{Err, sym, ap, ◌∙◌, arith, Vec}
 use Rattle.std.specs.declared.alloc.Global.{Global}
 use Rattle.std.proofs.Math.Seq.{drop-cons}
 use Rattle.std.proofs.lemmas.List.{length-map, map-append, take-append-drop}
 use Rattle.std.proofs.lemmas.Slice.Zip.{AllZip-long}
 use Rattle.journal.specs.Contents.{contents_in}
 use Rattle.kept_walk.specs.Contents.{AreEvents, SpellsEvent}
-use Rattle.kept_walk.specs.Kept.{Event, event_of}
+use Rattle.kept_walk.specs.Kept.{event_of}
 use Rattle.kept_walk.specs.Refusals.{DeniesEvents, FindsChange, StopsAt, refused_at}
 use Rattle.kept_walk.specs.declared.fault.EventFault.{EventFault}
 use Rattle.kept_walk.specs.declared.fault.EventFault.TheVariants as faults
@@ -35,8 +35,12 @@ module _ (vs : List Bytes) (i : ℕ) (d : Bytes) (content : List ℕ) (changes :
             ∙ (map-append items (take i vs) (get_or vs i d ∷ drop (suc i) vs)
             ∙ ap (λ (c : List ℕ). front ++ c ∷ contents_in (drop (suc i) vs)) (sym is));
         before = so_far;
-        counted = omega (arith, counted, length-map changes event_of,
-            AllZip-long SpellsEvent front (map event_of changes) so_far);
+        counted = omega (
+          arith,
+          counted,
+          length-map changes event_of,
+          AllZip-long SpellsEvent front (map event_of changes) so_far,
+        );
         stop = p;
       }
 

@@ -9,7 +9,7 @@ use Rattle.journal.specs.Records.{Recovers}
 use Rattle.kept_walk.specs.declared.kept.Values.{Values}
 use Rattle.kept_walk.specs.declared.kept.Values.TheVariants.{Whole, Doubles}
 use Rattle.kept_walk.specs.Fields as form
-use Rattle.kept_walk.specs.Forms.{Form, signed}
+use Rattle.kept_walk.specs.Forms.{signed}
 use Rattle.kept_walk.specs.Kept.{Event, batch, deletion, cut, Series, Store}
 
 -- EVENTS

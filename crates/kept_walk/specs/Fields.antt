@@ -1,13 +1,11 @@
 -- The fields of a journal's contents.
-use Rattle.std.specs.Prelude.{◌≡◌, ◌+◌, ℕ, zero, suc, ℤ, Bool, true, false, not, ◌&&◌, List, [], ◌∷◌}
-use Rattle.std.specs.Prelude.{length, nat_le, ◌==◌, if◌then◌else◌}
+use Rattle.std.specs.Prelude.{ℕ, ℤ, Bool, true, false, not, ◌&&◌, List, [], ◌∷◌}
+use Rattle.std.specs.Prelude.{length, nat_le}
 use Rattle.std.specs.List.{list_all}
 use Rattle.std.specs.Ordering.{is_lt}
-use Rattle.labels.specs.Contents.{is_time}
 use Rattle.labels.specs.Labels.{Labels, same_labels, text_cmp}
 use Rattle.labels.specs.LabelSets.{are_named, has_value}
 use Rattle.labels.specs.Rows.{Row}
-use Rattle.matchers.specs.Queries.{is_query_range}
 use Rattle.matchers.specs.Views.{MatcherView}
 use Rattle.matchers.specs.declared.matcher.Op.{Op}
 use Rattle.matchers.specs.declared.matcher.Op.TheVariants.{Equal, NotEqual, Like, NotLike}

@@ -1,7 +1,7 @@
 -- Reading from the front of bytes: the value and the bytes behind it, or that they are not of the
 -- form.
-use Rattle.std.specs.Prelude.{ℕ, zero, suc, ℤ, Bool, true, false, ◌&&◌, List, [], ◌∷◌, Result, Ok, Err}
-use Rattle.std.specs.Prelude.{nat_le, ◌==◌, if◌then◌else◌}
+use Rattle.std.specs.Prelude.{ℕ, zero, suc, ℤ, Bool, List, [], ◌∷◌, Result, Ok, Err}
+use Rattle.std.specs.Prelude.{◌==◌, if◌then◌else◌}
 use Rattle.std.specs.Str.{is_utf8}
 use Rattle.wire.specs.Reading as wire
 use Rattle.wire.specs.Outcome.{◌>>=◌, or_refused}

@@ -53,7 +53,10 @@ impl fmt::Display for KeptError {
             KeptError::Head => write!(f, "K1: the journal begins with no head and no event"),
             KeptError::Change(at) => write!(f, "K2: what stands behind {at} events is none"),
             KeptError::Matcher(at) => {
-                write!(f, "K2: a matcher of the deletion behind {at} events is refused")
+                write!(
+                    f,
+                    "K2: a matcher of the deletion behind {at} events is refused"
+                )
             }
         }
     }

@@ -46,11 +46,7 @@ fn pair_of(bytes: &[u8]) -> Result<((&str, &str), &[u8]), Fault>
     Ok(((name, value), rest))
 }
 
-fn each_pair(
-    alloc: Global,
-    bytes: &[u8],
-    count: u64,
-) -> Result<(Vec<(&str, &str)>, &[u8]), Fault>
+fn each_pair(alloc: Global, bytes: &[u8], count: u64) -> Result<(Vec<(&str, &str)>, &[u8]), Fault>
     ensures { Gives (λ x. (texts_of x.0.items, x.1.now)) result (each_at pair_at count bytes.now) }
 {
     let mut pairs = Vec::new(alloc);
@@ -117,7 +113,10 @@ pub(crate) fn series_of(alloc: Global, bytes: &[u8]) -> Result<(KeptSeries, &[u8
     let (labels, rest) = labels_of(alloc, bytes)?;
     let (time, value, rest) = sample_of(rest)?;
     let (samples, rest) = samples_of(alloc, rest)?;
-    Ok((KeptSeries::new(labels, Sample::new(time, value), samples), rest))
+    Ok((
+        KeptSeries::new(labels, Sample::new(time, value), samples),
+        rest,
+    ))
 }
 
 #[tactic(auto, unfolding(crate::specs::Reading::both_at, crate::specs::Reading::such_at))]

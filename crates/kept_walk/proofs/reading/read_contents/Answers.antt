@@ -8,6 +8,7 @@ pub returns-in-Err-Form : goal.returns-in-Err-Form
 returns-in-Err-Form c =
     let none =
     subst (FindsHead (contents_in c.args.contents.now))
-    (c.in-Err-Form.is ∙ ap (λ (e : Fault). Err e) c.in-Err-Form.field-0-is) c.read_head.ensures in
-    (sym c.begins_event.ensures ∙ c.if-begins_event.false,
-        λ store behind h. none (store, behind) h)
+    (c.in-Err-Form.is ∙ ap (λ (e : Fault). Err e) c.in-Err-Form.field-0-is) c.read_head.ensures in (
+      sym c.begins_event.ensures ∙ c.if-begins_event.false,
+      λ store behind h. none (store, behind) h,
+    )
