@@ -136,8 +136,9 @@ fn read_once<F: ReadFiles>(
 /// names, and then the front of the journal again. If that is another by then, all is read again,
 /// eight times at most.
 ///
-/// The store may run meanwhile. A journal that is refused, and a file that is missing, are told only
-/// if the journal is still the same. It takes the memory of the journal twice, and of the blocks.
+/// The store may run meanwhile. A journal that is refused, and a file that is missing, are told
+/// only if the journal is still the same. It takes the memory of the journal twice, and of the
+/// blocks.
 pub fn read_store<F: ReadFiles>(
     alloc: Global,
     files: &F,

@@ -11,7 +11,8 @@ use Rattle.journal.specs.Records.{file_of, header, magic, Recovers, Splits}
 use Rattle.journal.specs.Records.{Begins, BeginsOtherwise, HasBadLength, IsDamaged}
 use Rattle.journal.specs.declared.error.JournalError.{JournalError}
 use Rattle.journal.specs.declared.error.JournalError.TheVariants as records
-use Rattle.kept_walk.specs.Contents.{AreContents, AreEvents, BeginsWithHead, begins_event, SpellsEvent}
+use Rattle.kept_walk.specs.Contents.{AreContents, AreEvents, BeginsWithHead, begins_event}
+use Rattle.kept_walk.specs.Contents.{SpellsEvent}
 use Rattle.kept_walk.specs.Kept.{Event, batch, deletion, cut, event_of, Store}
 use Rattle.kept_walk.specs.declared.fault.EventFault.{EventFault}
 use Rattle.kept_walk.specs.declared.fault.EventFault.TheVariants as faults
@@ -120,7 +121,8 @@ DeniesRecords file records.Version = BeginsOtherwise header file × Begins magic
 DeniesRecords file (records.Checksum at) =
     (contents : List (List ℕ)) × Splits IsDamaged file contents × (at ≡ length (file_of contents))
 DeniesRecords file (records.Length at) =
-    (contents : List (List ℕ)) × Splits HasBadLength file contents × (at ≡ length (file_of contents))
+    (contents : List (List ℕ)) × Splits HasBadLength file contents
+    × (at ≡ length (file_of contents))
 DeniesRecords file e = ⊥
 
 -- the refusal of a journal's records

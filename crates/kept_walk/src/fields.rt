@@ -1,4 +1,4 @@
-//! Reading the fields of a content: each gives the value in front of bytes, and the bytes behind it.
+//! Reading the fields of a content: the value in front of bytes, and the bytes behind it.
 
 ghost use Rattle.std.specs.Prelude.{◌≡◌, MatchOption, false, true};
 ghost use Rattle.std.specs.Str.{is_utf8};

@@ -20,8 +20,8 @@ pub(crate) enum EventParts<'a> {
     Cut(i64),
 }
 
-/// What the first content of a head says: what the values mean, the floor, where the blocks lie, and
-/// how many series follow.
+/// What the first content of a head says: what the values mean, the floor, where the blocks lie,
+/// and how many series follow.
 #[derive(Drop)]
 pub(crate) struct OpeningParts {
     pub(crate) values: Values,

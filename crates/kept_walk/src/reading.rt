@@ -39,7 +39,9 @@ fn read_events(alloc: Global, contents: &[Vec<u8>]) -> Result<Kept, KeptError>
 
 /// The store with this head, behind which these contents stand.
 fn with_changes(alloc: Global, head: HeadParts, behind: &[Vec<u8>]) -> Result<Kept, KeptError>
-    ensures { (contents : List (List ℕ)) → BeginsWithHead contents (head_in head) (contents_in behind.now) → FindsStore contents result }
+    ensures { (contents : List (List ℕ))
+        → BeginsWithHead contents (head_in head) (contents_in behind.now)
+        → FindsStore contents result }
 {
     let changes = each_change(alloc, behind)?;
     Ok(Kept::new(head.values, head.floor, head.folders, head.series, changes))
