@@ -1,9 +1,8 @@
 -- The folder of a kept store: where its files stand, and what is read of them.
-use Rattle.std.specs.Prelude.{◌≡◌, ◌≢◌, ◌⊎◌, ⊤, ℕ, Bool, List, ◌++◌, map, take, length, Option}
+use Rattle.std.specs.Prelude.{◌≡◌, ◌≢◌, ◌⊎◌, ⊤, ℕ, List, ◌++◌, map, take, length}
 use Rattle.std.specs.Prelude.{None, Some, codes, decimal, string_bytes}
 use Rattle.audit_command.specs.Reading.{AreFirstBytes, Host}
 use Rattle.audit_command.specs.Walking.{AreTablesAt, IsFirstFault}
-use Rattle.audit_command.specs.declared.fault.Fault.{Fault}
 use Rattle.audit_command.specs.declared.fault.Fault.TheVariants as files
 use Rattle.auditor.specs.declared.judgement.BlockTable.{BlockTable}
 use Rattle.kept_walk.specs.Contents.{IsKept}
