@@ -231,7 +231,7 @@ head_at [] first last (suc q) = λ born run l. absurd (omega arith)
 head_at (b ∷ bs) first last (suc q) = λ born run l.
     next-head first last b bs q (first.number + suc q) (stepped first (batch b)) born refl (omega arith) (λ m e. batch-accepts first m b e) (λ m. head_at bs m last q) run
 
-from-append : (r : Option State) (xs ys : List Event) → state_from r (xs ++ ys) ≡ state_from (state_from r xs) ys
+pub from-append : (r : Option State) (xs ys : List Event) → state_from r (xs ++ ys) ≡ state_from (state_from r xs) ys
 from-append r [] ys = refl
 from-append None (x ∷ xs) ys = sym (none_stays ys)
 from-append (Some s) (x ∷ xs) ys = from-append (stepped s x) xs ys

@@ -5,3 +5,4 @@ pub mod Taking
 pub mod Parts
 pub mod Apart
 pub mod Gathering
+pub mod Bearing

@@ -75,7 +75,7 @@ number_from n (x ∷ xs) r h = elim (Contains-cases n (references (numbered (n +
   | inr k ↦ let w = number_from (n + 1) xs r k in let a : n + 1 ≤ r = w.0 in let b : r < n + 1 + length xs = w.1 in (omega (arith, a), omega (arith, b))
 ]
 
-numbers_rise : (n : ℕ) (rows : List Row) → IsStrictlyIncreasing (references (numbered n rows))
+pub numbers_rise : (n : ℕ) (rows : List Row) → IsStrictlyIncreasing (references (numbered n rows))
 numbers_rise n [] = λ k l. absurd (omega (arith, l))
 numbers_rise n (x ∷ xs) = rising-cons n (references (numbered (n + 1) xs)) (λ s c. let w : n + 1 ≤ s = (number_from (n + 1) xs s c).0 in omega (arith, w)) (numbers_rise (n + 1) xs)
 

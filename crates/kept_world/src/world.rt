@@ -1,6 +1,6 @@
 //! The store after some events.
 
-ghost use Rattle.std.specs.Prelude.{◌≡◌, ◌+◌, ◌<◌, ◌≤◌, ◌^◌, ℕ, List, IfOk, MatchOption, Some, None};
+ghost use Rattle.std.specs.Prelude.{◌≡◌, ◌+◌, ◌<◌, ◌≤◌, ◌^◌, ℕ, List, IfOk, MatchOption, Some, None, IfSome};
 ghost use Rattle.std.specs.Prelude.{length, map, take};
 ghost use Rattle.labels.specs.Rows.{Row as RowValue};
 ghost use Rattle.matchers.specs.Satisfies.{satisfies_all};
@@ -91,9 +91,10 @@ impl World {
         head: Vec<KeptSeries>,
         blocks: Vec<Table>,
     ) -> Result<Option<World>, AllocError>
-        ensures { IfOk result (λ world. MatchOption world
+        ensures made { IfOk result (λ world. MatchOption world
             (IsSoundHead head.items → ⊥)
             (λ made. IsSoundHead head.items × (made ≡ started floor head.items blocks.items))) }
+        ensures born { IfOk result (λ world. IfSome world (λ made. AreBornBy 0 made.head)) }
     {
         match Head::first(alloc, head)? {
             Some(head) => Ok(Some(World {

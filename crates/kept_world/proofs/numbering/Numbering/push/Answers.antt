@@ -13,5 +13,5 @@ invariant_of-self-2 c =
     let l = c.len.ensures in
     let n : c.new.result ≡ length rows + 1 = c.new.ensures ∙ (let e : c.len.result + 1 ≡ length rows + 1 = omega (arith, l) in e) in
     subst (λ (p : Part). (p ≡ numbered 1 (map (λ (r : ℕ × Row). r.1) p)) × AllByRecursion IsAscending (map (λ (r : ℕ × Row). r.1) p))
-    (sym c.in_ok-push.ensures.items)
+    (sym {A = Part} c.in_ok-push.ensures.items)
     (numbered_more rows c.new.result c.args.row n c.self.invariant.0 c.self.invariant.1 c.requires.ascending)
