@@ -1,0 +1,15 @@
+//! Whole audits.
+#![tactic(auto)]
+
+mod explaining;
+mod grade;
+mod looks;
+mod references;
+mod selection;
+mod showing;
+mod wholes;
+
+pub use explaining::is_explained;
+pub use grade::{Grade, grade_of};
+pub use showing::{has_all_shown, showing_laws};
+pub use wholes::{are_named, are_right, audit_whole};
