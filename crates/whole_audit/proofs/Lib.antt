@@ -10,3 +10,4 @@ pub mod Taken
 pub mod Explained
 pub mod Merged
 pub mod Right
+pub mod Left

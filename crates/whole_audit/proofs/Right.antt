@@ -19,8 +19,8 @@ use Rattle.auditor.specs.Judgements.{name_of, is_of_block}
 use Rattle.auditor.proofs.Excluding.{sound_not}
 use Rattle.auditor.proofs.Lines.{zip_more}
 use Rattle.whole_audit.specs.declared.grade.Grade.{Grade}
-use Rattle.whole_audit.specs.declared.grade.Grade.TheVariants.{Valid, NumberedOtherwise, Skipped, Flawed}
-use Rattle.whole_audit.specs.Heads.{names_from}
+use Rattle.whole_audit.specs.declared.grade.Grade.TheVariants.{Valid, NumberedOtherwise, Skipped, Flawed, Misnamed}
+use Rattle.whole_audit.specs.PartNames.{names_from}
 use Rattle.whole_audit.specs.Wholes.{IsRightUnder, IsRightOf}
 use Rattle.whole_audit.specs.Grading.{is_right, IsExplainedUnder, IsGradeOf, are_blocks_from, is_head, is_end}
 
@@ -47,10 +47,12 @@ module _ (query : QueryView) (part : Part) where
   right_of_grade (Answered answer) NumberedOtherwise h e = right_explained answer.part answer h.1
   right_of_grade (Answered answer) Skipped h e = absurd h
   right_of_grade (Answered answer) (Flawed flaw) h e = absurd (true_not_false (sym e))
+  right_of_grade (Answered answer) Misnamed h e = absurd h
   right_of_grade (PassedOver n) Valid h e = absurd h
   right_of_grade (PassedOver n) NumberedOtherwise h e = absurd h
   right_of_grade (PassedOver n) Skipped h e = h
   right_of_grade (PassedOver n) (Flawed flaw) h e = absurd (true_not_false (sym e))
+  right_of_grade (PassedOver n) Misnamed h e = absurd h
 
   pub grade_of_right : (told : ToldPart) (grade : Grade) → IsGradeOf query part told grade
       → IsRightOf query part told → is_right grade ≡ true
@@ -59,10 +61,12 @@ module _ (query : QueryView) (part : Part) where
   grade_of_right (Answered answer) Skipped h r = refl
   grade_of_right (Answered answer) (Flawed flaw) h r =
       absurd (not_right answer.part answer flaw h.0 h.1 r)
+  grade_of_right (Answered answer) Misnamed h r = absurd h
   grade_of_right (PassedOver n) Valid h r = refl
   grade_of_right (PassedOver n) NumberedOtherwise h r = refl
   grade_of_right (PassedOver n) Skipped h r = refl
   grade_of_right (PassedOver n) (Flawed flaw) h r = absurd (h.1 r)
+  grade_of_right (PassedOver n) Misnamed h r = absurd h
 
 -- what holds of each of two lists holds of those at one place
 pub zip_at : {A B : Type 0} (R : A → B → Type 0) (xs : List A) (ys : List B) (i : ℕ) (x : A) (y : B)

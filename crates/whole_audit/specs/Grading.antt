@@ -12,7 +12,7 @@ use Rattle.auditor.specs.Auditing.{IsSoundAnswer, IsFlaw, selected_content}
 use Rattle.auditor.specs.Judgements.{name_of, is_of_block, placed, place_of}
 use Rattle.auditor.specs.Errors.{code_of}
 use Rattle.whole_audit.specs.declared.grade.Grade.{Grade}
-use Rattle.whole_audit.specs.declared.grade.Grade.TheVariants.{Valid, NumberedOtherwise, Skipped, Flawed}
+use Rattle.whole_audit.specs.declared.grade.Grade.TheVariants.{Valid, NumberedOtherwise, Skipped, Flawed, Misnamed}
 use Rattle.whole_audit.specs.Explaining.{IsExplained}
 
 -- what is said, as a line says it
@@ -21,6 +21,7 @@ grade_text Valid = codes "valid"
 grade_text NumberedOtherwise = codes "valid, numbered otherwise"
 grade_text Skipped = codes "skipped"
 grade_text (Flawed flaw) = placed (code_of flaw) (place_of flaw)
+grade_text Misnamed = codes "F11"
 
 -- whether nothing is wrong
 abbrev pub is_right : Grade → Bool
@@ -28,6 +29,7 @@ is_right Valid = true
 is_right NumberedOtherwise = true
 is_right Skipped = true
 is_right (Flawed flaw) = false
+is_right Misnamed = false
 
 -- The name is a block's, and the part explains the answer.
 abbrev pub IsExplainedUnder : PartName → QueryView → Part → PartAnswer → Type 0
@@ -43,6 +45,7 @@ IsGradeOfAnswer query part answer NumberedOtherwise =
 IsGradeOfAnswer query part answer Skipped = ⊥
 IsGradeOfAnswer query part answer (Flawed flaw) =
     IsFlaw part query answer flaw × (IsExplainedUnder answer.part query part answer → ⊥)
+IsGradeOfAnswer query part answer Misnamed = ⊥
 
 -- what is said of a part that is skipped: that it is, where the query selects nothing of it, else
 -- `F9`
@@ -52,6 +55,7 @@ IsGradeOfSkip query part NumberedOtherwise = ⊥
 IsGradeOfSkip query part Skipped = selected_content part query ≡ []
 IsGradeOfSkip query part (Flawed flaw) =
     (flaw ≡ Hidden) × (selected_content part query ≡ [] → ⊥)
+IsGradeOfSkip query part Misnamed = ⊥
 
 abbrev pub IsGradeOf : QueryView → Part → ToldPart → Grade → Type 0
 IsGradeOf query part (parts.Searched answer) grade = IsGradeOfAnswer query part answer grade

@@ -1,4 +1,4 @@
-pub mod Heads
+pub mod PartNames
 pub mod Growing
 pub mod Counting
 pub mod Showing
@@ -6,3 +6,4 @@ pub mod Explaining
 pub mod Taking
 pub mod Wholes
 pub mod Grading
+pub mod StateLines

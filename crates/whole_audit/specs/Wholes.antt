@@ -13,7 +13,7 @@ use Rattle.reply_reader.specs.declared.reply.ToldPart.TheVariants as parts
 use Rattle.reply_reader.specs.declared.reply.Reply.{Reply}
 use Rattle.auditor.specs.Auditing.{IsSoundAnswer, selected_content}
 use Rattle.auditor.specs.Judgements.{name_of}
-use Rattle.whole_audit.specs.Heads.{part_names}
+use Rattle.whole_audit.specs.PartNames.{part_names}
 use Rattle.whole_audit.specs.Explaining.{IsExplained}
 
 -- An answer under this name is right of a part: it is sound, or, under the name of a block, it is

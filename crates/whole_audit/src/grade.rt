@@ -12,7 +12,7 @@ use matchers::Query;
 use std::alloc::{AllocError, Global};
 use std::fmt;
 
-/// What is said of a part of a reply.
+/// What is said of a part of a reply, of its rows, or of the names of its parts.
 #[derive(Clone, Copy, Debug, PartialEq, Eq, Drop)]
 pub enum Grade {
     /// The answer is sound.
@@ -24,6 +24,8 @@ pub enum Grade {
     Skipped,
     /// It has this flaw, the first in the order of the checks.
     Flawed(Flaw),
+    /// `F11`: the reply does not say something of each part of the state, once, in order.
+    Misnamed,
 }
 
 impl Grade {
@@ -35,12 +37,12 @@ impl Grade {
     {
         match self {
             Grade::Valid | Grade::NumberedOtherwise | Grade::Skipped => true,
-            Grade::Flawed(_) => false,
+            Grade::Flawed(_) | Grade::Misnamed => false,
         }
     }
 }
 
-/// As `valid`, `valid, numbered otherwise`, `skipped`, `F4` or `F5 at 1`.
+/// As `valid`, `valid, numbered otherwise`, `skipped`, `F5 at 1` or `F11`.
 impl fmt::Display for Grade {
     ghost use Rattle.std.specs.Prelude.{Some};
     ghost use Rattle.whole_audit.specs.Grading.{grade_text};
@@ -56,6 +58,7 @@ impl fmt::Display for Grade {
                 Some(at) => write!(f, "{} at {at}", flaw.code()),
                 None => write!(f, "{}", flaw.code()),
             },
+            Grade::Misnamed => write!(f, "F11"),
         }
     }
 }
@@ -109,7 +112,8 @@ fn grade_of_answer(
     }
 }
 
-fn grade_of_skip(alloc: Global, table: &Table, query: &Query) -> Result<Grade, AllocError>
+/// What is said of a part that is skipped.
+pub(crate) fn grade_of_skip(alloc: Global, table: &Table, query: &Query) -> Result<Grade, AllocError>
     ensures { IfOk result (λ g. IsGradeOfSkip query.now table.now g) }
 {
     match audit_skip(alloc, table, query) {

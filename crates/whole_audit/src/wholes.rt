@@ -5,7 +5,7 @@ ghost use Rattle.std.specs.List.{AllZip, flat_map};
 ghost use Rattle.labels.specs.Rows.{AreRows};
 ghost use Rattle.auditor.specs.Judgements.{name_of, is_of_block, answers_of};
 ghost use Rattle.auditor.specs.Listing.{last_listed};
-ghost use Rattle.whole_audit.specs.Heads.{part_names};
+ghost use Rattle.whole_audit.specs.PartNames.{part_names};
 ghost use Rattle.whole_audit.specs.Grading.{are_blocks_from, is_head, is_end};
 ghost use Rattle.whole_audit.specs.Wholes.{IsRightOf, AreRightOf, IsWhole};
 
@@ -17,7 +17,7 @@ use matchers::Query;
 use std::alloc::{AllocError, Global};
 
 /// The name of the part that something is said of.
-fn name_of(part: &ToldPart) -> PartName
+pub(crate) fn name_of(part: &ToldPart) -> PartName
     ensures { result ≡ name_of part.now }
 {
     match part {
@@ -26,7 +26,7 @@ fn name_of(part: &ToldPart) -> PartName
     }
 }
 
-fn is_of_block(part: &ToldPart, number: usize) -> bool
+pub(crate) fn is_of_block(part: &ToldPart, number: usize) -> bool
     ensures { result ≡ is_of_block number (name_of part.now) }
 {
     match name_of(part) {
@@ -35,7 +35,7 @@ fn is_of_block(part: &ToldPart, number: usize) -> bool
     }
 }
 
-fn is_of_head(part: &ToldPart) -> bool
+pub(crate) fn is_of_head(part: &ToldPart) -> bool
     ensures { result ≡ is_head (name_of part.now) }
 {
     match name_of(part) {
@@ -86,8 +86,8 @@ fn is_right(
     Ok(grade.is_right())
 }
 
-/// Whether what is said of each of these blocks is right.
-fn are_right_blocks(
+/// Whether what is said of each of these blocks is right. The caller gives as many parts as blocks.
+pub fn are_right_blocks(
     alloc: Global,
     blocks: &[Table],
     query: &Query,
@@ -130,7 +130,7 @@ pub fn are_right(
 }
 
 /// The answers of the parts that were searched.
-fn answers_of(alloc: Global, parts: Vec<ToldPart>) -> Result<Vec<PartAnswer>, AllocError>
+pub(crate) fn answers_of(alloc: Global, parts: Vec<ToldPart>) -> Result<Vec<PartAnswer>, AllocError>
     ensures { IfOk result (λ answers. answers.items ≡ flat_map answers_of parts.items) }
 {
     let mut answers = Vec::new(alloc);
