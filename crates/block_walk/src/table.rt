@@ -41,4 +41,12 @@ impl Table {
     {
         self.series.as_slice()
     }
+
+    /// The series, in the order of their references. It takes no memory.
+    pub fn into_series(self) -> Vec<(SeriesRef, Row)>
+        ensures items { result.items ≡ self }
+        ensures part { IsPart self }
+    {
+        self.series
+    }
 }

@@ -26,6 +26,8 @@ mod imports;
 #[cfg(test)]
 mod indexes;
 #[cfg(test)]
+mod journals;
+#[cfg(test)]
 mod numbers;
 #[cfg(test)]
 mod written_files;

@@ -1,0 +1,11 @@
+pub mod Contents
+pub mod Counts
+pub mod InTurn
+pub mod LabelSets
+pub mod Loops
+pub mod NextTo
+pub mod OneHead
+pub mod OneStore
+pub mod Readers
+pub mod Refusing
+pub mod Stops

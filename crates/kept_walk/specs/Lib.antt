@@ -1,0 +1,9 @@
+pub mod Codes
+pub mod Contents
+pub mod Fields
+pub mod Forms
+pub mod Kept
+pub mod Outcome
+pub mod Parts
+pub mod Reading
+pub mod Refusals

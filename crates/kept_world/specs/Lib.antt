@@ -1,0 +1,4 @@
+pub mod States
+pub mod Births
+pub mod Sound
+pub mod Changes

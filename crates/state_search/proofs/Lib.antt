@@ -1,0 +1,4 @@
+pub mod Deciding
+pub mod Shrinking
+pub mod Runs
+pub mod Finding

@@ -1,0 +1,13 @@
+pub mod Grown
+pub mod Listed
+pub mod Added
+pub mod Shown
+pub mod Picked
+pub mod Counted
+pub mod Numbered
+pub mod Having
+pub mod Taken
+pub mod Explained
+pub mod Merged
+pub mod Right
+pub mod Left

@@ -1,0 +1,9 @@
+pub mod PartNames
+pub mod Growing
+pub mod Counting
+pub mod Showing
+pub mod Explaining
+pub mod Taking
+pub mod Wholes
+pub mod Grading
+pub mod StateLines
