@@ -1,0 +1,75 @@
+-- When a state is that of a world of the store, and when two steps agree.
+use Rattle.std.specs.Prelude.{◌≡◌, ◌+◌, ◌≤◌, ℕ, ℤ, Bool, true, false, cond, T, List, [], ◌∷◌}
+use Rattle.std.specs.Prelude.{Option, Some, None, Result, Ok, Err, length, map}
+use Rattle.std.specs.List.{AllByRecursion}
+use Rattle.std.specs.Ordering.{int_cmp, eq_by_cmp}
+use Rattle.std.specs.FinMap.Entries.{find}
+use Rattle.labels.specs.Labels.{Labels, point_cmp, same_labels}
+use Rattle.labels.specs.Rows.{Row}
+use Rattle.labels.specs.Parts.{Part, rows_in}
+use Rattle.head.specs.Refusals.{Refusal, limit, out_of_bounds, out_of_order, duplicate, cut_too_low}
+use Rattle.head.specs.Refusals.{too_many_parts}
+use Rattle.head.specs.Worlds.{World, Newest}
+use Rattle.kept_world.specs.States.{HeadSeries, State, Entry, shown, max_samples}
+
+-- the first value, or else the second
+abbrev pub or_else : Option ℤ → Option ℤ → Option ℤ
+or_else None b = b
+or_else (Some a) b = Some a
+
+-- the last value at a time
+abbrev pub at_time : ℤ → List (ℤ × ℤ) → Option ℤ
+at_time t [] = None
+at_time t (k ∷ ks) = or_else (at_time t ks) (cond (eq_by_cmp int_cmp t k.0) (Some k.1) None)
+
+-- the value of a label set at a time in rows
+abbrev pub in_rows : Labels → ℤ → List Row → Option ℤ
+in_rows l t [] = None
+in_rows l t (r ∷ rs) = cond (same_labels l r.0) (at_time t r.1) (in_rows l t rs)
+
+-- the same in parts, of which a later one wins
+abbrev pub in_parts : Labels → ℤ → List Part → Option ℤ
+in_parts l t [] = None
+in_parts l t (p ∷ ps) = or_else (in_parts l t ps) (in_rows l t (rows_in p))
+
+abbrev pub value_at : State → Labels → ℤ → Option ℤ
+value_at s l t = or_else (in_rows l t (shown s.head)) (in_parts l t s.blocks)
+
+abbrev pub newest_of : List HeadSeries → Newest
+newest_of head = map (λ (e : HeadSeries). (e.labels, e.newest)) head
+
+pub record IsLike (s : State) (w : World) : Type 0 where
+  pub floor : s.floor ≡ w.floor
+  pub newest : newest_of s.head ≡ w.newest
+  pub blocks : length s.blocks ≡ w.blocks
+  pub content : (l : Labels) (t : ℤ) → find point_cmp (l, t) w.content ≡ value_at s l t
+
+-- each series has room for so many samples more, also one that has none yet
+abbrev pub AreRoomy : ℕ → List HeadSeries → Type 0
+AreRoomy n head = AllByRecursion (λ (e : HeadSeries). length e.samples + n ≤ max_samples) head
+
+pub record HasRoom (s : State) (xs : List Entry) : Type 0 where
+  pub series : AreRoomy (length xs) s.head
+  pub batch : length xs ≤ max_samples
+
+abbrev pub is_limit : Refusal → Bool
+is_limit (out_of_bounds at) = false
+is_limit (out_of_order at) = false
+is_limit (duplicate at) = false
+is_limit limit = true
+is_limit cut_too_low = false
+is_limit too_many_parts = false
+
+-- Both accept, with a state and a world that are alike, or both refuse. Where the store says that a
+-- limit of the head is reached (E4), the other step may go on: it counts the samples of a series
+-- that are in the head, and the store those of its content.
+abbrev pub Agrees : Result World Refusal → Option State → Type 0
+Agrees (Ok w) (Some s) = IsLike s w
+Agrees (Ok w) None = ⊥
+Agrees (Err e) (Some s) = T (is_limit e)
+Agrees (Err e) None = Unit {0}
+
+-- it is accepted, with a state that is like this world
+abbrev pub AgreesOn : World → Option State → Type 0
+AgreesOn w None = ⊥
+AgreesOn w (Some s) = IsLike s w
