@@ -11,3 +11,4 @@ pub mod Explained
 pub mod Merged
 pub mod Right
 pub mod Left
+pub mod Sampled
