@@ -12,3 +12,4 @@ pub mod Merged
 pub mod Right
 pub mod Left
 pub mod Sampled
+pub mod AllRight

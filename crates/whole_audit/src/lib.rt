@@ -41,6 +41,6 @@ mod wholes;
 
 pub use explaining::{explaining_laws, is_explained};
 pub use grade::{Grade, grade_of};
-pub use lines::{StateLine, StateSubject, state_lines};
+pub use lines::{StateLine, StateSubject, lines_laws, state_lines};
 pub use showing::{has_all_shown, showing_laws};
 pub use wholes::{are_named, are_right, are_right_blocks, audit_whole};
