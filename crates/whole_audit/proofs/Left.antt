@@ -1,5 +1,5 @@
 -- The line of a block, by its number.
-use Rattle.std.proofs.Common.{◌≡◌, ℕ, List, Some, get_or, ◌∙◌, subst}
+use Rattle.std.proofs.Common.{◌≡◌, ℕ, List, get_or, ◌∙◌, subst}
 use Rattle.std.proofs.lemmas.Option.{get_or_from_slice_get}
 use Rattle.labels.specs.Parts.{Part}
 use Rattle.matchers.specs.Views.{QueryView}

@@ -11,3 +11,5 @@ pub mod Explained
 pub mod Merged
 pub mod Right
 pub mod Left
+pub mod Sampled
+pub mod AllRight

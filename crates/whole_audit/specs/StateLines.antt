@@ -1,7 +1,7 @@
 -- What is said, in lines, of a reply that is held against one state.
 use Rattle.std.specs.Prelude.{◌≡◌, ◌⊎◌, ◌++◌, ℕ, Bool, true, false, List, [], ◌∷◌, Option, None, Some, length, map}
 use Rattle.std.specs.Prelude.{slice_get, codes}
-use Rattle.std.specs.List.{AllZip, flat_map, list_any}
+use Rattle.std.specs.List.{AllZip, flat_map, list_all, list_any}
 use Rattle.labels.specs.Rows.{Row, AreRows}
 use Rattle.labels.specs.Parts.{Part}
 use Rattle.matchers.specs.Views.{QueryView}
@@ -20,7 +20,7 @@ use Rattle.whole_audit.specs.declared.lines.StateSubject.{StateSubject}
 use Rattle.whole_audit.specs.declared.lines.StateSubject.TheVariants as of
 use Rattle.whole_audit.specs.declared.lines.StateLine.{StateLine}
 use Rattle.whole_audit.specs.PartNames.{part_names}
-use Rattle.whole_audit.specs.Grading.{grade_text, IsGradeOf, IsGradeOfSkip, is_head}
+use Rattle.whole_audit.specs.Grading.{grade_text, is_right, IsGradeOf, IsGradeOfSkip, is_head}
 
 abbrev pub state_subject_text : StateSubject → List ℕ
 state_subject_text (of.Part name) = name_text name
@@ -103,3 +103,7 @@ pub record AreStateLines
   pub are_of_head : AreLeftHeadLines (has_head reply.parts.items) head query of_head
   pub are_of_names : AreNamesLines reply.parts.items (length blocks) of_names
   pub is_of_rows : IsGradeOfRows (flat_map answers_of reply.parts.items) reply.rows.items of_rows
+
+-- whether no line names a flaw
+abbrev pub are_right_lines : List StateLine → Bool
+are_right_lines lines = list_all (λ (line : StateLine). is_right line.grade) lines

@@ -2,9 +2,11 @@
 
 ghost use Rattle.std.specs.Prelude.{◌≡◌, ◌↔◌, ◌==◌, not, true, length, IsTrue, IfOk, option_map};
 ghost use Rattle.std.specs.Prelude.{Some};
-ghost use Rattle.labels.specs.Parts.{IsPart};
+ghost use Rattle.labels.specs.Parts.{Part, IsPart, rows_in};
+ghost use Rattle.matchers.specs.Views.{QueryView};
+ghost use Rattle.cover.specs.declared.part_cover.PartAnswer.{PartAnswer as Answer};
 ghost use Rattle.cover.specs.Certificates.{is_match, next_from};
-ghost use Rattle.auditor.specs.Auditing.{names_known, all_known};
+ghost use Rattle.auditor.specs.Auditing.{names_known, all_known, IsSoundAnswer};
 ghost use Rattle.whole_audit.specs.Explaining.{is_sampled, sampled, IsExplained};
 ghost use Rattle.whole_audit.specs.Taking.{after_taking, are_taken_from, have_no_match, is_chained};
 ghost use Rattle.whole_audit.specs.Taking.{lie_within, is_shaped};
@@ -186,3 +188,12 @@ pub fn is_explained(
     }
     Ok(are_selected(alloc, &mut looks, series, answer.rows.as_slice())?)
 }
+
+/// The law of explained answers: whoever answers soundly of a part gives an answer that is explained
+/// by each part whose series have the same samples, in the same order. Series without samples do not
+/// count, and references may be others.
+pub fn explaining_laws()
+    ensures { (part answered : Part) (query : QueryView) (answer : Answer) → IsPart answered
+        → rows_in (sampled part) ≡ rows_in (sampled answered)
+        → IsSoundAnswer answered query answer → IsExplained part query answer }
+{}

@@ -113,7 +113,11 @@ fn grade_of_answer(
 }
 
 /// What is said of a part that is skipped.
-pub(crate) fn grade_of_skip(alloc: Global, table: &Table, query: &Query) -> Result<Grade, AllocError>
+pub(crate) fn grade_of_skip(
+    alloc: Global,
+    table: &Table,
+    query: &Query,
+) -> Result<Grade, AllocError>
     ensures { IfOk result (λ g. IsGradeOfSkip query.now table.now g) }
 {
     match audit_skip(alloc, table, query) {

@@ -1,11 +1,17 @@
 //! The lines of a reply that is held against one state.
 
-ghost use Rattle.std.specs.Prelude.{◌≡◌, length, IfOk, option_map};
+ghost use Rattle.std.specs.Prelude.{◌≡◌, ◌↔◌, true, List, length, IfOk, option_map};
 ghost use Rattle.auditor.specs.Judgements.{name_of, is_of_block, is_named, unnamed};
 ghost use Rattle.std.specs.List.{AllZip};
+ghost use Rattle.labels.specs.Parts.{Part};
+ghost use Rattle.matchers.specs.Views.{QueryView};
+ghost use Rattle.reply_reader.specs.declared.reply.Reply.{Reply as ToldReply};
+ghost use Rattle.whole_audit.specs.declared.lines.StateLine.{StateLine as LineValue};
+ghost use Rattle.whole_audit.specs.Wholes.{IsWhole};
 ghost use Rattle.whole_audit.specs.StateLines.{part_of, has_head, IsGradeIn, IsStatePartLine};
 ghost use Rattle.whole_audit.specs.StateLines.{IsStateLeftLine, IsLeftBlockLine, AreLeftHeadLines};
 ghost use Rattle.whole_audit.specs.StateLines.{AreNamesLines, IsGradeOfRows, AreStateLines};
+ghost use Rattle.whole_audit.specs.StateLines.{are_right_lines};
 
 use crate::grade::{Grade, grade_of, grade_of_skip};
 use crate::wholes::{answers_of, are_named, is_of_block, is_of_head, name_of};
@@ -255,3 +261,11 @@ pub fn state_lines(
     })?;
     Ok(lines)
 }
+
+/// The law of lines: they all say that nothing is wrong exactly where the reply is right of the
+/// state.
+pub fn lines_laws()
+    ensures { (blocks : List Part) (head : Part) (query : QueryView) (reply : ToldReply)
+        (lines : List LineValue) → AreStateLines blocks head query reply lines
+        → (are_right_lines lines ≡ true) ↔ IsWhole query blocks head reply }
+{}
