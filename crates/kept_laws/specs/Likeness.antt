@@ -9,7 +9,7 @@ use Rattle.labels.specs.Rows.{Row}
 use Rattle.labels.specs.Parts.{Part, rows_in}
 use Rattle.head.specs.Refusals.{Refusal, limit, out_of_bounds, out_of_order, duplicate, cut_too_low}
 use Rattle.head.specs.Refusals.{too_many_parts}
-use Rattle.head.specs.Worlds.{World, Newest}
+use Rattle.head.specs.Worlds.{World, Newest, raised}
 use Rattle.kept_world.specs.States.{HeadSeries, State, Entry, shown, max_samples}
 
 -- the first value, or else the second
@@ -73,3 +73,8 @@ Agrees (Err e) None = Unit {0}
 abbrev pub AgreesOn : World → Option State → Type 0
 AgreesOn w None = ⊥
 AgreesOn w (Some s) = IsLike s w
+
+-- if a cut at a time is accepted, floor and newest samples are those that the store's have
+abbrev pub Raises : World → ℤ → Option State → Type 0
+Raises w t None = Unit {0}
+Raises w t (Some s) = (s.floor ≡ (raised w t).floor) × (newest_of s.head ≡ (raised w t).newest)
