@@ -29,14 +29,18 @@ lie_end ns c i b whole l e h =
 chained_of : (c : List Interval) → is_chained c ≡ true → IsChained c
 chained_of [] h = tt
 chained_of (i ∷ is) h =
-    let e : (i.until == next_from is) ≡ true = and_left (i.until == next_from is) (is_chained is) h in
-    (grind (arith, nat_tests), chained_of is (and_right (i.until == next_from is) (is_chained is) h))
+    let e : (i.until == next_from is) ≡ true =
+    and_left (i.until == next_from is) (is_chained is) h in (
+      grind (arith, nat_tests),
+      chained_of is (and_right (i.until == next_from is) (is_chained is) h),
+    )
 
 of_chained : (c : List Interval) → IsChained c → is_chained c ≡ true
 of_chained [] h = refl
 of_chained (i ∷ is) h =
     let e : i.until ≡ next_from is = h.0 in
-    and_both (i.until == next_from is) (is_chained is) (grind (arith, nat_tests)) (of_chained is h.1)
+    and_both (i.until == next_from is) (is_chained is) (grind (arith, nat_tests))
+    (of_chained is h.1)
 
 within_of : (ns : List ℕ) (c : List Interval) → lie_within ns c ≡ true → AllZip LiesIn ns c
 within_of [] [] h = tt

@@ -80,7 +80,8 @@ zip_at R (a ∷ as') (b ∷ bs) (suc i) x y all l e f =
     zip_at R as' bs i x y all.1 (omega (arith, l)) e f
 
 -- one place more of two lists
-pub zip_next : {A B : Type 0} (R : A → B → Type 0) (xs : List A) (ys : List B) (i : ℕ) (x : A) (y : B)
+pub zip_next : {A B : Type 0} (R : A → B → Type 0) (xs : List A) (ys : List B) (i : ℕ) (x : A)
+    (y : B)
     → i < length xs → i < length ys → x ≡ get_or xs i x → y ≡ get_or ys i y
     → AllZip R (take i xs) (take i ys) → R x y → AllZip R (take (i + 1) xs) (take (i + 1) ys)
 zip_next {A} {B} R xs ys i x y l m e f all h =
@@ -125,7 +126,8 @@ names_all : (last : ToldPart) (others : List ToldPart) (n : ℕ) → name_of las
 names_all last [] n e h = ap (λ (name : PartName). name ∷ []) e
 names_all last (told ∷ rest) n e h =
     let first : name_of told ≡ Block n =
-    block_of n (name_of told) (and_left (is_of_block n (name_of told)) (are_blocks_from (n + 1) rest) h) in
+    block_of n (name_of told)
+    (and_left (is_of_block n (name_of told)) (are_blocks_from (n + 1) rest) h) in
     let later = names_all last rest (n + 1) e
     (and_right (is_of_block n (name_of told)) (are_blocks_from (n + 1) rest) h) in
     (λ i. first i ∷ later i)
@@ -174,7 +176,8 @@ of_names last (told ∷ rest) n zero e =
     map_some [] e = let f : name_of last ∷ [] ≡ [] = e in cc
     map_some (x ∷ xs) e = let f : name_of x ∷ map name_of (xs ++ last ∷ []) ≡ [] = e in cc
 of_names last (told ∷ rest) n (suc blocks) e =
-    let f : name_of told ∷ map name_of (rest ++ last ∷ []) ≡ Block n ∷ names_from (n + 1) blocks = e in
+    let f : name_of told ∷ map name_of (rest ++ last ∷ [])
+    ≡ Block n ∷ names_from (n + 1) blocks = e in
     let first : name_of told ≡ Block n = cc in
     let g : map name_of (rest ++ last ∷ []) ≡ names_from (n + 1) blocks = cc in
     let later = of_names last rest (n + 1) blocks g in record {

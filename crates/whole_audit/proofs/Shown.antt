@@ -39,7 +39,8 @@ sound_has part query answer sound =
         ascending = begins_rise c sound.valid.chained (valid_forward a c sound.valid);
         of_part = λ r m.
             let k : (i : Interval) × (Contains c i × (i.from ≡ r)) = of_begins c r m in
-            let f : Contains (references part) k.0.from × (k.0.from ≤ k.0.from) × (k.0.from < k.0.until) =
+            let f : Contains (references part) k.0.from × (k.0.from ≤ k.0.from)
+            × (k.0.from < k.0.until) =
             of_run a k.0 k.0.from (sound.valid.begins k.0 k.1.0) in
             subst (λ (n : ℕ). Contains (references part) n) k.1.1 f.0;
       };
@@ -114,7 +115,8 @@ module _ (p q : Part) (query : QueryView) (grows : GrowsTo p q) where
         let bs : Contains (references q) s × (low ≤ s) × (s ≤ high) =
         of_between (asked q query) low high s
         (subst (λ (xs : List ℕ). Contains xs s) fit.is_run.is hs) in
-        let inside : (x : ℕ) → Contains (references_between (asked p query) r s) x → Contains run x =
+        let inside : (x : ℕ) → Contains (references_between (asked p query) r s) x
+        → Contains run x =
         λ x c. let b : Contains (references p) x × (r ≤ x) × (x ≤ s) =
         of_between (asked p query) r s x c in
         subst (λ (xs : List ℕ). Contains xs x) (sym fit.is_run.is)
@@ -220,14 +222,16 @@ module _ (p q : Part) (query : QueryView) (grows : GrowsTo p q) where
       → IsSoundAnswer q query answer → IsSoundAnswer p query answer
   sound_was is_p is_q answer has sound =
       let c : List Interval = answer.cover.certificate.items in
-      let chain : Chain c (references q) = cut_chain (asked q query) c (asked_part q query is_q) (record {
+      let chain : Chain c (references q) =
+      cut_chain (asked q query) c (asked_part q query is_q) (record {
         partition = sound.valid.partition;
         begins = sound.valid.begins;
         chained = sound.valid.chained;
       }) in
       let begins : (i : Interval) → Contains c i → Contains (references p) i.from =
       λ i m. has.begins.of_part i.from (map-has (λ (k : Interval). k.from) c i m) in
-      let cut : IsCut (asked p query) c = chain_cut (asked p query) c (asked_part p query is_p) (record {
+      let cut : IsCut (asked p query) c =
+      chain_cut (asked p query) c (asked_part p query is_p) (record {
         chained = chain.chained;
         members = λ i m. (begins i m, (chain.members i m).1);
         first = first_was is_q c begins chain.first;

@@ -36,8 +36,8 @@ abbrev pub IsExplainedUnder : PartName → QueryView → Part → PartAnswer →
 IsExplainedUnder (Block number) query part answer = IsExplained part query answer
 IsExplainedUnder Head query part answer = ⊥
 
--- what is said of an answer: that it is valid where it is sound; that it is numbered otherwise where
--- it is not sound and the part explains it, under the name of a block; else its first flaw
+-- what is said of an answer: that it is valid where it is sound; that it is numbered otherwise
+-- where it is not sound and the part explains it, under the name of a block; else its first flaw
 abbrev pub IsGradeOfAnswer : QueryView → Part → PartAnswer → Grade → Type 0
 IsGradeOfAnswer query part answer Valid = IsSoundAnswer part query answer
 IsGradeOfAnswer query part answer NumberedOtherwise =

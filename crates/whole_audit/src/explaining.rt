@@ -78,8 +78,8 @@ fn lie_within(numbers: &[SeriesRef], certificate: &[Interval]) -> bool
     rest.is_empty()
 }
 
-/// Whether no verdict names a missing matcher, the intervals are a chain, and each separator lies in
-/// its own interval.
+/// Whether no verdict names a missing matcher, the intervals are a chain, and each separator lies
+/// in its own interval.
 fn is_shaped(certificate: &[Interval], separators: &[SeriesRef], matchers: usize) -> bool
     ensures { result ≡ is_shaped matchers certificate.now separators.now }
 {
@@ -163,11 +163,11 @@ fn are_taken(looks: &mut Looks<'_>, series: &[(SeriesRef, Row)], certificate: &[
 /// No verdict names a missing matcher; each interval ends where the next begins, the last one at
 /// 4,294,967,296; each separator lies in its own interval, as many as intervals; the intervals take
 /// the series that have samples in turn, a match exactly one that answers, any other some or none
-/// that fit under its verdict; and the rows are those that the query selects. What it does not say
-/// is that the numbers are references of anything, nor that no fewer intervals would do.
+/// that fit under its verdict; and the rows are those that the query selects. It does not say that
+/// the numbers are references of anything, or that no fewer intervals would do.
 ///
-/// With n series, m matchers and k intervals it makes at most (m + 1)(2n + k) looks, and takes the
-/// memory of an audit.
+/// By design, and stated by no clause: with n series, m matchers and k intervals it makes at most
+/// (m + 1)(2n + k) looks, as `auditor` counts them, and takes the memory of an audit.
 pub fn is_explained(
     alloc: Global,
     table: &Table,
@@ -189,8 +189,8 @@ pub fn is_explained(
     Ok(are_selected(alloc, &mut looks, series, answer.rows.as_slice())?)
 }
 
-/// The law of explained answers: whoever answers soundly of a part gives an answer that is explained
-/// by each part whose series have the same samples, in the same order. Series without samples do not
+/// The law of explained answers: an answer that is sound of a part is explained by each part whose
+/// series have the same label sets and samples, in the same order. Series without samples do not
 /// count, and references may be others.
 pub fn explaining_laws()
     ensures { (part answered : Part) (query : QueryView) (answer : Answer) → IsPart answered

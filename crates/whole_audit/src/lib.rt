@@ -4,17 +4,19 @@
 //! the head, once; where all of it is right; and where the rows are those that the query selects of
 //! the content of all parts together. A part is a [`Table`](auditor::Table): a block's as its files
 //! spell it, and that of a head with its series numbered from 1, in the order of their creation.
-//! [`state_lines`] gives the lines, as `block 0: valid`, and [`grade_of`] what is said of one part,
-//! with the flaws of `auditor` in its order. There is one flaw more: `F11`, where the parts of the
+//! [`state_lines`] gives the lines, as `block 0: valid`; by the law of [`lines_laws`] they are all
+//! right exactly where `audit_whole` says yes. [`grade_of`] is what is said of one part, with the
+//! flaws of `auditor` in its order. There is one flaw more: `F11`, where the parts of the
 //! reply are not those of the state ([`are_named`]).
 //!
-//! A block whose numbers were others when it was asked is not refused: [`is_explained`] says whether
-//! an answer is right of the block's samples, whatever references the series had, and its line says
-//! `valid, numbered otherwise`. By the law of [`explaining_laws`] each right answer is.
+//! A block whose numbers were others when it was asked is not refused: [`is_explained`] says
+//! whether an answer is right of the block's samples, whatever references the series had, and its
+//! line says `valid, numbered otherwise`. By the law of [`explaining_laws`] each right answer is
+//! explained.
 //!
-//! A head grows from batch to batch. [`has_all_shown`] says whether it has all that an answer shows;
-//! by the laws of [`showing_laws`] the first head that has decides whether the answer is sound of
-//! any later one.
+//! A head grows from batch to batch. [`has_all_shown`] says whether it has all that an answer
+//! shows. By the laws of [`showing_laws`] the first head that has all decides: if the answer is
+//! sound of a later one, it is sound of that one.
 //!
 //! ```
 //! let query = Query::new(Selector::parse(alloc, "up").ok()?, 0, 100).ok()?;

@@ -78,7 +78,8 @@ pub(crate) fn are_selected(
     rows: &[Row],
 ) -> Result<bool, AllocError>
     requires { IsPart series.now }
-    ensures { IfOk result (λ b. IsTrue b ↔ AreRows rows.now (selected_content series.now looks.old)) }
+    ensures { IfOk result (λ b. IsTrue b
+        ↔ AreRows rows.now (selected_content series.now looks.old)) }
 {
     let selected = listing(alloc, selected_rows(alloc, looks, series)?);
     match audit_merge(alloc, &[selected], rows) {

@@ -79,9 +79,9 @@ fn count_listed(rows: &[Row]) -> u128
 /// after another; the separators are strictly ascending references of it, no two in one fitting
 /// run; and the query selects no fewer samples of it than the rows list.
 ///
-/// The laws of [`showing_laws`] say what that is good for. It makes at most (m + 2)n looks, with n
-/// series and m matchers, and takes memory for the searches of patterns and for a number for each
-/// interval.
+/// The laws of [`showing_laws`] say what that is good for. By design, and stated by no clause: with
+/// n series, m matchers and k separators it makes at most (m + 1)(2n + k) looks, as `auditor`
+/// counts them. It takes memory for the searches of patterns, and for a number for each interval.
 pub fn has_all_shown(
     alloc: Global,
     table: &Table,
@@ -104,8 +104,9 @@ pub fn has_all_shown(
 
 /// The laws of what answers show, of a part that grows: what a part has, it has later; a part of
 /// which an answer is sound has all that it shows; and an answer that is sound of a later part is
-/// sound of an earlier one, if that has all that the answer shows. So of the parts that a part grows
-/// through, the first that has all decides: if the answer is sound of any, it is sound of that one.
+/// sound of an earlier one, if that has all that the answer shows. So of the parts that a part
+/// grows through, the first that has all decides: if the answer is sound of any, it is sound of
+/// that one.
 pub fn showing_laws()
     ensures later { (earlier later : Part) (query : QueryView) (answer : Answer) → IsPart earlier
         → IsPart later → GrowsTo earlier later → HasAllShown earlier query answer

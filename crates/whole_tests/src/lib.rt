@@ -3,6 +3,8 @@
 #![tactic(auto)]
 
 #[cfg(test)]
+mod first_page;
+#[cfg(test)]
 mod replies;
 #[cfg(test)]
 mod said;

@@ -1,7 +1,8 @@
 //! What is said of the replies.
 
-use crate::replies::{A_BLOCK_TOO_MANY, A_ROW_LEFT_OUT, NUMBERED_OTHERWISE, ONE_MATCH_FOR_TWO};
-use crate::replies::{SOUND, THE_HEAD_TWICE};
+use crate::replies::{
+    A_BLOCK_TOO_MANY, A_ROW_LEFT_OUT, NUMBERED_OTHERWISE, ONE_MATCH_FOR_TWO, SOUND, THE_HEAD_TWICE,
+};
 use crate::worked_block::worked_block;
 use auditor::{Reply, Table, ToldPart};
 use matchers::{Query, Selector};
@@ -76,13 +77,30 @@ fn a_right_reply_is_whole(rt: HostRuntime) {
 #[test]
 fn lies_are_told(rt: HostRuntime) {
     let alloc = rt.alloc();
-    assert!(rt; has_lines(alloc, ONE_MATCH_FOR_TWO, "block 0: F2\nhead: valid\nrows: valid\n"));
-    assert!(rt; has_lines(alloc, A_ROW_LEFT_OUT, "block 0: F6\nhead: valid\nrows: valid\n"));
+    assert!(rt;
+        has_lines(
+            alloc,
+            ONE_MATCH_FOR_TWO,
+            "block 0: F2\nhead: valid\nrows: valid\n"
+        )
+    );
+    assert!(rt;
+        has_lines(
+            alloc,
+            A_ROW_LEFT_OUT,
+            "block 0: F6\nhead: valid\nrows: valid\n"
+        )
+    );
     let twice = "head: valid\nhead: valid\nblock 0: F9\nparts: F11\nrows: valid\n";
     assert!(rt; has_lines(alloc, THE_HEAD_TWICE, twice));
     let more = "block 1: skipped\nblock 0: F9\nhead: skipped\nparts: F11\nrows: valid\n";
     assert!(rt; has_lines(alloc, A_BLOCK_TOO_MANY, more));
-    for lie in [ONE_MATCH_FOR_TWO, A_ROW_LEFT_OUT, THE_HEAD_TWICE, A_BLOCK_TOO_MANY] {
+    for lie in [
+        ONE_MATCH_FOR_TWO,
+        A_ROW_LEFT_OUT,
+        THE_HEAD_TWICE,
+        A_BLOCK_TOO_MANY,
+    ] {
         assert!(rt; is_whole(alloc, lie) == Some(false));
     }
 }

@@ -26,7 +26,8 @@ loop-entry-preserved c =
             same = w.looks-is ∙ w.after_taking.ensures.same ∙ c.loop-entry.invariant.same;
             known =
                 subst (λ (is : List Interval). all_known (length query.matchers) is ≡ true) (sym is)
-                (known_after query (length query.matchers) rest row left (sym e) c.loop-entry.invariant.known);
+                (known_after query (length query.matchers) rest row left (sym e)
+                c.loop-entry.invariant.known);
             left =
                 ap (λ (is : List Interval). are_taken_from query (Some is)
                 (sampled (drop (i + 1) rows))) is
