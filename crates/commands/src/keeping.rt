@@ -1,18 +1,23 @@
 //! A store that is kept in a folder, and its server.
 
-ghost use Rattle.std.specs.Prelude.{◌≡◌, ◌⊎◌, List, None, Ok, true, IfOk, IfErr, OnOk, map};
-ghost use Rattle.std.specs.Prelude.{vec_len};
+ghost use Rattle.std.specs.Prelude.{◌≡◌, ◌⊎◌, ℕ, List, Option, None, Ok, false, true, IfOk, IfErr};
+ghost use Rattle.std.specs.Prelude.{OnOk, map, vec_len};
 ghost use Rattle.std.specs.List.{All};
 ghost use Rattle.std.specs.Thread.{IsSend, IsSync};
+ghost use Rattle.data_folder.specs.Folders.{HasFile, LeavesOnly, Untouched};
+ghost use Rattle.data_folder.specs.JournalFile.{journal_name};
 ghost use Rattle.head.specs.Blocks.{part_in};
 ghost use Rattle.head.specs.Heads.{world_of};
 ghost use Rattle.head.specs.Worlds.{replayed};
 ghost use Rattle.store_folder.specs.Codes.{cause_of};
+ghost use Rattle.store_folder.specs.Faults.{TellsFiles};
 ghost use Rattle.store_folder.specs.Finding.{IsFoundStore};
 ghost use Rattle.store_folder.specs.Holding.{HoldsOrLost};
 ghost use Rattle.store_folder.specs.Starting.{GoesOn};
 ghost use Rattle.store_folder.specs.Origins.{beginning};
+ghost use Rattle.store_folder.specs.Plain.{HasEither, may_be_plain};
 ghost use Rattle.store_folder.specs.States.{origin_of};
+ghost use Rattle.store_folder.specs.Sweeps.{ListsNumber};
 ghost use Rattle.server.specs.Shifts.{AreUnder, EachServed};
 ghost use Rattle.store_folder.specs.Refusals.{IsRefusal};
 ghost use Rattle.store_folder.specs.declared.error.StartCause.TheVariants.{Refused};
@@ -83,41 +88,47 @@ fn unwritable(alloc: Global, folder: &str) -> Fault
     }
 }
 
-/// A folder, and the store that it has, if it has one.
-#[derive(Drop)]
-struct FoundData<H: Drop> {
-    disk: H,
-    found: Option<FoundStore>,
-}
-
-/// A folder that has no journal, if it has no blocks either: who has lost a journal shall not lose
-/// the blocks as well.
-fn read_nothing<H: Folder + Drop>(
-    alloc: Global,
-    disk: H,
-    folder: &str,
-) -> Result<FoundData<H>, Fault>
-    requires { IsRead H.shows H.kept H.sound disk None }
-    ensures read { IfOk result (λ x. IsRead H.shows H.kept H.sound x.disk x.found) }
+/// That a folder that has no journal has no blocks either: who has lost a journal shall not lose
+/// the blocks as well. Nothing is changed.
+fn check_nothing<H: Folder>(alloc: Global, disk: &mut H, folder: &str) -> Result<(), Fault>
+    requires { H.sound disk.old ≡ true }
+    ensures none { OnOk result (ListsNumber H.lists disk.new false) }
+    ensures sound { H.sound disk.new ≡ true }
+    ensures untouched { Untouched H.shows H.kept H.moment H.left_since disk.old disk.new }
     ensures err { IfErr result (IsDataFault folder.now) }
 {
-    let mut disk = disk;
-    match has_blocks(alloc, &mut disk) {
-        Ok(false) => Ok(FoundData { disk, found: None }),
-        _ => Err(no_journal(alloc, folder)),
+    match has_blocks(alloc, disk) {
+        Ok(false) => Ok(()),
+        Ok(true) | Err(_) => Err(no_journal(alloc, folder)),
     }
 }
 
-/// The store that a folder has, if it has one, and the folder.
-fn read_data<H: Folder + Drop>(alloc: Global, disk: H, folder: &str) -> Result<FoundData<H>, Fault>
-    requires { H.sound disk ≡ true }
-    ensures read { IfOk result (λ x. IsRead H.shows H.kept H.sound x.disk x.found) }
+/// The store that a folder has, if it has one. `None` only if it has no blocks either. Nothing is
+/// changed, but that a journal of events alone is given a head.
+fn read_data<H: Folder>(
+    alloc: Global,
+    disk: &mut H,
+    folder: &str,
+) -> Result<Option<FoundStore>, Fault>
+    requires { H.sound disk.old ≡ true }
+    ensures read { IfOk result (IsRead H.shows H.kept H.sound disk.new) }
+    ensures none { result ≡ Ok None → ListsNumber H.lists disk.new false }
+    // Of a folder that tells what its files have, whatever is answered: nothing is changed, unless
+    // the journal is one of events alone; then a crash leaves it as it was, or with a head.
+    ensures whole { TellsFiles H.shows → (x : Option (List ℕ)) → H.shows disk.old journal_name x
+        → may_be_plain x ≡ false
+        → Untouched H.shows H.kept H.moment H.left_since disk.old disk.new }
+    ensures any_moment { TellsFiles H.shows → (file : List ℕ)
+        → HasFile H.shows H.kept journal_name file disk.old
+        → LeavesOnly H.moment H.left_since disk.old disk.new (HasEither file) }
     ensures err { IfErr result (IsDataFault folder.now) }
 {
-    let mut disk = disk;
-    match open_store(alloc, &mut disk) {
-        Ok(None) => read_nothing(alloc, disk, folder),
-        Ok(found) => Ok(FoundData { disk, found }),
+    match open_store(alloc, disk) {
+        Ok(Some(found)) => Ok(Some(found)),
+        Ok(None) => match check_nothing(alloc, disk, folder) {
+            Ok(()) => Ok(None),
+            Err(fault) => Err(fault),
+        },
         Err(error) => Err(match error.cause() {
             StartCause::Memory => Fault::Memory,
             StartCause::Folder => unreadable(alloc, folder, error),
@@ -138,8 +149,9 @@ fn read_host<F: ReadFiles>(
     let Some(host) = files.host() else {
         return Err(cannot_write(alloc, folder));
     };
-    let read = read_data(alloc, HostFolder::new(host, alloc, folder), folder)?;
-    Ok(read.found)
+    let mut disk = HostFolder::new(host, alloc, folder);
+    let found = read_data(alloc, &mut disk, folder)?;
+    Ok(found)
 }
 
 /// Reads as [`read_host`] does, and answers those beside that watch.
