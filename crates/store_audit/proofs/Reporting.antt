@@ -1,5 +1,5 @@
 -- What a report says of a search.
-use Rattle.std.proofs.Common.{◌≡◌, ℕ, List, length, Option, Some, None, refl, sym, ap, subst, ◌∙◌}
+use Rattle.std.proofs.Common.{◌≡◌, ℕ, List, length, Option, Some, None, sym, ap, subst, ◌∙◌}
 use Rattle.std.specs.Prelude.{unwrap_or}
 use Rattle.matchers.specs.Views.{QueryView}
 use Rattle.reply_reader.specs.declared.reply.Reply.{Reply}

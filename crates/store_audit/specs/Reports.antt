@@ -1,5 +1,5 @@
 -- What is said of a reply over a kept store.
-use Rattle.std.specs.Prelude.{◌≡◌, ◌≤◌, ℕ, List, length, Option, None, Some}
+use Rattle.std.specs.Prelude.{◌≡◌, ℕ, List, length, Option, None, Some}
 use Rattle.labels.specs.Parts.{Part}
 use Rattle.matchers.specs.Views.{QueryView}
 use Rattle.reply_reader.specs.declared.reply.Reply.{Reply}

@@ -42,10 +42,7 @@ fn copied_series(alloc: Global, series: &KeptSeries) -> Result<KeptSeries, Alloc
     Ok(KeptSeries::new(labels, series.newest(), samples))
 }
 
-pub(crate) fn copied_head(
-    alloc: Global,
-    head: &[KeptSeries],
-) -> Result<Vec<KeptSeries>, AllocError>
+pub(crate) fn copied_head(alloc: Global, head: &[KeptSeries]) -> Result<Vec<KeptSeries>, AllocError>
     ensures { IfOk result (λ copies. copies.items ≡ head.now) }
 {
     let mut copies = Vec::new(alloc);
