@@ -1,6 +1,6 @@
 -- What is right of the parts of a state, part by part and all together.
-use Rattle.std.proofs.Common.{◌≡◌, ℕ, suc, ◌+◌, ◌<◌, Bool, true, false, List, [], ◌∷◌, ◌++◌, length, map}
-use Rattle.std.proofs.Common.{refl, sym, ap, subst, ◌∙◌, arith}
+use Rattle.std.proofs.Common.{◌≡◌, ℕ, true, false, List, [], ◌∷◌, ◌++◌, length, map}
+use Rattle.std.proofs.Common.{refl, sym, ap, subst, ◌∙◌}
 use Rattle.std.specs.Prelude.{◌&&◌, ◌==◌}
 use Rattle.std.specs.List.{AllZip, flat_map}
 use Rattle.labels.specs.Parts.{Part}
@@ -20,7 +20,6 @@ use Rattle.auditor.specs.declared.flaw.Flaw.{Flaw}
 use Rattle.auditor.specs.declared.flaw.Flaw.TheVariants as flaws
 use Rattle.auditor.specs.Judgements.{answers_of, name_of}
 use Rattle.whole_audit.specs.Grading.{are_blocks_from, is_head}
-use Rattle.whole_audit.specs.PartNames.{part_names}
 use Rattle.whole_audit.specs.Wholes.{AreRightOf, IsRightOf, IsRightUnder}
 use Rattle.whole_audit.proofs.Merged.{whole_listed}
 use Rattle.whole_audit.proofs.Right.{as_many, of_named, zip_push, zip_split}

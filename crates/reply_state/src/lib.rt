@@ -11,4 +11,4 @@
 mod searching;
 mod told;
 
-pub use searching::find_reply;
+pub use searching::{find_parts, find_reply};

@@ -35,8 +35,9 @@ fn of_head(told: &ToldPart) -> Option<&PartAnswer>
     }
 }
 
-/// The newest state of which all that is said of parts is right, not before `since` events.
-fn find_parts(
+/// The newest state of which all that is said of parts is right, not before `since` events: after
+/// how many of the changes it is. The world is what the head of a journal says, with its blocks.
+pub fn find_parts(
     alloc: Global,
     world: World,
     changes: &[Change],

@@ -5,7 +5,7 @@ use Rattle.reply_reader.specs.declared.reply.ToldPart.TheVariants.{Searched}
 use Rattle.auditor.specs.Auditing.{IsSoundAnswer}
 use Rattle.whole_audit.specs.Wholes.{AreRightOf}
 use Rattle.kept_world.specs.Changes.{events_of}
-use Rattle.kept_world.specs.States.{State, numbered, shown}
+use Rattle.kept_world.specs.States.{numbered, shown}
 use Rattle.state_search.specs.Searching.{IsRightBy}
 use Rattle.reply_state.specs.Searches.{AreRightBlocks, AreRightIn}
 use Rattle.reply_state.proofs.Rights.{blocks_apart, head_apart, last_is_head, searches_so, together}
@@ -27,8 +27,10 @@ returns-in_ok-find_state-in-Some-of_head c =
     (AreRightIn query parts) c.args.since c.args.world (events_of c.args.changes.now)
     c.in_ok-find_state-in-Some-of_head.field-0
     (λ s h. together query s.blocks (numbered 1 (shown s.head)) told parts answer named parted h.0 h.1)
-    (λ s h. (blocks_apart query s.blocks (numbered 1 (shown s.head)) told parts answer named parted h,
-        head_apart query s.blocks (numbered 1 (shown s.head)) told parts answer named parted h))
+    (λ s h. (
+      blocks_apart query s.blocks (numbered 1 (shown s.head)) told parts answer named parted h,
+      head_apart query s.blocks (numbered 1 (shown s.head)) told parts answer named parted h,
+    ))
     c.in_ok-find_state-in-Some-of_head.ensures
 
 pub returns-in-None-of_head : goal.returns-in-None-of_head

@@ -12,9 +12,16 @@ returns-then-branch c =
     subst (Searches (AreRightIn query c.as_slice.result.now) c.args.since c.args.world
     (events_of c.args.changes.now)) c.in-Found.is c.in_ok-at.ensures in
     let right =
-    subst (λ (told : List ToldPart). AreRightIn query told h.2.0) c.as_slice.ensures.value h.2.2 in
-    (h.0, h.1, (h.2.0, h.2.1, whole_when query c.args.reply h.2.0 right
-        (c.in_ok-are_listed-in-Found.ensures.0 c.if-branch.true)))
+    subst (λ (told : List ToldPart). AreRightIn query told h.2.0) c.as_slice.ensures.value h.2.2 in (
+      h.0,
+      h.1,
+      (
+        h.2.0,
+        h.2.1,
+        whole_when query c.args.reply h.2.0 right
+            (c.in_ok-are_listed-in-Found.ensures.0 c.if-branch.true),
+      ),
+    )
 
 pub returns-else-branch : goal.returns-else-branch
 returns-else-branch c n s after upto leads whole =

@@ -1,4 +1,3 @@
-use Rattle.std.proofs.Common.{sym}
 use Rattle.std.proofs.lemmas.Slice.Zip.{AllZip-long}
 use Rattle.whole_audit.specs.Wholes.{IsRightOf}
 use Rattle.reply_state.proofs.told.are_right.Goals as goal

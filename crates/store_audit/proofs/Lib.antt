@@ -1,0 +1,2 @@
+pub mod Born
+pub mod Reporting

@@ -1,0 +1,59 @@
+-- What is said of a reply over a kept store.
+use Rattle.std.specs.Prelude.{◌≡◌, ℕ, List, length, Option, None, Some}
+use Rattle.labels.specs.Parts.{Part}
+use Rattle.matchers.specs.Views.{QueryView}
+use Rattle.reply_reader.specs.declared.reply.Reply.{Reply}
+use Rattle.whole_audit.specs.StateLines.{AreStateLines}
+use Rattle.whole_audit.specs.declared.lines.StateLine.{StateLine}
+use Rattle.kept_walk.specs.Kept.{Event, Series, Store}
+use Rattle.kept_world.specs.Changes.{IsRefusedAt, LeadsTo}
+use Rattle.kept_world.specs.Sound.{IsSoundHead, started}
+use Rattle.kept_world.specs.States.{State, numbered, shown}
+use Rattle.reply_state.specs.Searches.{AreRightIn, Searches}
+use Rattle.state_search.specs.declared.search.Search.TheVariants as search
+use Rattle.store_audit.specs.declared.judging.Beginning.{Beginning}
+use Rattle.store_audit.specs.declared.judging.StateReport.{StateReport}
+use Rattle.store_audit.specs.declared.judging.StoreJudgement.{StoreJudgement}
+use Rattle.store_audit.specs.declared.judging.StoreJudgement.TheVariants.{Told, BadHead, BadEvent}
+
+-- the state that the head of a store says, with its blocks
+abbrev pub first_of : Store → List Part → State
+first_of store blocks = started store.floor store.head blocks
+
+abbrev pub first_in : Beginning → State
+first_in b = started b.floor b.head.items b.tables.items
+
+-- the lines of the reply over the state that this many events lead to
+abbrev pub AreLinesAt : QueryView → Reply → State → List Event → ℕ → List StateLine → Type 0
+AreLinesAt query reply first events n lines =
+    (s : State) × LeadsTo first events n s
+    × AreStateLines s.blocks (numbered 1 (shown s.head)) query reply lines
+
+-- the newest state of which all that is said of parts is right, if there is one: the lines are of
+-- that state, and else of the last
+abbrev pub IsFound : QueryView → Reply → ℕ → State → List Event → Option ℕ → ℕ → Type 0
+IsFound query reply since first events (Some at) told =
+    (told ≡ at) × Searches (AreRightIn query reply.parts.items) since first events (search.Found at)
+IsFound query reply since first events None told =
+    (told ≡ length events)
+    × Searches (AreRightIn query reply.parts.items) since first events search.Nowhere
+
+pub record IsReport (query : QueryView) (reply : Reply) (since : ℕ) (first : State)
+    (events : List Event) (report : StateReport) : Type 0 where
+  pub found : IsFound query reply since first events report.found report.told
+  pub lines : AreLinesAt query reply first events report.told report.lines.items
+  pub counted : report.events ≡ length events
+
+-- what is said over the states from this one on; or its head is none that a store has, or an event
+-- is the first that the state before it refuses
+abbrev pub IsJudgementOf : QueryView → Reply → ℕ → List Series → State → List Event
+    → StoreJudgement → Type 0
+IsJudgementOf query reply since head first events (Told report) =
+    IsReport query reply since first events report
+IsJudgementOf query reply since head first events BadHead = IsSoundHead head → ⊥
+IsJudgementOf query reply since head first events (BadEvent at) = IsRefusedAt first events at
+
+-- what is said over a store with these blocks
+abbrev pub IsJudgement : QueryView → Reply → ℕ → Store → List Part → StoreJudgement → Type 0
+IsJudgement query reply since store blocks judgement =
+    IsJudgementOf query reply since store.head (first_of store blocks) store.events judgement

@@ -1,0 +1,211 @@
+//! Judging a reply over a kept store.
+
+ghost use Rattle.std.specs.Prelude.{◌≡◌, ◌≤◌, [], IfOk, IfNone, IfSome, Some, length, unwrap_or};
+ghost use Rattle.whole_audit.specs.StateLines.{AreStateLines};
+ghost use Rattle.kept_world.specs.Births.{AreBornBy};
+ghost use Rattle.kept_world.specs.Changes.{events_of};
+ghost use Rattle.kept_world.specs.Sound.{IsSoundHead};
+ghost use Rattle.kept_world.specs.States.{State, numbered, shown, state_after};
+ghost use Rattle.store_audit.specs.Reports.{AreLinesAt, IsJudgement, IsJudgementOf, first_in};
+
+use crate::copies::{copied_head, copied_tables};
+use block_walk::Table;
+use kept_walk::{Change, Kept, KeptSeries};
+use kept_world::{Replay, World};
+use matchers::Query;
+use reply_reader::Reply;
+use reply_state::find_parts;
+use state_search::Search;
+use std::alloc::{AllocError, Global};
+use whole_audit::{StateLine, state_lines};
+
+/// What is said of a reply over a store.
+#[derive(Drop)]
+pub struct StateReport {
+    /// The lines of the reply over one state.
+    pub lines: Vec<StateLine>,
+    /// After how many events the newest state is of which all that is said of parts is right.
+    pub found: Option<usize>,
+    /// After how many events the state of the lines is: the one that was found, or else the last.
+    pub told: usize,
+    /// How many events the journal has behind its head.
+    pub events: usize,
+}
+
+/// What is said of a reply over a store, or why nothing is.
+#[derive(Drop)]
+pub enum StoreJudgement {
+    /// The lines over a state.
+    Told(StateReport),
+    /// No store has such a head.
+    BadHead,
+    /// The event at this place, from 0, is one that no store accepted after those before it.
+    BadEvent(usize),
+}
+
+/// A head with its blocks.
+#[derive(Drop)]
+struct Beginning {
+    floor: i64,
+    head: Vec<KeptSeries>,
+    tables: Vec<Table>,
+}
+
+fn copied(alloc: Global, beginning: &Beginning) -> Result<Beginning, AllocError>
+    ensures first { IfOk result (λ copy. first_in copy ≡ first_in beginning.now) }
+    ensures head { IfOk result (λ copy. copy.head.items ≡ beginning.now.head.items) }
+{
+    let head = copied_head(alloc, &beginning.head)?;
+    let tables = copied_tables(alloc, &beginning.tables)?;
+    Ok(Beginning {
+        floor: beginning.floor,
+        head,
+        tables,
+    })
+}
+
+/// The world that a head with its blocks is; `None` if no store has such a head.
+fn first_world(alloc: Global, beginning: Beginning) -> Result<Option<World>, AllocError>
+    ensures none { IfOk result (λ world. IfNone world
+        (IsSoundHead beginning.head.items → ⊥)) }
+    ensures some { IfOk result (λ world. IfSome world (λ s. s ≡ first_in beginning)) }
+    ensures born { IfOk result (λ world. IfSome world (λ s. AreBornBy s.number s.head)) }
+    ensures first { IfOk result (λ world. IfSome world (λ s. s.number ≡ 0)) }
+{
+    let Beginning {
+        floor,
+        head,
+        tables,
+    } = beginning;
+    Ok(World::start(alloc, floor, head, tables)?)
+}
+
+/// The world that changes lead to; `None` if there is none.
+fn world_after(
+    alloc: Global,
+    beginning: Beginning,
+    changes: &[Change],
+) -> Result<Option<World>, AllocError>
+    ensures reached { IfOk result (λ world. IfSome world (λ s.
+        state_after (events_of changes.now) (first_in beginning) ≡ Some s)) }
+    ensures born { IfOk result (λ world. IfSome world (λ s. AreBornBy s.number s.head)) }
+{
+    match first_world(alloc, beginning)? {
+        Some(world) => match world.replay(alloc, changes)? {
+            Replay::Last(world) => Ok(Some(world)),
+            Replay::Refused(_) => Ok(None),
+        },
+        None => Ok(None),
+    }
+}
+
+/// The lines of a reply over a world.
+fn lines_of(
+    alloc: Global,
+    world: &World,
+    query: &Query,
+    reply: Reply,
+) -> Result<Vec<StateLine>, AllocError>
+    requires { AreBornBy world.now.number world.now.head }
+    ensures { IfOk result (λ lines. AreStateLines world.now.blocks
+        (numbered 1 (shown world.now.head)) query.now reply lines.items) }
+{
+    let head = world.head_at(alloc, world.number())?;
+    Ok(state_lines(alloc, world.blocks(), &head, query, reply)?)
+}
+
+/// The lines of a reply over the world that so many changes lead to. The search has led there, so
+/// there is such a world; if not, this fails as if memory ran out.
+fn lines_after(
+    alloc: Global,
+    beginning: Beginning,
+    changes: &[Change],
+    query: &Query,
+    reply: Reply,
+) -> Result<Vec<StateLine>, AllocError>
+    ensures { IfOk result (λ lines. (s : State)
+        × (state_after (events_of changes.now) (first_in beginning) ≡ Some s)
+        × AreStateLines s.blocks (numbered 1 (shown s.head)) query.now reply lines.items) }
+{
+    match world_after(alloc, beginning, changes)? {
+        Some(world) => Ok(lines_of(alloc, &world, query, reply)?),
+        None => Err(AllocError),
+    }
+}
+
+/// The report of a search that found this state, or none.
+fn report_of(
+    alloc: Global,
+    beginning: Beginning,
+    changes: &[Change],
+    query: &Query,
+    reply: Reply,
+    found: Option<usize>,
+) -> Result<StateReport, AllocError>
+    requires { IfSome found (λ at. at ≤ length changes.now) }
+    ensures lines { IfOk result (λ report. AreLinesAt query.now reply (first_in beginning)
+        (events_of changes.now) report.told report.lines.items) }
+    ensures found { IfOk result (λ report. report.found ≡ found) }
+    ensures told { IfOk result (λ report. report.told ≡ unwrap_or found (length changes.now)) }
+    ensures counted { IfOk result (λ report. report.events ≡ length changes.now) }
+{
+    let told = found.unwrap_or(changes.len());
+    let lines = lines_after(alloc, beginning, changes.split_at(told).0, query, reply)?;
+    Ok(StateReport {
+        lines,
+        found,
+        told,
+        events: changes.len(),
+    })
+}
+
+fn judge(
+    alloc: Global,
+    beginning: Beginning,
+    changes: &[Change],
+    query: &Query,
+    reply: Reply,
+    since: usize,
+) -> Result<StoreJudgement, AllocError>
+    ensures { IfOk result (λ judgement. IsJudgementOf query.now reply since
+        beginning.head.items (first_in beginning) (events_of changes.now) judgement) }
+{
+    let copy = copied(alloc, &beginning)?;
+    let Some(world) = first_world(alloc, copy)? else {
+        return Ok(StoreJudgement::BadHead);
+    };
+    let parts = reply.parts.as_slice();
+    let found = match find_parts(alloc, world, changes, query, parts, since)? {
+        Search::Refused(at) => return Ok(StoreJudgement::BadEvent(at)),
+        Search::Found(at) => Some(at),
+        Search::Nowhere => None,
+    };
+    let report = report_of(alloc, beginning, changes, query, reply, found)?;
+    Ok(StoreJudgement::Told(report))
+}
+
+/// Judges a reply over a store: what its journal says, and its blocks. Not before `since` events, it
+/// finds the newest state of which all that the reply says of parts is right, and gives the lines
+/// over that state; if there is none, those over the last.
+///
+/// It replays the changes twice, and copies the head and the blocks once.
+pub fn judge_store(
+    alloc: Global,
+    kept: Kept,
+    tables: Vec<Table>,
+    query: &Query,
+    reply: Reply,
+    since: usize,
+) -> Result<StoreJudgement, AllocError>
+    ensures { IfOk result (λ judgement.
+        IsJudgement query.now reply since kept tables.items judgement) }
+{
+    let floor = kept.floor();
+    let (head, changes) = kept.into_parts();
+    let beginning = Beginning {
+        floor,
+        head,
+        tables,
+    };
+    judge(alloc, beginning, &changes, query, reply, since)
+}
