@@ -42,11 +42,11 @@ value-parted s t l q k =
     ∙ or-assoc (in_rows l q (kept t s.head)) (in_rows l q (rows_by (leaving t) s.head)) (in_parts l q s.blocks)
     ∙ ap (λ x. or_else (in_rows l q (kept t s.head)) (or_else x (in_parts l q s.blocks))) (sym (below-is t l q s.head k.apart))
 
-rows_back : (n : ℕ) (rows : List Row) → rows_in (numbered n rows) ≡ rows
+pub rows_back : (n : ℕ) (rows : List Row) → rows_in (numbered n rows) ≡ rows
 rows_back n [] = refl
 rows_back n (r ∷ rs) = ap (λ xs. r ∷ xs) (rows_back (n + 1) rs)
 
-parts-append : (l : Labels) (q : ℤ) (ps : List Part) (p : Part) → in_parts l q (ps ++ p ∷ []) ≡ or_else (in_rows l q (rows_in p)) (in_parts l q ps)
+pub parts-append : (l : Labels) (q : ℤ) (ps : List Part) (p : Part) → in_parts l q (ps ++ p ∷ []) ≡ or_else (in_rows l q (rows_in p)) (in_parts l q ps)
 parts-append l q [] p = sym (or-none (in_rows l q (rows_in p)))
 parts-append l q (b ∷ bs) p =
     ap (λ x. or_else x (in_rows l q (rows_in b))) (parts-append l q bs p)
