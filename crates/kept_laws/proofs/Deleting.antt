@@ -88,7 +88,7 @@ rows-in sat a b (r ∷ rs) = (λ i. one i ∷ rows-in sat a b rs i)
     one : (struck_row sat a b r).1 ≡ struck_one sat a b r.1
     one = elim (sat r.1.0) as (λ v. (if v then (r.0, (r.1.0, filter (λ (x : ℤ × ℤ). not (in_range a b x.0)) r.1.1)) else r).1 ≡ (if v then (r.1.0, filter (λ (x : ℤ × ℤ). not (in_range a b x.0)) r.1.1) else r.1)) [ true ↦ refl | false ↦ refl ]
 
-parts-struck : (sat : Labels → Bool) (a b : ℤ) (l : Labels) (t : ℤ) (ps : List Part) → in_parts l t (map (struck_part sat a b) ps) ≡ cond (not (sat l && in_range a b t)) (in_parts l t ps) None
+pub parts-struck : (sat : Labels → Bool) (a b : ℤ) (l : Labels) (t : ℤ) (ps : List Part) → in_parts l t (map (struck_part sat a b) ps) ≡ cond (not (sat l && in_range a b t)) (in_parts l t ps) None
 parts-struck sat a b l t [] = sym (nothing (not (sat l && in_range a b t)))
 parts-struck sat a b l t (p ∷ ps) =
     ap (λ z. or_else z (in_rows l t (rows_in (struck_part sat a b p)))) (parts-struck sat a b l t ps)

@@ -1,7 +1,7 @@
 -- When a state is that of a world of the store, and when two steps agree.
 use Rattle.std.specs.Prelude.{◌≡◌, ◌+◌, ◌≤◌, ℕ, ℤ, Bool, true, false, cond, T, List, [], ◌∷◌}
-use Rattle.std.specs.Prelude.{Option, Some, None, Result, Ok, Err, length, map}
-use Rattle.std.specs.List.{AllByRecursion}
+use Rattle.std.specs.Prelude.{Option, Some, None, Result, Ok, Err, length, map, not, int_lt}
+use Rattle.std.specs.List.{list_all, AllByRecursion}
 use Rattle.std.specs.Ordering.{int_cmp, eq_by_cmp}
 use Rattle.std.specs.FinMap.Entries.{find}
 use Rattle.labels.specs.Labels.{Labels, point_cmp, same_labels}
@@ -9,8 +9,9 @@ use Rattle.labels.specs.Rows.{Row}
 use Rattle.labels.specs.Parts.{Part, rows_in}
 use Rattle.head.specs.Refusals.{Refusal, limit, out_of_bounds, out_of_order, duplicate, cut_too_low}
 use Rattle.head.specs.Refusals.{too_many_parts}
-use Rattle.head.specs.Worlds.{World, Newest, raised}
-use Rattle.kept_world.specs.States.{HeadSeries, State, Entry, shown, max_samples}
+use Rattle.head.specs.Worlds.{World, Newest}
+use Rattle.kept_world.specs.States.{HeadSeries, State, Entry, shown, samples_of, max_samples}
+use Rattle.kept_world.specs.Sound.{AreApart, IsSoundSeries, label_sets}
 
 -- the first value, or else the second
 abbrev pub or_else : Option ℤ → Option ℤ → Option ℤ
@@ -74,7 +75,11 @@ abbrev pub AgreesOn : World → Option State → Type 0
 AgreesOn w None = ⊥
 AgreesOn w (Some s) = IsLike s w
 
--- if a cut at a time is accepted, floor and newest samples are those that the store's have
-abbrev pub Raises : World → ℤ → Option State → Type 0
-Raises w t None = Unit {0}
-Raises w t (Some s) = (s.floor ≡ (raised w t).floor) × (newest_of s.head ≡ (raised w t).newest)
+-- What states of a store keep: no label set stands twice in the head, the times of each series ascend
+-- up to its newest one and are not below the floor, and no block has a sample from the floor on.
+pub record IsKept (s : State) : Type 0 where
+  pub apart : AreApart (label_sets s.head)
+  pub sound : AllByRecursion IsSoundSeries s.head
+  pub above : AllByRecursion (λ (e : HeadSeries).
+      T (list_all (λ (k : ℤ × ℤ). not (int_lt k.0 s.floor)) (samples_of e.samples))) s.head
+  pub below : (l : Labels) (t : ℤ) → int_lt t s.floor ≡ false → in_parts l t s.blocks ≡ None

@@ -3,20 +3,21 @@
 //!
 //! Of a state and a world of the store that are alike (`IsLike`: floor, newest samples, count of
 //! blocks, and the value at each label set and time), a batch and a deletion make a state and a
-//! world that are alike again, or both refuse it. Of a cut the laws say when it is too low, and the
-//! floor and the newest samples behind it.
+//! world that are alike again, or both refuse it; and so does a cut, of a state as a store keeps it
+//! (`IsKept`), which each event keeps.
 //!
 //! The crate has no code that runs, and no program needs it.
 #![tactic(auto)]
 
-ghost use Rattle.std.specs.Prelude.{◌≡◌, false, None, List, ℤ, int_lt};
+ghost use Rattle.std.specs.Prelude.{◌≡◌, Some, List, ℤ, Bool};
+ghost use Rattle.labels.specs.Contents.{Content};
 ghost use Rattle.labels.specs.Rows.{Row};
 ghost use Rattle.matchers.specs.Views.{MatcherView};
 ghost use Rattle.matchers.specs.Satisfies.{satisfies_all};
-ghost use Rattle.head.specs.Worlds.{World, committed, deleted};
-ghost use Rattle.kept_walk.specs.Kept.{batch, deletion, cut};
+ghost use Rattle.head.specs.Worlds.{World, committed, deleted, cut_at};
+ghost use Rattle.kept_walk.specs.Kept.{Event, batch, deletion, cut};
 ghost use Rattle.kept_world.specs.States.{State, stepped, entries_of};
-ghost use Rattle.kept_laws.specs.Likeness.{IsLike, HasRoom, Agrees, AgreesOn, Raises};
+ghost use Rattle.kept_laws.specs.Likeness.{IsLike, IsKept, HasRoom, Agrees, AgreesOn};
 
 /// A law: on a batch the steps agree, unless a series has nearly as many samples as it may have.
 pub fn batches_agree()
@@ -30,10 +31,13 @@ pub fn deletions_agree()
         → AgreesOn (deleted w (satisfies_all ms) from to) (stepped s (deletion ms from to)) }
 {}
 
-/// A law: a cut is refused where the store's is too low; if it is accepted, the floor and the newest
-/// samples are those of the store.
-pub fn cuts_raise()
-    ensures too_low { (s : State) (w : World) (t : ℤ) → IsLike s w → int_lt w.floor t ≡ false
-        → stepped s (cut t) ≡ None }
-    ensures raised { (s : State) (w : World) (t : ℤ) → IsLike s w → Raises w t (stepped s (cut t)) }
+/// A law: on a cut the steps agree, of a state as a store keeps it, whatever the limits of files are.
+pub fn cuts_agree()
+    ensures { (fits : Content → Bool) (s : State) (w : World) (t : ℤ) → IsLike s w → IsKept s
+        → Agrees (cut_at fits w t) (stepped s (cut t)) }
+{}
+
+/// A law: each event keeps what states of a store keep.
+pub fn events_keep()
+    ensures { (s : State) (u : State) (e : Event) → IsKept s → stepped s e ≡ Some u → IsKept u }
 {}
