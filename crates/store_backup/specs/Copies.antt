@@ -1,7 +1,6 @@
 -- A store that is copied into another folder.
-use Rattle.std.specs.Prelude.{◌≡◌, ◌⊎◌, ℕ, Bool, List, [], Option, None, Some, Ok, length}
-use Rattle.block_folder.specs.declared.values.Values.{Values}
-use Rattle.data_folder.specs.Folders.{HasFile, KeepsOthers, Left, LeavesOnly, Untouched}
+use Rattle.std.specs.Prelude.{◌≡◌, ◌⊎◌, ℕ, Bool, List, [], Option, None, Ok, length}
+use Rattle.data_folder.specs.Folders.{KeepsOthers, Left, LeavesOnly, Untouched}
 use Rattle.data_folder.specs.JournalFile.{journal_name, next_name}
 use Rattle.data_folder.specs.States.{HasStore as HasFilesOf, Named}
 use Rattle.data_folder.specs.Sweeping.{KeepsStore}
@@ -17,7 +16,7 @@ use Rattle.store_joiner.specs.Finds.{Finds, FindsNow, other_of}
 use Rattle.store_backup.specs.declared.copying.Copied.{Copied}
 use Rattle.store_backup.specs.declared.error.CopyFault.{CopyFault}
 use Rattle.store_backup.specs.declared.error.CopyFault.TheVariants as faults
-use Rattle.store_backup.specs.Reading.{DeniesSource, IsRead}
+use Rattle.store_backup.specs.Reading.{IsRead}
 
 -- what is left has no journal, or one of these contents and these files
 abbrev pub NoneOrWhole : List Named → List (List ℕ) → Left → Type 0

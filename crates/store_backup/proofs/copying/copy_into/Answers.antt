@@ -1,7 +1,4 @@
-use Rattle.std.proofs.Common.{⊎_elim, map, subst, sym, ◌≡◌, ◌∙◌}
 use Rattle.std.proofs.lemmas.Result.{IfErr-weaker}
-use Rattle.head.specs.Blocks.{part_in}
-use Rattle.store_folder.proofs.Refusals.{found_refused}
 use Rattle.store_backup.proofs.Sources.{of_found}
 use Rattle.store_backup.proofs.copying.copy_into.Goals as goal
 

@@ -1,4 +1,4 @@
-use Rattle.std.proofs.Common.{◌≡◌, drop, inl, length, map, refl, subst, List, ℕ, Option, Some}
+use Rattle.std.proofs.Common.{drop, inl, length, map, refl, subst, List, ℕ, Option}
 use Rattle.std.specs.Prelude.{Ok, Result, IfSome}
 use Rattle.data_folder.specs.Folders.{HasFile}
 use Rattle.data_folder.specs.JournalFile.{journal_name}
