@@ -54,7 +54,6 @@ born_next s u (cut t) h k =
       | false ↦ λ q. cc
     ] k
 
-
 first_born : (ss : List (ℤ × ℤ)) → AllByRecursion (λ (k : Born). k.0 ≤ 0) (map (λ (s : ℤ × ℤ). (0, s)) ss)
 first_born [] = tt
 first_born (s ∷ ss) = (omega arith, first_born ss)
