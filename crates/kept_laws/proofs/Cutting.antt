@@ -18,7 +18,7 @@ use Rattle.head.specs.Worlds.{World, Newest, cut_off, cut_at}
 use Rattle.head.specs.Worlds as worlds
 use Rattle.kept_walk.specs.Kept.{cut}
 use Rattle.kept_world.specs.States.{Born, HeadSeries, State, numbered, samples_of, leaving, gathered, stays, rest_of, raised, with_block, with_blocks, rows_below, max_blocks, stepped}
-use Rattle.kept_laws.specs.Likeness.{or_else, at_time, in_rows, in_parts, value_at, newest_of, IsLike, IsKept, Agrees}
+use Rattle.kept_laws.specs.Likeness.{or_else, at_time, in_rows, in_parts, value_at, newest_of, IsLike, IsKept, AgreesButLimits}
 use Rattle.kept_laws.proofs.Leaving.{or-none, rows_by, kept, parted, below-is, kept-none}
 
 newest-stays : (t : ℤ) (head : List HeadSeries) → newest_of (map (rest_of t) (filter (stays t) head)) ≡ filter (λ (e : Labels × (ℤ × ℤ)). not (int_lt e.1.0 t)) (newest_of head)
@@ -55,6 +55,7 @@ parts-append l q (b ∷ bs) p =
 -- no row leaves
 like-raised : (s : State) (w : World) (t : ℤ) → IsLike s w → IsKept s → rows_below t [] s.head ≡ [] → IsLike (raised t s) (worlds.raised w t)
 like-raised s w t h k none = record {
+  sorted = h.sorted;
   floor = refl;
   newest = newest-stays t s.head ∙ ap (filter (λ (e : Labels × (ℤ × ℤ)). not (int_lt e.1.0 t))) h.newest;
   blocks = h.blocks;
@@ -66,6 +67,7 @@ like-raised s w t h k none = record {
 -- one more block
 like-block : (s : State) (w : World) (t : ℤ) → IsLike s w → IsKept s → IsLike (record (raised t s) { blocks = s.blocks ++ numbered 1 (rows_below t [] s.head) ∷ [] }) (record (worlds.raised w t) { blocks = w.blocks + 1 })
 like-block s w t h k = record {
+  sorted = h.sorted;
   floor = refl;
   newest = newest-stays t s.head ∙ ap (filter (λ (e : Labels × (ℤ × ℤ)). not (int_lt e.1.0 t))) h.newest;
   blocks = let b = h.blocks in let n = length-append s.blocks (numbered 1 (rows_below t [] s.head) ∷ []) in omega (arith, b, n);
@@ -191,7 +193,7 @@ some_leaves s w t (l, a ∷ ss) rs h k is none =
 
 -- CUTS
 
-cut-off : (fits : Content → Bool) (s : State) (w : World) (t : ℤ) (rows : List Row) (gone : Content) → IsLike s w → IsKept s → rows_below t [] s.head ≡ rows → between w.floor t w.content ≡ gone → Agrees (cut_off fits w t gone) (with_blocks (raised t s) (with_block rows s.blocks))
+cut-off : (fits : Content → Bool) (s : State) (w : World) (t : ℤ) (rows : List Row) (gone : Content) → IsLike s w → IsKept s → rows_below t [] s.head ≡ rows → between w.floor t w.content ≡ gone → AgreesButLimits (cut_off fits w t gone) (with_blocks (raised t s) (with_block rows s.blocks))
 cut-off fits s w t [] [] h k is gone = like-raised s w t h k is
 cut-off fits s w t [] (g ∷ gs) h k is gone = absurd (let e : g ∷ gs ≡ [] = sym gone ∙ none_leaves s w t h k is in cc)
 cut-off fits s w t (r ∷ rs) [] h k is gone = absurd (some_leaves s w t r rs h k is gone)
@@ -199,16 +201,16 @@ cut-off fits s w t (r ∷ rs) (g ∷ gs) h k is gone =
     let new = record (raised t s) { blocks = s.blocks ++ numbered 1 (r ∷ rs) ∷ [] } in
     let made = record (worlds.raised w t) { blocks = w.blocks + 1 } in
     let like : IsLike new made = subst (λ rows. IsLike (record (raised t s) { blocks = s.blocks ++ numbered 1 rows ∷ [] }) made) is (like-block s w t h k) in
-    subst (λ n. Agrees (if nat_le 63 n then Err too_many_parts else if fits (g ∷ gs) then Ok made else Err limit) (with_blocks (raised t s) (if nat_le max_blocks (length s.blocks) then None else Some (s.blocks ++ numbered 1 (r ∷ rs) ∷ [])))) h.blocks
-    (elim (nat_le 63 (length s.blocks)) as (λ b. Agrees (if b then Err too_many_parts else if fits (g ∷ gs) then Ok made else Err limit) (with_blocks (raised t s) (if b then None else Some (s.blocks ++ numbered 1 (r ∷ rs) ∷ [])))) [
+    subst (λ n. AgreesButLimits (if nat_le 63 n then Err too_many_parts else if fits (g ∷ gs) then Ok made else Err limit) (with_blocks (raised t s) (if nat_le max_blocks (length s.blocks) then None else Some (s.blocks ++ numbered 1 (r ∷ rs) ∷ [])))) h.blocks
+    (elim (nat_le 63 (length s.blocks)) as (λ b. AgreesButLimits (if b then Err too_many_parts else if fits (g ∷ gs) then Ok made else Err limit) (with_blocks (raised t s) (if b then None else Some (s.blocks ++ numbered 1 (r ∷ rs) ∷ [])))) [
       | true ↦ tt
-      | false ↦ elim (fits (g ∷ gs)) as (λ b. Agrees (if b then Ok made else Err limit) (Some new)) [ true ↦ like | false ↦ tt ]
+      | false ↦ elim (fits (g ∷ gs)) as (λ b. AgreesButLimits (if b then Ok made else Err limit) (Some new)) [ true ↦ like | false ↦ tt ]
     ])
 
-pub cuts_agree : (fits : Content → Bool) (s : State) (w : World) (t : ℤ) → IsLike s w → IsKept s → Agrees (cut_at fits w t) (stepped s (cut t))
+pub cuts_agree : (fits : Content → Bool) (s : State) (w : World) (t : ℤ) → IsLike s w → IsKept s → AgreesButLimits (cut_at fits w t) (stepped s (cut t))
 cuts_agree fits s w t h k =
-    subst (λ f. Agrees (cut_at fits w t) (if int_lt f t then with_blocks (raised t s) (with_block (rows_below t [] s.head) s.blocks) else None)) (sym h.floor)
-    (elim (int_lt w.floor t) as (λ b. Agrees (if b then cut_off fits w t (between w.floor t w.content) else Err cut_too_low) (if b then with_blocks (raised t s) (with_block (rows_below t [] s.head) s.blocks) else None)) [
+    subst (λ f. AgreesButLimits (cut_at fits w t) (if int_lt f t then with_blocks (raised t s) (with_block (rows_below t [] s.head) s.blocks) else None)) (sym h.floor)
+    (elim (int_lt w.floor t) as (λ b. AgreesButLimits (if b then cut_off fits w t (between w.floor t w.content) else Err cut_too_low) (if b then with_blocks (raised t s) (with_block (rows_below t [] s.head) s.blocks) else None)) [
       | true ↦ cut-off fits s w t (rows_below t [] s.head) (between w.floor t w.content) h k refl refl
       | false ↦ tt
     ])

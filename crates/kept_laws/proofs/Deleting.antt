@@ -4,7 +4,7 @@ use Rattle.std.specs.Prelude.{◌&&◌, if◌then◌else◌}
 use Rattle.std.specs.declared.cmp.Ordering.TheVariants.{Less, Equal, Greater}
 use Rattle.std.specs.Ordering.{int_cmp, is_eq}
 use Rattle.std.specs.FinMap.{int_cmp-IsAntisymmetric}
-use Rattle.std.specs.FinMap.Entries.{find-where_key}
+use Rattle.std.specs.FinMap.Entries.{find-where_key, is_sorted-where_key}
 use Rattle.labels.specs.Labels.{Labels, Point, point_cmp, labels_cmp}
 use Rattle.labels.specs.Contents.{in_range}
 use Rattle.labels.specs.Rows.{Row}
@@ -138,4 +138,5 @@ deletions_agree s w sat a b h = record {
       ∙ sym (shared (stays (l, t)) (in_rows l t (shown s.head)) (in_parts l t s.blocks))
       ∙ ap (λ z. or_else z (cond (stays (l, t)) (in_parts l t s.blocks) None)) (sym (ap (in_rows l t) (head-shown sat a b s.head) ∙ rows-struck sat a b l t (shown s.head)))
       ∙ ap (or_else (in_rows l t (shown (map (struck_series sat a b) s.head)))) (sym (parts-struck sat a b l t s.blocks));
+  sorted = is_sorted-where_key point_cmp (λ (p : Point). not (sat p.0 && in_range a b p.1)) w.content h.sorted;
 }

@@ -123,6 +123,17 @@ keep-batch : (s : State) (o : Option (List HeadSeries)) → IsKept s → MayKeep
 keep-batch s None k h = tt
 keep-batch s (Some head) k h = record { apart = h.apart; sound = h.sound; above = h.above; below = k.below }
 
+abbrev pub IsKeptWith : State → Option (List HeadSeries) → Type 0
+IsKeptWith s None = Unit {0}
+IsKeptWith s (Some head) = IsKept (record s { head = head })
+
+kept-with : (s : State) (o : Option (List HeadSeries)) → ((l : Labels) (t : ℤ) → int_lt t s.floor ≡ false → in_parts l t s.blocks ≡ None) → MayKeep s.floor o → IsKeptWith s o
+kept-with s None below h = tt
+kept-with s (Some head) below h = record { apart = h.apart; sound = h.sound; above = h.above; below = below }
+
+pub keep-with : (s : State) (n : ℕ) (x : Entry) (head : List HeadSeries) → IsKept (record s { head = head }) → IsKeptWith s (added n s.floor x head)
+keep-with s n x head k = kept-with s (added n s.floor x head) k.below (keep-added s.floor n x head (record { apart = k.apart; sound = k.sound; above = k.above }))
+
 -- DELETIONS
 
 filter-above : (floor : ℤ) (p : Born → Bool) (ks : List Born) → T (list_all (λ (k : ℤ × ℤ). not (int_lt k.0 floor)) (samples_of ks)) → T (list_all (λ (k : ℤ × ℤ). not (int_lt k.0 floor)) (samples_of (filter p ks)))

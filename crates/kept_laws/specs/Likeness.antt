@@ -1,16 +1,18 @@
 -- When a state is that of a world of the store, and when two steps agree.
-use Rattle.std.specs.Prelude.{◌≡◌, ◌+◌, ◌≤◌, ℕ, ℤ, Bool, true, false, cond, T, List, [], ◌∷◌}
+use Rattle.std.specs.Prelude.{◌≡◌, ℤ, Bool, true, false, cond, T, List, [], ◌∷◌}
 use Rattle.std.specs.Prelude.{Option, Some, None, Result, Ok, Err, length, map, not, int_lt}
 use Rattle.std.specs.List.{list_all, AllByRecursion}
 use Rattle.std.specs.Ordering.{int_cmp, eq_by_cmp}
-use Rattle.std.specs.FinMap.Entries.{find}
+use Rattle.std.specs.FinMap.Entries.{find, is_sorted}
 use Rattle.labels.specs.Labels.{Labels, point_cmp, same_labels}
 use Rattle.labels.specs.Rows.{Row}
 use Rattle.labels.specs.Parts.{Part, rows_in}
 use Rattle.head.specs.Refusals.{Refusal, limit, out_of_bounds, out_of_order, duplicate, cut_too_low}
 use Rattle.head.specs.Refusals.{too_many_parts}
 use Rattle.head.specs.Worlds.{World, Newest}
-use Rattle.kept_world.specs.States.{HeadSeries, State, Entry, shown, samples_of, max_samples}
+use Rattle.head.specs.Worlds as worlds
+use Rattle.kept_walk.specs.Kept.{Event, batch, deletion, cut}
+use Rattle.kept_world.specs.States.{HeadSeries, State, shown, samples_of, entries_of}
 use Rattle.kept_world.specs.Sound.{AreApart, IsSoundSeries, label_sets}
 
 -- the first value, or else the second
@@ -44,14 +46,7 @@ pub record IsLike (s : State) (w : World) : Type 0 where
   pub newest : newest_of s.head ≡ w.newest
   pub blocks : length s.blocks ≡ w.blocks
   pub content : (l : Labels) (t : ℤ) → find point_cmp (l, t) w.content ≡ value_at s l t
-
--- each series has room for so many samples more, also one that has none yet
-abbrev pub AreRoomy : ℕ → List HeadSeries → Type 0
-AreRoomy n head = AllByRecursion (λ (e : HeadSeries). length e.samples + n ≤ max_samples) head
-
-pub record HasRoom (s : State) (xs : List Entry) : Type 0 where
-  pub series : AreRoomy (length xs) s.head
-  pub batch : length xs ≤ max_samples
+  pub sorted : T (is_sorted point_cmp w.content)
 
 abbrev pub is_limit : Refusal → Bool
 is_limit (out_of_bounds at) = false
@@ -61,25 +56,37 @@ is_limit limit = true
 is_limit cut_too_low = false
 is_limit too_many_parts = false
 
--- Both accept, with a state and a world that are alike, or both refuse. Where the store says that a
--- limit of the head is reached (E4), the other step may go on: it counts the samples of a series
--- that are in the head, and the store those of its content.
+-- both accept, with a state and a world that are alike, or both refuse
 abbrev pub Agrees : Result World Refusal → Option State → Type 0
 Agrees (Ok w) (Some s) = IsLike s w
 Agrees (Ok w) None = ⊥
-Agrees (Err e) (Some s) = T (is_limit e)
+Agrees (Err e) (Some s) = ⊥
 Agrees (Err e) None = Unit {0}
+
+-- the same, but where the store says that files are beyond their limits, the other step goes on
+abbrev pub AgreesButLimits : Result World Refusal → Option State → Type 0
+AgreesButLimits (Ok w) (Some s) = IsLike s w
+AgreesButLimits (Ok w) None = ⊥
+AgreesButLimits (Err e) (Some s) = T (is_limit e)
+AgreesButLimits (Err e) None = Unit {0}
 
 -- it is accepted, with a state that is like this world
 abbrev pub AgreesOn : World → Option State → Type 0
 AgreesOn w None = ⊥
 AgreesOn w (Some s) = IsLike s w
 
--- What states of a store keep: no label set stands twice in the head, the times of each series ascend
--- up to its newest one and are not below the floor, and no block has a sample from the floor on.
+-- What states of a store keep: no label set stands twice in the head, the times of each series
+-- ascend up to its newest one and are not below the floor, and no block has a sample from the floor
+-- on.
 pub record IsKept (s : State) : Type 0 where
   pub apart : AreApart (label_sets s.head)
   pub sound : AllByRecursion IsSoundSeries s.head
   pub above : AllByRecursion (λ (e : HeadSeries).
       T (list_all (λ (k : ℤ × ℤ). not (int_lt k.0 s.floor)) (samples_of e.samples))) s.head
   pub below : (l : Labels) (t : ℤ) → int_lt t s.floor ≡ false → in_parts l t s.blocks ≡ None
+
+-- an event of a journal, as the store has it: the samples of its runs one after another
+abbrev pub store_event : Event → worlds.Event
+store_event (batch runs) = worlds.batch (entries_of runs)
+store_event (deletion ms from to) = worlds.deletion ms from to
+store_event (cut t) = worlds.cut t
