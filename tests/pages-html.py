@@ -5,7 +5,8 @@
 
 The elements nest; nothing is fetched or run; the policy names the style's own hash; the columns of each strip
 meet and their heights sum to the strip's; each number of the reply stands in the tables; label values of any
-characters change neither elements nor each other; a page claims that no series is missing exactly if the
+characters change neither elements nor each other; with --values doubles a value stands as Prometheus prints
+its double; a page claims that no series is missing exactly if the
 reply was not damaged; the box of the claim is green exactly if an auditor found no flaw in the block of each
 directory and nothing else is named but an empty head; with the block's directory each part carries its
 judgement; the texts for a terminal fit 80 columns; and pages stay small.
@@ -17,6 +18,7 @@ and the two times, a line each. In FOLDER the pages are left. Exit status 0 if a
 import base64
 import hashlib
 import json
+import math
 import os
 import pathlib
 import random
@@ -168,19 +170,27 @@ def policy(name, page):
         holds(f"{name}: no {word}", word not in low)
 
 
-def numbers(name, page, reply):
+def figures(name, page, reply, texts):
+    """The first, last, least and greatest value of each row, as texts."""
+    value = r'">([^<]*)<'
+    cells = re.findall(r'data-l="samples">([\d,]+)<.*?data-l="first' + value + '.*?data-l="last' + value
+                       + '.*?data-l="least' + value + '.*?data-l="greatest' + value, page)
+    wanted = [(f"{len(row['samples']):,}", *texts([value for _, value in row["samples"]]))
+              for row in reply["rows"][:50]]
+    holds(f"{name}: the figures of rows: {cells[:3]}, wanted {wanted[:3]}", cells == wanted)
+
+
+def whole_figures(values):
+    return map(str, (values[0], values[-1], min(values), max(values)))
+
+
+def numbers(name, page, reply, doubles):
     few = sum("rows" in part for part in reply["parts"]) <= 8
     for part in reply["parts"]:
         for one in part.get("intervals", [])[:100 if few else 20]:
             holds(f"{name}: the interval {one['from']}",
                   f'<td class="n">{one["from"]}</td><td class="n">{one["until"]}</td>' in page)
-    cells = re.findall(r'data-l="samples">([\d,]+)<.*?data-l="first">(-?\d+)<.*?data-l="last">(-?\d+)<'
-                       r'.*?data-l="least">(-?\d+)<.*?data-l="greatest">(-?\d+)<', page)
-    wanted = []
-    for row in reply["rows"][:50]:
-        values = [value for _, value in row["samples"]]
-        wanted.append((f"{len(values):,}", *map(str, (values[0], values[-1], min(values), max(values)))))
-    holds(f"{name}: the figures of rows", cells == wanted)
+    figures(name, page, reply, double_figures if doubles else whole_figures)
 
 
 def checked(case):
@@ -205,7 +215,7 @@ def checked(case):
         strips(case.name, page)
         policy(case.name, page)
         if case.reply:
-            numbers(case.name, page, case.reply)
+            numbers(case.name, page, case.reply, "doubles" in case.words)
     says_range = "outside the range" in page or "meet the range" in page
     holds(f"{case.name}: no range of a block is read", not says_range)
     for check in case.checks:
@@ -362,6 +372,58 @@ def hostile(rng):
                "--about", 'up{a="\x1b[2J"}'], checks=[escape])
 
 
+# The numbers that are kept for doubles, these, and their texts as Prometheus prints them: Go's strconv in its
+# form g. A number of size at most 2^53 is its own double, and else stands for the double with its bits, but for
+# those of such a double: they stand for the one with that number's bits. The last is a stale marker.
+MINUS = -(1 << 63)
+DOUBLES = [
+    (42, 42.0, "42"), (-1, -1.0, "-1"), (0, 0.0, "0"), (MINUS, -0.0, "-0"), (999999, 999999.0, "999999"),
+    (1000000, 1e6, "1e+06"), (1 << 53, 2.0**53, "9.007199254740992e+15"), (0x3FB999999999999A, 0.1, "0.1"),
+    (0x3F1A36E2EB1C432D, 0.0001, "0.0001"), (0x3EE4F8B588E368F1, 1e-5, "1e-05"),
+    (0x3FF8000000000000, 1.5, "1.5"), (MINUS + 0x3FE0000000000000, -0.5, "-0.5"),
+    (0x3FF0000000000000, 5e-324, "5e-324"), (0x7FF0000000000000, math.inf, "+Inf"),
+    (MINUS + 0x4330000000000000, -math.inf, "-Inf"), (-(1 << 52), -(2.0**52), "-4.503599627370496e+15"),
+    (0x7FEFFFFFFFFFFFFF, sys.float_info.max, "1.7976931348623157e+308"),
+    (0x7FF8000000000001, math.nan, "NaN"), (0x7FF0000000000002, math.nan, "NaN"),
+]
+BY_NUMBER = {number: (double, text) for number, double, text in DOUBLES}
+
+
+def double_figures(values):
+    """Of several that are equal the first."""
+    double = lambda value: BY_NUMBER[value][0]
+    real = [value for value in values if not math.isnan(double(value))]
+    least, greatest = (min(real, key=double), max(real, key=double)) if real else (values[0], values[0])
+    return (BY_NUMBER[value][1] for value in (values[0], values[-1], least, greatest))
+
+
+def of_numbers(lists):
+    rows = [{"labels": {"__name__": "up", "i": f"{at:03}"},
+             "samples": [[1700000000000 + 15000 * k, number] for k, number in enumerate(numbers)]}
+            for at, numbers in enumerate(lists)]
+    intervals = [{"from": at + 1, "until": at + 2, "verdict": "match"} for at in range(len(rows))]
+    intervals[-1]["until"] = END
+    return reply_of([{"part": "head", "intervals": intervals, "rows": rows,
+                      "separators": [at + 1 for at in range(len(rows))]}])
+
+
+def of_doubles(rng):
+    """Values that are kept for doubles, and the words that say so."""
+    two, words = ["--selector", "up"], ["--selector", "up", "--values", "doubles"]
+    all_numbers = [number for number, _, _ in DOUBLES]
+    lists = [[number] for number in all_numbers] + [all_numbers] + [
+        [rng.choice(all_numbers) for _ in range(rng.randrange(1, 30))] for _ in range(30)]
+    reply = of_numbers(lists)
+    yield Case("doubles", reply, words, checks=[has("The values are doubles")])
+    yield Case("numbers-of-doubles", reply, two, checks=[lacks("The values are doubles")])
+    nan = 0x7FF0000000000002
+    paths = lambda name, page: holds(f"{name}: no line of NaNs", "<path" not in page.split('id="rows"')[1])
+    yield Case("stale", of_numbers([[nan, nan]]), words, checks=[paths])
+    yield Case("text-doubles", reply, [*words, "--text"])
+    yield Case("other-values", reply, [*two, "--values", "whole"], status=2,
+               checks=[lambda name, page: holds(f"{name}: no page", page == "")])
+
+
 def about(reply):
     two = ["--selector", 'up{i=~"0.*",job="a"}', "--about"]
     row = lambda name, page: holds(f"{name}: row 1", "as row 1." in page or "row 1" in page)
@@ -505,6 +567,7 @@ def cases(rng):
         yield Case(f"text-{name}", bad, [*two, "--text"], status=1)
     yield from hostile(rng)
     yield from about(reply)
+    yield from of_doubles(rng)
     yield from given()
     for name, text in (("no-reply", b"{}"), ("half-a-reply", b'{"parts":[],'), ("no-text", b"\xff")):
         yield Case(

@@ -171,6 +171,7 @@ With --prometheus-port, another listener takes what a Prometheus sends and asks,
 own (--prometheus-workers), one request a connection; values are doubles there, bit for bit:
   POST /api/v1/write   remote write: what can be kept is kept, 400 tells what was left out
   POST /api/v1/read    remote read: samples, of one snapshot for all queries of a request
+  GET or POST /api/v1/labels, GET /api/v1/label/NAME/values, GET or POST /api/v1/series
   GET /api/v1/status/buildinfo
 A client that is slow there holds no worker. --guard asks the token of writes there, too. A store
 that begins in the folder of --data with this port has doubles ever after; one that has whole

@@ -1,10 +1,16 @@
 -- The command line: what `clap` reads from the words, and what that asks for.
-use Rattle.std.specs.Prelude.{◌≡◌, Bool, true, false, List, [], Option, Some, codes, option_map}
+use Rattle.std.specs.Prelude.{◌≡◌, Bool, true, false, List, [], Option, None, Some, codes}
+use Rattle.std.specs.Prelude.{option_map, if◌then◌else◌}
+use Rattle.std.specs.Str.{bytes_eq}
 use Rattle.clap.specs.Words.{App, Row, Rule, Text, new_app, new_rule, with_rule, first_of}
 use Rattle.clap.specs.Words.{one_of, matches_of, fault_of}
 use Rattle.clap.specs.declared.builder.action.ArgAction.TheVariants.{SetTrue}
+use Rattle.clap.specs.declared.builder.value_parser.ValueParser.TheVariants.{Names}
 use Rattle.audit_command.specs.Asking as audits
 use Rattle.explain.specs.declared.command.Asked.{Asked}
+use Rattle.explain.specs.declared.command.TheConstants.{MEANINGS}
+use Rattle.page_text.specs.declared.value.Values.{Values}
+use Rattle.page_text.specs.declared.value.Values.TheVariants.{Whole, Doubles}
 
 -- the series that somebody asks about
 abbrev pub about_rule : Rule
@@ -20,15 +26,25 @@ text_rule = record (new_rule (codes "text")) {
   action = Some SetTrue;
 }
 
+-- the option of what values mean
+abbrev pub values_rule : Rule
+values_rule = record (new_rule (codes "values")) {
+  long = Some (codes "values");
+  value_names = 1;
+  parser = Some (Names MEANINGS);
+}
+
 -- the program's name, which the words do not begin with
 abbrev pub named_app : App
 named_app =
     let app = new_app (codes "explain") in
     record app { top = record app.top { has_version = true; no_binary_name = true } }
 
--- --selector S [--from N] [--to N] [DIR]... [--about SERIES] [--text]
+-- --selector S [--from N] [--to N] [DIR]... [--about SERIES] [--text] [--values doubles]
 abbrev pub explain_app : App
-explain_app = with_rule (with_rule (audits.with_arguments named_app) about_rule) text_rule
+explain_app =
+    with_rule (with_rule (with_rule (audits.with_arguments named_app) about_rule) text_rule)
+    values_rule
 
 -- `clap` takes the words: it finds no fault in them
 abbrev pub AreTaken : List Text → Type 0
@@ -39,11 +55,17 @@ pub record IsFlagIn (given : Option Text) (flag : Bool) : Type 0 where
   pub used : given ≡ Some (codes "true") → flag ≡ true
   pub unused : given ≡ Some (codes "false") → flag ≡ false
 
+-- what values mean: doubles if that is said, else whole numbers
+abbrev pub meaning_of : Option Text → Values
+meaning_of None = Whole
+meaning_of (Some text) = if bytes_eq text (codes "doubles") then Doubles else Whole
+
 -- what the arguments give
 pub record IsAskedIn (rows : List Row) (asked : Asked) : Type 0 where
   pub audit : audits.IsAskedIn rows asked.audit
   pub about : option_map (λ text. text.now) asked.about ≡ first_of (codes "about") rows
   pub text : IsFlagIn (one_of (codes "text") rows) asked.text
+  pub values : asked.values ≡ meaning_of (first_of (codes "values") rows)
 
 -- what the words ask for, as `clap` reads them
 abbrev pub IsAskedBy : List Text → Asked → Type 0

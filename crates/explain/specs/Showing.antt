@@ -86,13 +86,15 @@ pub record HasRead (reads : Host) (input : Option (List ℕ)) (asked : Asked) (f
   pub are_tables : AreTablesAt reads (directories_of asked.audit) found.tables.items
   pub are_lines : AreLinesOf found.tables.items found.query found.text.items found.lines.items
 
--- what is shown is what was read, with the length and the SHA-256 of the reply
+-- what is shown is what was read, by what its values are said to mean, with the length and the
+-- SHA-256 of the reply
 pub record Shows (asked : Asked) (found : Found) (shown : Shown) : Type 0 where
   pub selector : shown.selector ≡ asked.audit.selector
   pub query : shown.query.now ≡ found.query
   pub told : shown.told.now ≡ found.told
   pub tables : shown.tables.now ≡ found.tables.items
   pub lines : shown.lines.now ≡ found.lines.items
+  pub values : shown.values ≡ asked.values
   pub about : option_copied shown.about ≡ found.about
   pub length_is : shown.length ≡ length found.text.items
   pub digest_is : shown.digest ≡ sha256 found.text.items

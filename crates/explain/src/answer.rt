@@ -130,6 +130,7 @@ fn page_of(alloc: Global, asked: &Asked<'_>, found: &Found) -> Result<Page, Allo
         told: &found.told,
         tables: found.tables.as_slice(),
         lines: found.lines.as_slice(),
+        values: asked.values,
         about: found.about.as_ref(),
         length: found.text.len() as u64,
         digest: Sha256::digest(found.text.as_slice()),

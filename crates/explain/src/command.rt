@@ -5,11 +5,14 @@ ghost use Rattle.clap.specs.Matches.{found_of};
 ghost use Rattle.clap.specs.Words.{app_of, rule_of, rows_of, first_of, one_of, matches_of};
 ghost use Rattle.clap.specs.Words.{fault_of, FailsBy};
 ghost use Rattle.audit_command.specs.Asking.{texts_of};
-ghost use Rattle.explain.specs.Asking.{about_rule, text_rule, named_app};
-ghost use Rattle.explain.specs.Asking.{explain_app, IsFlagIn, IsAskedIn, IsAskedBy};
+ghost use Rattle.explain.specs.Asking.{about_rule, text_rule, values_rule, named_app};
+ghost use Rattle.explain.specs.Asking.{explain_app, IsFlagIn, meaning_of, IsAskedIn};
+ghost use Rattle.explain.specs.Asking.{IsAskedBy};
 
 use audit_command::{Asked as AuditAsked, asked_in as audit_in, with_arguments};
+use clap::builder::ValueParser;
 use clap::{Arg, ArgAction, ArgMatches, Command, Error};
+use page_text::Values;
 use std::alloc::{AllocError, Global};
 
 /// What the words ask for, as it was written: nothing is checked.
@@ -21,6 +24,8 @@ pub struct Asked<'a> {
     pub about: Option<&'a str>,
     /// Whether the page is to be a text for a terminal.
     pub text: bool,
+    /// What the values of the reply mean: whole numbers, if nothing is said of them.
+    pub values: Values,
 }
 
 const LINES: &str =
@@ -28,6 +33,9 @@ const LINES: &str =
 of HTML without a script, which fetches nothing; the same bytes for the same input. With directories
 the reply is judged first, as auditor does: they are its blocks, "block 0", "block 1" and so on, in
 the order given. The page then carries each judgement, and names series that each interval rejects.
+
+--values doubles shows each value as the double for which it is kept, as Prometheus prints it. A
+reply does not say what its values mean: the store's blocks do.
 
 --about 'up{job="b"}' has the page say why that series is in the answer, or not. It is written as a
 selector is, with = alone. --text writes the claim, the key, a strip of letters for each part and
@@ -64,6 +72,21 @@ fn text<'a>(alloc: Global) -> Arg<'a>
         .help("Writes a text of 80 columns for a terminal, and no HTML")
 }
 
+/// What can be said of values.
+const MEANINGS: &[&str] = &["doubles"];
+
+/// The option `--values doubles`.
+fn values<'a>(alloc: Global) -> Arg<'a>
+    ensures rule { rule_of result ≡ values_rule }
+    ensures global { result.global ≡ false }
+{
+    Arg::new(alloc, "values")
+        .long("values")
+        .value_name("WHAT")
+        .value_parser(ValueParser::from(MEANINGS))
+        .help("What values are, if not whole numbers")
+}
+
 /// The program, without its arguments.
 fn explain<'a>(alloc: Global) -> Result<Command<'a>, AllocError>
     ensures { IfOk result (λ command. app_of command ≡ named_app) }
@@ -77,13 +100,15 @@ fn explain<'a>(alloc: Global) -> Result<Command<'a>, AllocError>
     Ok(command)
 }
 
-/// The program: `--selector S [--from N] [--to N] [--about SERIES] [--text] [DIR]...`.
+/// The program: `--selector S [--from N] [--to N] [--about SERIES] [--text] [--values doubles]
+/// [DIR]...`.
 fn program<'a>(alloc: Global) -> Result<Command<'a>, AllocError>
     ensures { IfOk result (λ command. app_of command ≡ explain_app) }
 {
     with_arguments(alloc, explain(alloc)?)?
         .arg(about(alloc))?
-        .arg(text(alloc))
+        .arg(text(alloc))?
+        .arg(values(alloc))
 }
 
 fn about_in<'a>(found: &ArgMatches<'a>) -> Option<&'a str>
@@ -99,13 +124,35 @@ fn text_in(found: &ArgMatches<'_>) -> bool
     found.get_flag("text")
 }
 
+/// What values mean, if this is said of them, or nothing.
+fn meaning_of(said: Option<&str>) -> Values
+    ensures { result ≡ meaning_of (option_map (λ text. text.now) said) }
+{
+    match said {
+        Some(text) if text == "doubles" => Values::Doubles,
+        _ => Values::Whole,
+    }
+}
+
+fn values_in(found: &ArgMatches<'_>) -> Values
+    ensures { result ≡ meaning_of (first_of (codes "values") (rows_of (found_of found.now))) }
+{
+    meaning_of(found.get_str("values"))
+}
+
 fn asked_in<'a>(alloc: Global, found: &ArgMatches<'a>) -> Result<Asked<'a>, AllocError>
     ensures { IfOk result (λ asked. IsAskedIn (rows_of (found_of found.now)) asked) }
 {
     let audit = audit_in(alloc, found)?;
     let about = about_in(found);
     let text = text_in(found);
-    Ok(Asked { audit, about, text })
+    let values = values_in(found);
+    Ok(Asked {
+        audit,
+        about,
+        text,
+        values,
+    })
 }
 
 fn matches_in<'a>(alloc: Global, words: &'a [String]) -> Result<ArgMatches<'a>, Error>

@@ -1,7 +1,7 @@
 -- What a page is: what it claims, what it says of a label set that somebody asks about, and what it
 -- prints.
 use Rattle.std.specs.Prelude.{◌≡◌, ◌≤◌, ◌++◌, ◌↔◌, ℕ, List, Option, None, IsTrue, IsSomeAnd}
-use Rattle.std.specs.Prelude.{MatchOption, length, codes}
+use Rattle.std.specs.Prelude.{MatchOption, length, codes, min, take}
 use Rattle.std.specs.List.{flat_map}
 use Rattle.labels.specs.Rows.{AreRows}
 use Rattle.auditor.specs.Listing.{last_listed}
@@ -9,13 +9,15 @@ use Rattle.page_claims.specs.Claiming.{IsClaimed}
 use Rattle.page_claims.specs.Judging.{unjudged_of}
 use Rattle.page_claims.specs.declared.claim.Claim.{Claim}
 use Rattle.page_marks.specs.Pages.{page_marks, text_marks}
+use Rattle.page_marks.specs.Values.{AreValuesOf}
 use Rattle.page_style.specs.declared.front.TheConstants.{FRONT}
-use Rattle.page_text.specs.Marks.{marks_in}
+use Rattle.page_text.specs.Marks.{marks_in, values_in}
 use Rattle.page_text.specs.Nesting.{IsContent}
 use Rattle.page_text.specs.Plain.{plain_text}
 use Rattle.page_text.specs.Printing.{page_text}
 use Rattle.page_text.specs.declared.mark.Mark.{Mark}
 use Rattle.page_text.specs.declared.piece.Piece.{Piece}
+use Rattle.page_text.specs.declared.value.Value.{Value}
 use Rattle.page.specs.declared.asked.Asked.{Asked}
 use Rattle.page.specs.declared.shown.Shown.{Shown}
 use Rattle.page.specs.declared.write.Page.{Page}
@@ -42,6 +44,12 @@ abbrev pub wanted_marks : Shown → List Mark
 wanted_marks s =
     page_marks (length s.query.now.matchers) s.told.now.answers.items s.told.now.rows.items
 
+-- the values that what is shown has below the claim: those of the rows of the table
+abbrev pub AreShownValues : Shown → List Value → Type 0
+AreShownValues s shown =
+    AreValuesOf s.values
+    (take (min 50 (length s.told.now.rows.items)) s.told.now.rows.items) shown
+
 -- the counts that what is shown has in a text
 abbrev pub wanted_counts : Shown → List Mark
 wanted_counts s = text_marks (length s.query.now.matchers) s.told.now.answers.items
@@ -63,7 +71,8 @@ page_rest details sections =
 unfoldable pub page_bytes : Claim → List Piece → List Piece → List Piece → List ℕ
 page_bytes claim heading details sections = page_top claim heading ++ page_rest details sections
 
--- the print of trees, and the claim between them; below it the counts and the tiles of the reply
+-- the print of trees, and the claim between them; below it the counts and the tiles of the reply,
+-- and the values of its rows by what they mean
 pub record IsPageOf (s : Shown) (page : Page) : Type 0 where
   pub heading : IsContent page.heading.items
   pub details : IsContent page.details.items
@@ -71,6 +80,7 @@ pub record IsPageOf (s : Shown) (page : Page) : Type 0 where
   pub claim : IsClaimOf s page.claim
   pub asked : IsSaidOf s page.asked
   pub marks : marks_in page.sections.items ≡ wanted_marks s
+  pub values : AreShownValues s (values_in page.sections.items)
   pub bytes : page.bytes.items
       ≡ page_bytes page.claim page.heading.items page.details.items page.sections.items
   pub few : length page.bytes.items ≤ 268435456

@@ -5,10 +5,10 @@ ghost use Rattle.page_text.specs.Growing.{printed, open_tags};
 ghost use Rattle.page_text.specs.Printing.{head_text};
 ghost use Rattle.page_text.specs.declared.tag.Tag.TheVariants.{Td};
 ghost use Rattle.page.specs.Cells.{class_front, labelled_front, number_text, counted_text};
-ghost use Rattle.page.specs.Cells.{value_text, bounds_text};
+ghost use Rattle.page.specs.Cells.{value_text, bounds_text, IsValueCell};
 
 use labels::SeriesRef;
-use page_text::{Attribute, Key, Mark, Subject, Tag, Tree};
+use page_text::{Attribute, Key, Mark, Subject, Tag, Tree, Value, ValueText};
 use std::alloc::AllocError;
 
 /// Begins an element with no attribute.
@@ -71,15 +71,24 @@ pub(crate) fn labelled(
     tree.open(Tag::Td, attributes)
 }
 
-/// A cell with a value of the reply.
+/// A cell with the text of a value.
 #[tactic(auto, unfolding(crate::specs::Cells::value_text))]
-pub(crate) fn value(tree: &mut Tree, label: &'static str, n: i64) -> Result<(), AllocError>
-    ensures printed { OnOk result (printed tree.new ≡ printed tree.old ++ value_text label.now n) }
+fn text_cell(tree: &mut Tree, label: &'static str, text: ValueText) -> Result<(), AllocError>
+    ensures printed { OnOk result
+        (printed tree.new ≡ printed tree.old ++ value_text label.now text.text.items) }
     ensures inside { OnOk result (open_tags tree.new ≡ open_tags tree.old) }
 {
     labelled(tree, "n", label)?;
-    tree.integer(n)?;
+    tree.value(text)?;
     tree.close()
+}
+
+/// A cell with a value of the reply.
+pub(crate) fn value(tree: &mut Tree, label: &'static str, value: Value) -> Result<(), AllocError>
+    ensures { OnOk result (IsValueCell label.now value (printed tree.old) (printed tree.new)) }
+{
+    let text = ValueText::new(tree.alloc(), value)?;
+    text_cell(tree, label, text)
 }
 
 /// An interval, as `[2, 4)`.

@@ -6,12 +6,14 @@
 //! end; [`write_text`] writes the same for a terminal. The claim between them is that of
 //! `page_claims::find_claim`, and what is said of a label set is [`ask`]'s. What was drawn below
 //! the claim is read back before it is handed out: its marks (counts and tiles) are those of the
-//! reply (`page_marks`).
+//! reply (`page_marks`), and the values of the rows are its values, as whole numbers or as the doubles
+//! for which these are kept.
 //!
 //! ```
 //! let (tables, lines, about) = (&[], &[], None);
 //! let (query, told) = (&query, &told);
-//! let shown = Shown { selector, query, told, tables, lines, about, length, digest };
+//! let values = Values::Whole;
+//! let shown = Shown { selector, query, told, tables, lines, values, about, length, digest };
 //! let page = write_page(alloc, &shown)?;
 //! ```
 //!
@@ -32,6 +34,7 @@ mod parts;
 mod pen;
 mod rows;
 mod sayings;
+mod scale;
 mod shapes;
 mod shown;
 mod spark;

@@ -3,11 +3,11 @@
 ghost use Rattle.std.specs.Prelude.{◌≡◌, ◌++◌, false, IfOk};
 ghost use Rattle.page_text.specs.Growing.{printed};
 ghost use Rattle.page_text.specs.Nesting.{IsContent};
-ghost use Rattle.page.specs.Cells.{number_text, counted_text, value_text, bounds_text};
+ghost use Rattle.page.specs.Cells.{number_text, counted_text, bounds_text, IsValueCell};
 
 use crate::cells;
 use labels::SeriesRef;
-use page_text::{Attribute, Key, Mark, Piece, Subject, Tag, Tree};
+use page_text::{Attribute, Key, Mark, Piece, Subject, Tag, Tree, Value};
 use std::alloc::{AllocError, Global};
 use std::mem;
 
@@ -154,11 +154,11 @@ impl Pen {
     }
 
     /// A cell with a value of the reply.
-    pub(crate) fn value(&mut self, label: &'static str, n: i64)
+    pub(crate) fn value(&mut self, label: &'static str, value: Value)
         ensures { self.new.failed ≡ false
-            → printed self.new.tree ≡ printed self.old.tree ++ value_text label.now n }
+            → IsValueCell label.now value (printed self.old.tree) (printed self.new.tree) }
     {
-        if cells::value(&mut self.tree, label, n).is_err() {
+        if cells::value(&mut self.tree, label, value).is_err() {
             self.failed = true;
         }
     }

@@ -2,15 +2,16 @@
 
 use crate::header::part_name;
 use crate::pen::Pen;
+use crate::scale::Scale;
 use crate::shown::{View, samples_in};
 use crate::spark::spark;
 use crate::time::axis_text;
 use crate::verdicts::series;
-use crate::words::{classed, head_cell, open_head, open_section, plural_of, word};
+use crate::words::{head_cell, open_head, open_section, plural_of, word};
 use labels::{LabelSet, Row};
-use page_claims::{figures_of, row_with, shown_of};
-use page_marks::MOST_ROWS;
-use page_text::{Subject, Tag};
+use page_claims::{row_with, shown_of};
+use page_marks::{MOST_ROWS, figures_of};
+use page_text::{Subject, Tag, Values};
 use postings::PartName;
 
 /// Most parts of a row that are named.
@@ -55,19 +56,20 @@ fn row(pen: &mut Pen, view: &View<'_>, at: usize, row: &Row) {
     series(pen, row.labels());
     pen.close();
     pen.begin(Tag::Td, "sp");
-    let figures = figures_of(row.samples());
+    let values = view.shown.values;
+    let figures = figures_of(values, row.samples());
     if let (Some(axis), Some(figures)) = (view.axis, figures) {
-        spark(pen, axis, row.samples(), figures);
+        spark(pen, axis, row.samples(), Scale::new(values, figures));
     }
     pen.close();
     pen.labelled("n", "samples");
     pen.count(Subject::Samples, row.samples().len() as u64);
     pen.close();
     if let Some(figures) = figures {
-        pen.value("first", figures.first);
-        pen.value("last", figures.last);
-        pen.value("least", figures.least);
-        pen.value("greatest", figures.greatest);
+        pen.value("first", values.of(figures.first));
+        pen.value("last", values.of(figures.last));
+        pen.value("least", values.of(figures.least));
+        pen.value("greatest", values.of(figures.greatest));
     }
     parts(pen, view, row.labels());
     pen.close();
@@ -114,6 +116,20 @@ const NOTE: &str =
      its own greatest value and over the time above; two samples are joined if they are at most \
      three times the row’s mean step apart.";
 
+const NOTE_OF_DOUBLES: &str =
+    " The values are doubles, written as Prometheus prints them; a NaN is neither least nor greatest \
+     beside a number, and a sparkline has none.";
+
+/// What is said below the table.
+fn note(pen: &mut Pen, values: Values) {
+    pen.begin(Tag::P, "note");
+    pen.word(NOTE);
+    if values == Values::Doubles {
+        pen.word(NOTE_OF_DOUBLES);
+    }
+    pen.close();
+}
+
 /// The section of the rows.
 pub(crate) fn rows(pen: &mut Pen, view: &View<'_>) {
     let all = view.shown.told.rows.as_slice();
@@ -136,7 +152,7 @@ pub(crate) fn rows(pen: &mut Pen, view: &View<'_>) {
     pen.close();
     pen.line();
     left_out(pen, rest);
-    classed(pen, Tag::P, "note", NOTE);
+    note(pen, view.shown.values);
     pen.close();
     pen.line();
 }

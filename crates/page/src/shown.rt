@@ -4,6 +4,7 @@ use auditor::{BlockTable, Line};
 use labels::{LabelSet, Sample};
 use matchers::{Matcher, Query};
 use page_claims::{Claim, Told, is_found_silent, is_found_valid};
+use page_text::Values;
 use postings::PartName;
 use std::alloc::Global;
 
@@ -21,6 +22,8 @@ pub struct Shown<'a> {
     pub tables: &'a [BlockTable],
     /// The auditor's lines; none, if it was not asked.
     pub lines: &'a [Line],
+    /// What the values of samples mean: a reply does not say it.
+    pub values: Values,
     /// The label set that somebody asks about.
     pub about: Option<&'a LabelSet>,
     /// How many bytes the reply has, and the SHA-256 of them.

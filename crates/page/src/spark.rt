@@ -1,10 +1,9 @@
 //! Sparklines.
 
 use crate::pen::Pen;
+use crate::scale::Scale;
 use crate::time::column_of;
 use labels::Sample;
-use page_claims::Figures;
-use page_layout::share;
 use page_text::{Attribute, Key, Move, Tag};
 use std::alloc::{AllocError, Global};
 
@@ -46,27 +45,20 @@ impl Bar {
     }
 }
 
-/// How far below the top a value stands.
-fn height_of(value: i64, figures: Figures) -> u64 {
-    let span = figures.greatest.abs_diff(figures.least);
-    if span == 0 {
-        return 14;
-    }
-    26u64.saturating_sub(share(value.abs_diff(figures.least), span, 24))
-}
-
 fn bars_of(
     alloc: Global,
     axis: (i64, i64),
     samples: &[Sample],
-    figures: Figures,
+    scale: Scale,
 ) -> Result<Vec<Bar>, AllocError> {
     let mut bars: Vec<Bar> = Vec::new(alloc);
     for sample in samples {
         let Some(column) = column_of(axis, sample.t(), COLUMNS) else {
             continue;
         };
-        let y = height_of(sample.v(), figures);
+        let Some(y) = scale.height_of(sample.v()) else {
+            continue;
+        };
         match bars.last_mut() {
             Some(bar) if bar.column == column => bar.add(y, sample.t()),
             _ => bars.push(Bar::new(column, y, sample.t()))?,
@@ -150,9 +142,9 @@ fn path(pen: &mut Pen, class: &'static str, moves: Result<Vec<Move>, AllocError>
 }
 
 /// The samples of a row over an axis, from its own least value to its own greatest.
-pub(crate) fn spark(pen: &mut Pen, axis: (i64, i64), samples: &[Sample], figures: Figures) {
+pub(crate) fn spark(pen: &mut Pen, axis: (i64, i64), samples: &[Sample], scale: Scale) {
     let alloc = pen.alloc();
-    let Ok(bars) = bars_of(alloc, axis, samples, figures) else {
+    let Ok(bars) = bars_of(alloc, axis, samples, scale) else {
         return pen.fail();
     };
     pen.with(Attribute::Number(Key::Width, 180));

@@ -1,12 +1,12 @@
 //! Pages.
 
 ghost use Rattle.std.specs.Prelude.{◌≡◌, ◌≤◌, ◌++◌, length, IfOk, OnOk};
-ghost use Rattle.page_text.specs.Marks.{marks_in};
+ghost use Rattle.page_text.specs.Marks.{marks_in, values_in};
 ghost use Rattle.page_text.specs.Nesting.{IsContent};
 ghost use Rattle.page_text.specs.Plain.{plain_text};
 ghost use Rattle.page.specs.Pages.{IsClaimOf, IsSaidOf, IsPageOf, IsTextOf};
 ghost use Rattle.page.specs.Pages.{page_front, page_top, page_rest, page_bytes};
-ghost use Rattle.page.specs.Pages.{wanted_marks, wanted_counts};
+ghost use Rattle.page.specs.Pages.{wanted_marks, wanted_counts, AreShownValues};
 ghost use Rattle.page.specs.Saying.{plain_claim};
 
 use crate::asked::{Asked, ask};
@@ -21,9 +21,11 @@ use crate::shown::{Shown, View, axis_of, samples_in};
 use crate::terminal::terminal;
 use crate::time::time;
 use page_claims::{Claim, Completeness, find_claim};
-use page_marks::{FEW_PARTS, page_marks, text_marks};
+use page_marks::{FEW_PARTS, MOST_ROWS, page_marks, row_values, text_marks};
 use page_style::{append_back, append_front};
-use page_text::{Mark, Piece, Tag, marks_of, print, print_plain, same_marks};
+use page_text::{
+    Mark, Piece, Tag, Value, marks_of, print, print_plain, same_marks, same_values, values_of,
+};
 use std::alloc::{AllocError, Global};
 
 /// What all sections need.
@@ -112,6 +114,27 @@ fn wanted_counts(alloc: Global, shown: &Shown<'_>) -> Result<Vec<Mark>, AllocErr
 {
     let matchers = shown.query.matchers().len();
     text_marks(alloc, matchers, shown.told.answers.as_slice())
+}
+
+/// The values that what is shown has below the claim, by what they mean.
+fn wanted_values(alloc: Global, shown: &Shown<'_>) -> Result<Vec<Value>, AllocError>
+    ensures { IfOk result (λ values. AreShownValues shown.now values.items) }
+{
+    let rows = shown.told.rows.as_slice();
+    let most = MOST_ROWS.min(rows.len());
+    row_values(alloc, shown.values, &rows[..most])
+}
+
+/// Whether pieces have these values: others are refused as if there were no memory for them.
+fn check_values(alloc: Global, pieces: &[Piece], wanted: &[Value]) -> Result<(), AllocError>
+    ensures { IfOk result (λ _. values_in pieces.now ≡ wanted.now) }
+{
+    let drawn = values_of(alloc, pieces)?;
+    if same_values(drawn.as_slice(), wanted) {
+        Ok(())
+    } else {
+        Err(AllocError)
+    }
 }
 
 /// Whether pieces have these marks: others are refused as if there were no memory for them.
@@ -205,8 +228,9 @@ fn bytes_of(
 /// the rows are the merged rows of the parts, and no line of the auditor names a flaw. The box of
 /// the claim is green only if a judge found no flaw in each part, or in each but a head that is
 /// told to have no series, which the box then says. Else it is plain, and names the parts that
-/// nobody judged. Below the claim its marks, the counts and tiles that it tells of, are exactly those of the reply
-/// (`page_marks`).
+/// nobody judged. Below the claim its marks, the counts and tiles that it tells of, are exactly
+/// those of the reply (`page_marks`), and so are the first, last, least and greatest values of the
+/// rows in the table, by what they mean.
 ///
 /// It has at most 268,435,456 bytes, and at most 4,000,000 pieces each above the claim, with it and
 /// below it, however many intervals, rows and samples there are. It takes time in proportion to the
@@ -221,6 +245,8 @@ pub fn write_page(alloc: Global, shown: &Shown<'_>) -> Result<Page, AllocError>
     let sections = sections_of(alloc, &view, asked.as_ref())?;
     let wanted = wanted_marks(alloc, shown)?;
     check_marks(alloc, sections.as_slice(), wanted.as_slice())?;
+    let values = wanted_values(alloc, shown)?;
+    check_values(alloc, sections.as_slice(), values.as_slice())?;
     let bytes = bytes_of(
         alloc,
         &view.claim,

@@ -1,3 +1,5 @@
+pub mod Ends
+pub mod Shown
 pub mod Stacks
 pub mod Steps
 pub mod Sums

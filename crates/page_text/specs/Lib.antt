@@ -4,3 +4,4 @@ pub mod Markup
 pub mod Nesting
 pub mod Plain
 pub mod Printing
+pub mod Values

@@ -26,6 +26,7 @@ open_after (Some open_tags) (pieces.Number n) = Some open_tags
 open_after (Some open_tags) (pieces.Integer n) = Some open_tags
 open_after (Some open_tags) (pieces.Counted n) = Some open_tags
 open_after (Some open_tags) (pieces.Mark mark) = Some open_tags
+open_after (Some open_tags) (pieces.Value shown) = Some open_tags
 open_after (Some open_tags) pieces.Line = Some open_tags
 
 -- the piece begins no element and ends none

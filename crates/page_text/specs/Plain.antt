@@ -38,6 +38,7 @@ plain_piece (pieces.Number n) = decimal n
 plain_piece (pieces.Integer n) = signed_decimal n
 plain_piece (pieces.Counted n) = counted n
 plain_piece (pieces.Mark mark) = plain_mark mark
+plain_piece (pieces.Value shown) = shown.text.items
 plain_piece pieces.Line = codes "\n"
 
 abbrev pub plain_text : List Piece → List ℕ

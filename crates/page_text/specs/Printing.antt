@@ -112,6 +112,7 @@ piece_text (pieces.Number n) = decimal n
 piece_text (pieces.Integer n) = signed_decimal n
 piece_text (pieces.Counted n) = counted n
 piece_text (pieces.Mark mark) = mark_text mark
+piece_text (pieces.Value shown) = shown.text.items
 piece_text pieces.Line = codes "\n"
 
 -- the print of a page

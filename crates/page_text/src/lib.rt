@@ -9,7 +9,9 @@
 //! numbers alone, for a terminal.
 //!
 //! A [`Mark`] is a piece that the tree tells of: a number with what it counts, or a rectangle that
-//! a verdict fills. [`marks_of`] reads them back, so that whoever draws can be held to a list.
+//! a verdict fills. [`marks_of`] reads them back, so that whoever draws can be held to a list; and
+//! [`values_of`] the values of samples, which stand there as whole numbers or as the doubles for
+//! which these are kept ([`Values`]).
 //!
 //! ```
 //! let mut tree = Tree::new(alloc);
@@ -19,7 +21,8 @@
 //! assert_eq!(rt; print(alloc, pieces.as_slice())?.as_str(), "<code>a&lt;b</code>");
 //! ```
 //!
-//! It stands on `page_escape`.
+//! It stands on `page_escape` for texts, on `itoa` for digits, and on `stored_doubles` and
+//! `double_text` for doubles.
 #![tactic(auto)]
 
 mod attribute;
@@ -28,13 +31,17 @@ mod numbers;
 mod piece;
 mod plain;
 mod printing;
+mod read_back;
 mod tag;
 mod tree;
+mod value;
 
 pub use attribute::{Attribute, Key, Move};
 pub use mark::{Mark, Subject, marks_of, same_marks};
 pub use piece::Piece;
 pub use plain::print_plain;
 pub use printing::print;
+pub use read_back::{same_values, values_of};
 pub use tag::Tag;
 pub use tree::{MOST_PIECES, Tree};
+pub use value::{Value, ValueText, Values};

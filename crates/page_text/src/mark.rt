@@ -50,6 +50,7 @@ fn append_mark(marks: &mut Vec<Mark>, piece: &Piece) -> Result<(), AllocError>
         | Piece::Number(_)
         | Piece::Integer(_)
         | Piece::Counted(_)
+        | Piece::Value(_)
         | Piece::Line => Ok(()),
     }
 }

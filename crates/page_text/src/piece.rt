@@ -3,6 +3,7 @@
 use crate::attribute::Attribute;
 use crate::mark::Mark;
 use crate::tag::Tag;
+use crate::value::ValueText;
 
 /// A piece of a page. Texts from outside stand in `Text` alone: all else is a number or a constant
 /// of the program.
@@ -26,6 +27,8 @@ pub enum Piece {
     Counted(u64),
     /// A number or a rectangle that the tree tells of.
     Mark(Mark),
+    /// A value of a sample, by its text.
+    Value(ValueText),
     /// The end of a line.
     Line,
 }

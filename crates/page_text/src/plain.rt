@@ -80,6 +80,7 @@ fn append_piece(out: &mut Vec<u8>, piece: &Piece) -> Result<(), AllocError>
         Piece::Integer(n) => append_integer(out, *n),
         Piece::Counted(n) => append_counted(out, *n),
         Piece::Mark(mark) => append_plain_mark(out, *mark),
+        Piece::Value(shown) => out.extend_from_slice(shown.text()),
         Piece::Line => Ok(out.push(b'\n')?),
     }
 }

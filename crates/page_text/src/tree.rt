@@ -11,6 +11,7 @@ use crate::attribute::Attribute;
 use crate::mark::Mark;
 use crate::piece::Piece;
 use crate::tag::Tag;
+use crate::value::ValueText;
 use std::alloc::{AllocError, Global};
 
 /// Most pieces of a tree: it asks for no more memory than these take.
@@ -178,6 +179,16 @@ impl Tree {
         ensures inside { OnOk result (open_tags self.new ≡ open_tags self.old) }
     {
         self.push(Piece::Mark(mark))
+    }
+
+    /// Adds a value of a sample.
+    #[tactic(auto, unfolding(crate::specs::Printing::piece_text))]
+    pub fn value(&mut self, value: ValueText) -> Result<(), AllocError>
+        ensures printed { OnOk result (printed self.new ≡ printed self.old
+            ++ value.text.items) }
+        ensures inside { OnOk result (open_tags self.new ≡ open_tags self.old) }
+    {
+        self.push(Piece::Value(value))
     }
 
     /// Ends a line.

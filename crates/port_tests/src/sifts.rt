@@ -1,113 +1,123 @@
-//! What a sift keeps, and what it leaves out. The values are worked out by hand.
+//! What a write keeps beside samples that it leaves out. The bodies are those of
+//! `tests/live/wire.py`, and what is left out is worked out by hand.
 
-use head::{Event, Left, Reason, RowBatch, Sieve, Snapshot, apply, apply_sifted};
-use labels::{LabelSet, Row, Sample};
-use std::alloc::Global;
+ghost use Rattle.std.specs.Prelude.{◌≡◌, []};
+ghost use Rattle.head.specs.Blocks.{opening_of};
 
-/// A row: the job of its label set, and its samples.
-type Wanted = (&'static str, &'static [(i64, i64)]);
+use crate::port::{reply_to, request};
+use snapshots::{Naming, Store};
+use std::alloc::{AllocError, Global};
+use std::marker::Brand;
+use std::sync::Wait;
+use std::test::Fail;
+use std::thread::Threads;
 
-/// The label set `up` of a job.
-fn set_of(alloc: Global, job: &str) -> Option<LabelSet> {
-    let mut pairs = Vec::new(alloc);
-    for (name, value) in [("__name__", "up"), ("job", job)] {
-        let name = String::from_str(alloc, name).ok()?;
-        pairs
-            .push((name, String::from_str(alloc, value).ok()?))
-            .ok()?;
-    }
-    LabelSet::new(alloc, pairs).ok()
-}
+/// `up{job="a"}` has 5 at 100 and 6 at 120, `up{job="b"}` has 7 at 110.
+const FIRST: &[u8] = b"\x5f\xf0\x5e\
+    \x0a\x34\x0a\x0e\x0a\x08__name__\x12\x02up\x0a\x08\x0a\x03job\x12\x01a\
+    \x12\x0b\x09\x00\x00\x00\x00\x00\x00\x14\x40\x10\x64\
+    \x12\x0b\x09\x00\x00\x00\x00\x00\x00\x18\x40\x10\x78\
+    \x0a\x27\x0a\x0e\x0a\x08__name__\x12\x02up\x0a\x08\x0a\x03job\x12\x01b\
+    \x12\x0b\x09\x00\x00\x00\x00\x00\x00\x1c\x40\x10\x6e";
 
-fn empty(alloc: Global) -> Option<Snapshot> {
-    Snapshot::opening(alloc, Vec::new(alloc)).ok()
-}
+/// Those again, and of `up{job="a"}` 1 at 110, 7 at 120 and 8 at 130.
+const AGAIN: &[u8] = b"\x87\x01\xf0\x86\
+    \x0a\x5c\x0a\x0e\x0a\x08__name__\x12\x02up\x0a\x08\x0a\x03job\x12\x01a\
+    \x12\x0b\x09\x00\x00\x00\x00\x00\x00\x14\x40\x10\x64\
+    \x12\x0b\x09\x00\x00\x00\x00\x00\x00\xf0\x3f\x10\x6e\
+    \x12\x0b\x09\x00\x00\x00\x00\x00\x00\x18\x40\x10\x78\
+    \x12\x0b\x09\x00\x00\x00\x00\x00\x00\x1c\x40\x10\x78\
+    \x12\x0c\x09\x00\x00\x00\x00\x00\x00\x20\x40\x10\x82\x01\
+    \x0a\x27\x0a\x0e\x0a\x08__name__\x12\x02up\x0a\x08\x0a\x03job\x12\x01b\
+    \x12\x0b\x09\x00\x00\x00\x00\x00\x00\x1c\x40\x10\x6e";
 
-fn row_of(alloc: Global, wanted: &Wanted) -> Option<Row> {
-    let mut samples = Vec::new(alloc);
-    for &(t, v) in wanted.1 {
-        samples.push(Sample::new(t, v)).ok()?;
-    }
-    Some(Row::new(set_of(alloc, wanted.0)?, samples))
-}
+/// `up{job="a"}` has 9 at 130.
+const OTHER_AT_130: &[u8] = b"\x2a\xa4\
+    \x0a\x28\x0a\x0e\x0a\x08__name__\x12\x02up\x0a\x08\x0a\x03job\x12\x01a\
+    \x12\x0c\x09\x00\x00\x00\x00\x00\x00\x22\x40\x10\x82\x01";
 
-fn rows_of(alloc: Global, wanted: &[Wanted]) -> Option<Vec<Row>> {
-    let mut rows = Vec::new(alloc);
-    for row in wanted {
-        rows.push(row_of(alloc, row)?).ok()?;
-    }
-    Some(rows)
-}
+/// Some of the first again, and of `up{job="a"}` 9 at 101, 6 at 100 and 1 at 150; `up{job="c"}` has
+/// 7 at 110.
+const BELOW: &[u8] = b"\xa3\x01\xf0\xa2\
+    \x0a\x4f\x0a\x0e\x0a\x08__name__\x12\x02up\x0a\x08\x0a\x03job\x12\x01a\
+    \x12\x0b\x09\x00\x00\x00\x00\x00\x00\x14\x40\x10\x64\
+    \x12\x0b\x09\x00\x00\x00\x00\x00\x00\x22\x40\x10\x65\
+    \x12\x0b\x09\x00\x00\x00\x00\x00\x00\x18\x40\x10\x64\
+    \x12\x0c\x09\x00\x00\x00\x00\x00\x00\xf0\x3f\x10\x96\x01\
+    \x0a\x27\x0a\x0e\x0a\x08__name__\x12\x02up\x0a\x08\x0a\x03job\x12\x01b\
+    \x12\x0b\x09\x00\x00\x00\x00\x00\x00\x1c\x40\x10\x6e\
+    \x0a\x27\x0a\x0e\x0a\x08__name__\x12\x02up\x0a\x08\x0a\x03job\x12\x01c\
+    \x12\x0b\x09\x00\x00\x00\x00\x00\x00\x1c\x40\x10\x6e";
 
-fn sieve_of(alloc: Global, at: &Snapshot, wanted: &[Wanted]) -> Option<Sieve> {
-    apply_sifted(alloc, at, &RowBatch::new(rows_of(alloc, wanted)?)).ok()
-}
+/// `up{job="a"}` has 2 at 150.
+const OTHER_AT_150: &[u8] = b"\x2a\xa4\
+    \x0a\x28\x0a\x0e\x0a\x08__name__\x12\x02up\x0a\x08\x0a\x03job\x12\x01a\
+    \x12\x0c\x09\x00\x00\x00\x00\x00\x00\x00\x40\x10\x96\x01";
 
-/// The snapshot after a sift that kept something.
-fn after(alloc: Global, at: &Snapshot, wanted: &[Wanted]) -> Option<Snapshot> {
-    let (next, _) = sieve_of(alloc, at, wanted)?.next?;
-    Some(next)
-}
+/// The end of the reply if nothing was left out.
+const DONE: &[u8] = b"{\"ok\":true}";
 
-/// Whether a sift kept these samples, one of each row, and left these out.
-fn is_sieve(sieve: Option<Sieve>, kept: &[(i64, i64)], left: Left) -> bool {
-    let Some(Sieve { next, left: told }) = sieve else {
-        return false;
+/// The replies to writes of these bodies, one after another. The first may be cut below 125.
+fn replies<J: Naming, R: Wait + Threads + Sync>(
+    rt: &R,
+    alloc: Global,
+    store: Store,
+    bodies: &[&[u8]],
+    is_cut: bool,
+) -> Result<Vec<Vec<u8>>, AllocError>
+    requires book { store.seen.book ≡ J.book }
+    requires opening { opening_of [] ≡ J.opening }
+{
+    let mut all = Vec::new(alloc);
+    let opened = store.open::<J, &R>(rt, alloc, Vec::new(alloc), 1, 1);
+    let Ok((committer, mut passes, mut seats)) = opened else {
+        return Ok(all);
     };
-    let Some((_, rows)) = next else {
-        return kept.is_empty() && told == left;
+    let (Some(mut pass), Some(mut seat)) = (passes.pop(), seats.pop()) else {
+        return Ok(all);
     };
-    let rows = rows.rows();
-    if rows.len() != kept.len() {
-        return false;
-    }
-    for (row, &(t, v)) in rows.iter().zip(kept) {
-        if row.samples() != [Sample::new(t, v)].as_slice() {
-            return false;
+    for body in bodies {
+        let bytes = request(alloc, "write", body)?;
+        all.push(reply_to(
+            rt,
+            alloc,
+            bytes.as_slice(),
+            &mut pass,
+            &mut seat,
+            &committer,
+        )?)?;
+        if is_cut && all.len() == 1 && committer.cut(rt, &mut seat, 125).is_err() {
+            return Ok(all);
         }
     }
-    told == left
-}
-
-const FIRST: &[Wanted] = &[("a", &[(100, 5), (120, 6)]), ("b", &[(110, 7)])];
-
-#[test]
-fn one_bad_sample_costs_no_other(rt: HostRuntime) {
-    let alloc = rt.alloc();
-    let empty = empty(alloc).expect(&rt, "there is memory");
-    let at = after(alloc, &empty, FIRST).expect(&rt, "all join");
-    let again: &[Wanted] = &[
-        ("a", &[(100, 5), (110, 1), (120, 6), (120, 7), (130, 8)]),
-        ("b", &[(110, 7)]),
-    ];
-    let left = Left {
-        out_of_bounds: 0,
-        out_of_order: 1,
-        duplicate: 1,
-        limit: 0,
-        first: Some(Reason::OutOfOrder),
-    };
-    assert!(rt; is_sieve(sieve_of(alloc, &at, again), &[(130, 8)], left));
-    assert!(rt; is_sieve(sieve_of(alloc, &at, FIRST), &[], Left::none()));
+    Ok(all)
 }
 
 #[test]
-fn a_repeat_of_what_a_block_holds_is_held(rt: HostRuntime) {
+fn one_bad_sample_costs_no_other(rt: HostRuntime) -> Result<(), Fail> {
     let alloc = rt.alloc();
-    let empty = empty(alloc).expect(&rt, "there is memory");
-    let at = after(alloc, &empty, FIRST).expect(&rt, "all join");
-    let cut = apply(alloc, &at, &Event::cut(125)).expect(&rt, "the cut is above the floor");
-    let again: &[Wanted] = &[
-        ("a", &[(100, 5), (101, 9), (100, 6), (150, 1)]),
-        ("b", &[(110, 7)]),
-        ("c", &[(110, 7)]),
-    ];
-    let left = Left {
-        out_of_bounds: 3,
-        out_of_order: 0,
-        duplicate: 0,
-        limit: 0,
-        first: Some(Reason::OutOfBounds),
-    };
-    assert!(rt; is_sieve(sieve_of(alloc, &cut, again), &[(150, 1)], left));
+    let bodies = [FIRST, AGAIN, FIRST, OTHER_AT_130];
+    let all = replies::<Brand, HostRuntime>(&rt, alloc, Store::new(), bodies.as_slice(), false)?;
+    assert!(rt; all.len() == 4);
+    assert!(rt; all[0].as_slice().ends_with(DONE));
+    let left = b"{\"cause\":\"E2\",\"left\":{\"E2\":1,\"E3\":1},\"of\":6,\"refused\":\"G5\"}";
+    assert!(rt; all[1].as_slice().ends_with(left));
+    assert!(rt; all[2].as_slice().ends_with(DONE));
+    let other = b"{\"cause\":\"E3\",\"left\":{\"E3\":1},\"of\":1,\"refused\":\"G5\"}";
+    assert!(rt; all[3].as_slice().ends_with(other));
+    Ok(())
+}
+
+#[test]
+fn a_repeat_of_what_a_block_holds_is_held(rt: HostRuntime) -> Result<(), Fail> {
+    let alloc = rt.alloc();
+    let bodies = [FIRST, BELOW, OTHER_AT_150];
+    let all = replies::<Brand, HostRuntime>(&rt, alloc, Store::new(), bodies.as_slice(), true)?;
+    assert!(rt; all.len() == 3);
+    assert!(rt; all[0].as_slice().ends_with(DONE));
+    let left = b"{\"cause\":\"E1\",\"left\":{\"E1\":3},\"of\":6,\"refused\":\"G5\"}";
+    assert!(rt; all[1].as_slice().ends_with(left));
+    let other = b"{\"cause\":\"E3\",\"left\":{\"E3\":1},\"of\":1,\"refused\":\"G5\"}";
+    assert!(rt; all[2].as_slice().ends_with(other));
+    Ok(())
 }

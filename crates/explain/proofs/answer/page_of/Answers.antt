@@ -10,6 +10,7 @@ write_found-requires c = record {
   told = refl;
   tables = c.as_slice.ensures.value;
   lines = c.as_slice-2.ensures.value;
+  values = refl;
   about = c.as_ref.ensures.value;
   length_is = first_of (search rules, omega arith, grind (arith, common_steps));
   digest_is = c.digest.ensures ∙ ap sha256 c.as_slice-3.ensures.value;

@@ -1,0 +1,7 @@
+use Rattle.std.specs.Prelude.{[]}
+use Rattle.head.specs.Blocks.{opening_of}
+use Rattle.port_tests.proofs.sifts.a_repeat_of_what_a_block_holds_is_held.Given as goal
+
+-- the store that was just opened
+abbrev pub ghosts-replies : goal.ghosts-replies
+ghosts-replies g a = record { book = a.store.seen.book; opening = opening_of []; before = [] }
