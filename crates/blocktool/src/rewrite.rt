@@ -3,8 +3,8 @@
 ghost use Rattle.std.specs.Prelude.{◌≡◌, true, IfOk, OnOk};
 ghost use Rattle.std.specs.List.{list_all};
 ghost use Rattle.labels.specs.Parts.{rows_in};
-ghost use Rattle.blocktool.specs.Opening.{AreDoubles, AreTaken, IsMeantAs, Takes};
-ghost use Rattle.blocktool.specs.Opening.{filled, is_filled, names_in, nothing_taken, rows_of, taken_in};
+ghost use Rattle.blocktool.specs.Opening.{AreDoubles, AreTaken, IsMeantAs, Takes, filled};
+ghost use Rattle.blocktool.specs.Opening.{is_filled, names_in, nothing_taken, rows_of, taken_in};
 ghost use Rattle.blocktool.specs.Rewriting.{SmallNumbersStandForThemselves, are_small, is_small};
 
 use crate::fault::Fault;
