@@ -1,8 +1,11 @@
 //! Blocks that are added to a store that is kept in a folder.
 
+ghost use Rattle.std.specs.Prelude.{IfOk, None};
+ghost use Rattle.blocktool.specs.Opening.{AreAdded, names_in};
+
 use crate::fault::Fault;
 use crate::kept::{lock_store, not_changed};
-use crate::own::open_own;
+use crate::own::OpensOwn;
 use crate::target::send;
 use crate::teller::Teller;
 use block::Block;
@@ -11,37 +14,27 @@ use data_folder::HostFolder;
 use head::{MAX_BLOCKS, ResumeError, Snapshot};
 use std::alloc::{AllocError, Global};
 use std::io::Write;
-use std::rt::Files;
-use store_folder::read_store;
 use store_joiner::{ChangeFault, add_to_store};
 
-/// What the values of the store of a folder mean. Whole numbers if it has none, and if it cannot be
-/// read: nothing is added to it then.
-fn meaning_of(alloc: Global, host: &HostRuntime, data: &str) -> Values {
-    let mut folder = HostFolder::new(host, alloc, data);
-    match read_store(alloc, &mut folder) {
-        Ok(Some(found)) => found.journal.head.values(),
-        Ok(None) | Err(_) => Values::Whole,
-    }
-}
-
-/// The blocks in directories, in their order. All must have values of as many digits, which mean
-/// this.
-fn open_blocks<R: Files + AllocGlobal>(
+/// The blocks in directories, in their order, and what their values mean. All must have values of
+/// as many digits, which mean the same.
+fn open_blocks<B: OpensOwn>(
     alloc: Global,
-    rt: &R,
+    own: &B,
     directories: &[&str],
-    values: Values,
-) -> Result<Vec<Block>, Fault> {
+) -> Result<(Vec<Block>, Option<Values>), Fault>
+    ensures { IfOk result (λ x. AreAdded B.may_open own.now (names_in directories.now) None None
+        x.0.items x.1) }
+{
     let mut blocks = Vec::new(alloc);
-    let mut digits = None;
+    let (mut digits, mut values) = (None, None);
     for directory in directories {
-        let opened = open_own(alloc, rt, *directory)?;
+        let opened = own.open(alloc, *directory)?;
         digits = Some(opened.check_digits(alloc, digits, *directory)?);
-        opened.check_values(alloc, Some(values), *directory)?;
+        values = Some(opened.check_values(alloc, values, *directory)?);
         blocks.push(opened.block)?;
     }
-    Ok(blocks)
+    Ok((blocks, values))
 }
 
 /// The opening of blocks, of which there may be no more than a store may have.
@@ -53,17 +46,38 @@ fn open_all(alloc: Global, blocks: Vec<Block>) -> Result<Snapshot, Fault> {
     Ok(opening)
 }
 
-/// Why blocks are not added to a store.
-fn not_added(alloc: Global, data: &str, fault: ChangeFault, opening: &Snapshot) -> Fault {
-    let ChangeFault::Unfit(ResumeError::Unsound, count) = fault else {
-        return not_changed(alloc, data, fault);
+/// That the values of blocks, all of which mean the same, mean something else than the store's.
+fn other_meaning(alloc: Global, directories: &[&str]) -> Fault {
+    let first = match directories.first() {
+        Some(directory) => *directory,
+        None => "",
     };
-    if count > MAX_BLOCKS {
-        return Fault::TooManyBlocks(count);
-    }
-    match String::from_str(alloc, data) {
-        Ok(data) => Fault::HeadBelow(data, opening.floor()),
+    match String::from_str(alloc, first) {
+        Ok(directory) => Fault::Meaning(directory),
         Err(_) => Fault::Memory,
+    }
+}
+
+/// Why blocks are not added to a store.
+fn not_added(
+    alloc: Global,
+    data: &str,
+    directories: &[&str],
+    fault: ChangeFault,
+    opening: &Snapshot,
+) -> Fault {
+    match fault {
+        ChangeFault::Meaning => other_meaning(alloc, directories),
+        ChangeFault::Unfit(ResumeError::Unsound, count) => {
+            if count > MAX_BLOCKS {
+                return Fault::TooManyBlocks(count);
+            }
+            match String::from_str(alloc, data) {
+                Ok(data) => Fault::HeadBelow(data, opening.floor()),
+                Err(_) => Fault::Memory,
+            }
+        }
+        fault => not_changed(alloc, data, fault),
     }
 }
 
@@ -87,12 +101,13 @@ pub(crate) fn add<W: Write, E: Write>(
 ) -> Result<(), Fault> {
     let lock = lock_store(alloc, host, data)?;
     teller.is_at("reading the blocks")?;
-    let values = meaning_of(alloc, host, data);
-    let opening = open_all(alloc, open_blocks(alloc, host, directories, values)?)?;
+    let (blocks, values) = open_blocks(alloc, host, directories)?;
+    let (opening, values) = (open_all(alloc, blocks)?, values.unwrap_or(Values::Whole));
     teller.is_at("adding the blocks")?;
-    let total = match add_to_store(alloc, HostFolder::new(host, alloc, data), &opening) {
+    let folder = HostFolder::new(host, alloc, data);
+    let total = match add_to_store(alloc, folder, &opening, values) {
         Ok((total, _)) => total,
-        Err((fault, _)) => return Err(not_added(alloc, data, fault, &opening)),
+        Err((fault, _)) => return Err(not_added(alloc, data, directories, fault, &opening)),
     };
     drop(lock);
     let line = line_of(alloc, data, opening.blocks().len(), total)?;

@@ -68,7 +68,7 @@ pub(crate) fn not_changed(alloc: Global, data: &str, fault: ChangeFault) -> Faul
         }
         ChangeFault::Begin(error) => not_begun(alloc, data, error),
         ChangeFault::Roll(fault) => not_written(alloc, data, fault),
-        ChangeFault::Changed => Fault::Changed,
+        ChangeFault::Changed | ChangeFault::Meaning => Fault::Changed,
         ChangeFault::Unfit(error, _) => not_read(alloc, data, StartError::Head(error)),
     }
 }

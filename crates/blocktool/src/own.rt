@@ -1,5 +1,9 @@
 //! Blocks of this project in directories.
 
+ghost use Rattle.std.specs.Prelude.{ℕ, List, IfOk};
+ghost use Rattle.blocktool.specs.declared.own.Opened.{Opened as OpenedBlock};
+ghost use Rattle.blocktool.specs.Opening.{HasDigits, HasValues};
+
 use crate::fault::Fault;
 use crate::files::read_file;
 use block::{Block, BlockError, Range};
@@ -41,7 +45,9 @@ impl Opened {
         alloc: Global,
         before: Option<u32>,
         directory: &str,
-    ) -> Result<u32, Fault> {
+    ) -> Result<u32, Fault>
+        ensures { IfOk result (HasDigits self.now before) }
+    {
         if before.unwrap_or(self.digits) != self.digits {
             return Err(Fault::Digits(String::from_str(alloc, directory)?));
         }
@@ -54,11 +60,32 @@ impl Opened {
         alloc: Global,
         before: Option<Values>,
         directory: &str,
-    ) -> Result<Values, Fault> {
+    ) -> Result<Values, Fault>
+        ensures { IfOk result (HasValues self.now before) }
+    {
         if !before.unwrap_or(self.values).is_same(self.values) {
             return Err(Fault::Meaning(String::from_str(alloc, directory)?));
         }
         Ok(self.values)
+    }
+}
+
+/// What opens blocks of this project by the names of their directories.
+pub(crate) trait OpensOwn {
+    /// In the directory of this name it may find this block.
+    ghost may_open: { Self → List ℕ → OpenedBlock → Type 0 };
+
+    /// Opens the block in a directory.
+    fn open(&self, alloc: Global, directory: &str) -> Result<Opened, Fault>
+        ensures { IfOk result (λ opened. may_open self.now directory.now opened) };
+}
+
+/// The directories of the host. Of what their files have no clause tells.
+impl<R: Files + AllocGlobal> OpensOwn for R {
+    ghost may_open = { λ host directory opened. Unit {0} };
+
+    fn open(&self, alloc: Global, directory: &str) -> Result<Opened, Fault> {
+        open_own(alloc, self, directory)
     }
 }
 

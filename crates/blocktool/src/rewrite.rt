@@ -1,19 +1,22 @@
 //! Blocks of this project, written anew.
 
-ghost use Rattle.std.specs.Prelude.{◌≡◌, true, OnOk};
+ghost use Rattle.std.specs.Prelude.{◌≡◌, true, IfOk, OnOk};
 ghost use Rattle.std.specs.List.{list_all};
+ghost use Rattle.labels.specs.Parts.{rows_in};
+ghost use Rattle.blocktool.specs.Opening.{AreDoubles, AreTaken, IsMeantAs, Takes, filled};
+ghost use Rattle.blocktool.specs.Opening.{is_filled, names_in, nothing_taken, rows_of, taken_in};
 ghost use Rattle.blocktool.specs.Rewriting.{SmallNumbersStandForThemselves, are_small, is_small};
 
 use crate::fault::Fault;
 use crate::listed::Listed;
-use crate::own::{Opened, open_own};
+use crate::own::{Opened, OpensOwn};
 use crate::plan::plan_for;
 use crate::target::Target;
 use crate::teller::Teller;
 use crate::writing::write_planned;
 use block_folder::Values;
 use block_outputs::Stretch;
-use labels::{MAX_TIME, MIN_TIME, Row, Sample};
+use labels::{MAX_TIME, MIN_TIME, Row, Sample, SeriesRef};
 use std::alloc::{AllocError, Global};
 use std::io::Write;
 use std::rt::Files;
@@ -23,20 +26,36 @@ const SMALL: u64 = 0x20_0000_0000_0000;
 
 /// Inputs, how many digits after the point their values have, and what they mean.
 #[derive(Drop)]
-struct Inputs {
-    listed: Vec<Listed>,
-    digits: Option<u32>,
-    values: Option<Values>,
+pub(crate) struct Inputs {
+    pub(crate) listed: Vec<Listed>,
+    pub(crate) digits: Option<u32>,
+    pub(crate) values: Option<Values>,
 }
 
-/// The rows of a block that have a sample.
-fn listed_of(alloc: Global, opened: &Opened) -> Result<Listed, AllocError> {
+fn is_filled(row: &Row) -> bool
+    ensures { result ≡ is_filled row.now }
+{
+    !row.samples().is_empty()
+}
+
+fn keep_filled(alloc: Global, listed: Vec<(SeriesRef, Row)>) -> Result<Vec<Row>, AllocError>
+    ensures { IfOk result (λ rows. rows.items ≡ filled (rows_in listed.items)) }
+{
     let mut rows = Vec::new(alloc);
-    for (_, row) in opened.block.list_all(alloc)? {
-        if !row.samples().is_empty() {
+    for (_, row) in listed {
+        if is_filled(&row) {
             rows.push(row)?;
         }
     }
+    Ok(rows)
+}
+
+/// The rows of a block that have a sample.
+fn listed_of(alloc: Global, opened: &Opened) -> Result<Listed, AllocError>
+    ensures { IfOk result (λ listed. listed.rows.items ≡ rows_of opened.now) }
+{
+    let listed = opened.block.list_all(alloc)?;
+    let rows = keep_filled(alloc, listed)?;
     Ok(Listed { rows })
 }
 
@@ -94,7 +113,10 @@ fn take_as_doubles(
     opened: &Opened,
     listed: &Listed,
     directory: &str,
-) -> Result<Values, Fault> {
+) -> Result<Values, Fault>
+    requires { listed.now.rows.items ≡ rows_of opened.now }
+    ensures { IfOk result (AreDoubles opened.now) }
+{
     if opened.values.is_same(Values::Whole) {
         if opened.digits != 0 {
             return Err(Fault::Digits(String::from_str(alloc, directory)?));
@@ -112,31 +134,56 @@ fn meaning_of(
     listed: &Listed,
     before: Option<Values>,
     directory: &str,
-) -> Result<Values, Fault> {
+) -> Result<Values, Fault>
+    requires { listed.now.rows.items ≡ rows_of opened.now }
+    ensures { IfOk result (IsMeantAs asked opened.now before) }
+{
     match asked {
         Some(Values::Doubles) => take_as_doubles(alloc, opened, listed, directory),
         _ => opened.check_values(alloc, before, directory),
     }
 }
 
-fn open_all<R: Files + AllocGlobal>(
+impl Inputs {
+    /// Takes a block more, by its rows that have a sample. Where doubles are asked for, its values
+    /// are taken as doubles; else they must mean what those before it mean.
+    fn take(
+        &mut self,
+        alloc: Global,
+        asked: Option<Values>,
+        opened: &Opened,
+        directory: &str,
+    ) -> Result<(), Fault>
+        ensures { OnOk result (Takes asked opened.now (taken_in self.old) (taken_in self.new)) }
+    {
+        let listed = listed_of(alloc, opened)?;
+        let digits = opened.check_digits(alloc, self.digits, directory)?;
+        let values = meaning_of(alloc, asked, opened, &listed, self.values, directory)?;
+        self.listed.push(listed)?;
+        self.digits = Some(digits);
+        self.values = Some(values);
+        Ok(())
+    }
+}
+
+/// Opens the blocks in directories, and takes each as an input.
+fn open_all<B: OpensOwn>(
     alloc: Global,
-    rt: &R,
+    own: &B,
     asked: Option<Values>,
     directories: &[&str],
-) -> Result<Inputs, Fault> {
+) -> Result<Inputs, Fault>
+    ensures { IfOk result (λ inputs. AreTaken B.may_open own.now asked (names_in directories.now)
+        nothing_taken (taken_in inputs)) }
+{
     let mut inputs = Inputs {
         listed: Vec::new(alloc),
         digits: None,
         values: None,
     };
     for directory in directories {
-        let opened = open_own(alloc, rt, *directory)?;
-        let listed = listed_of(alloc, &opened)?;
-        inputs.digits = Some(opened.check_digits(alloc, inputs.digits, *directory)?);
-        let before = inputs.values;
-        inputs.values = Some(meaning_of(alloc, asked, &opened, &listed, before, *directory)?);
-        inputs.listed.push(listed)?;
+        let opened = own.open(alloc, *directory)?;
+        inputs.take(alloc, asked, &opened, *directory)?;
     }
     Ok(inputs)
 }
