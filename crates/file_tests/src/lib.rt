@@ -26,8 +26,6 @@ mod imports;
 #[cfg(test)]
 mod indexes;
 #[cfg(test)]
-mod journals;
-#[cfg(test)]
 mod numbers;
 #[cfg(test)]
 mod written_files;
