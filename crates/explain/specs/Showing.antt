@@ -8,6 +8,7 @@ use Rattle.labels.specs.Labels.{Labels}
 use Rattle.matchers.specs.Views.{QueryView}
 use Rattle.reply_reader.specs.Replies.{text_said, told_of}
 use Rattle.reply_reader.specs.declared.reply.Reply.{Reply}
+use Rattle.asked_series.specs.Series.{IsSeries}
 use Rattle.auditor.specs.Judgements.{AreLines, answers_of}
 use Rattle.auditor.specs.declared.judgement.BlockTable.{BlockTable}
 use Rattle.auditor.specs.declared.judgement.Line.{Line}
@@ -25,7 +26,7 @@ use Rattle.audit_command.specs.Auditing.{IsReplyFault, IsWritingFault}
 use Rattle.audit_command.specs.Reading.{Host}
 use Rattle.audit_command.specs.Walking.{AreTablesAt, IsFirstFault}
 use Rattle.audit_command.specs.declared.fault.Fault.{Fault as AuditFault}
-use Rattle.explain.specs.Series.{IsSeries, IsSeriesFault}
+use Rattle.explain.specs.Series.{IsSeriesFault}
 use Rattle.explain.specs.declared.answer.Found.{Found}
 use Rattle.explain.specs.declared.command.Asked.{Asked}
 use Rattle.explain.specs.declared.fault.Fault.{Fault}

@@ -1,15 +1,17 @@
 //! The page of a reply.
 
 ghost use Rattle.std.specs.Prelude.{◌≡◌, Some, IfOk, IfErr};
+ghost use Rattle.asked_series.specs.Series.{IsSeries};
 ghost use Rattle.audit_command.specs.Auditing.{IsTextFault};
+ghost use Rattle.explain.specs.Series.{IsSeriesFault};
 ghost use Rattle.explain.specs.Showing.{IsAbout, IsAboutFault, IsAuditFault, IsToldIn};
 ghost use Rattle.explain.specs.Showing.{AreLinesOf, IsShownAs, HasRead, IsPageOfFound};
 ghost use Rattle.explain.specs.Showing.{Shows, IsAnswer, IsAnswerFault, values_of, IsNoMeaning};
 
 use crate::command::Asked;
 use crate::fault::Fault;
-use crate::series::series_of;
-use audit_command::{ReadFiles, all_of, query_of, reply_of, tables_at};
+use asked_series::{SeriesError, series_of};
+use audit_command::{Fault as AuditFault, ReadFiles, all_of, query_of, reply_of, tables_at};
 use auditor::{BlockTable, Line, judge};
 use labels::LabelSet;
 use matchers::Query;
@@ -20,13 +22,25 @@ use sha2::{Digest, Sha256};
 use std::alloc::{AllocError, Global};
 use std::io::Read;
 
+/// The label set of a series that is written as a selector is, with `=` alone.
+fn series_in(alloc: Global, text: &str) -> Result<LabelSet, Fault>
+    ensures ok { IfOk result (λ labels. IsSeries text.now labels) }
+    ensures err { IfErr result (λ fault. IsSeriesFault text.now fault) }
+{
+    match series_of(alloc, text) {
+        Ok(labels) => Ok(labels),
+        Err(SeriesError::NoSeries) => Err(Fault::NoSeries),
+        Err(SeriesError::Memory) => Err(Fault::Audit(AuditFault::Memory)),
+    }
+}
+
 /// The series that somebody asks about, if there is one.
 fn about_of(alloc: Global, asked: &Asked<'_>) -> Result<Option<LabelSet>, Fault>
     ensures ok { IfOk result (λ about. IsAbout asked.now about) }
     ensures err { IfErr result (λ fault. IsAboutFault asked.now fault) }
 {
     match asked.about {
-        Some(text) => Ok(Some(series_of(alloc, text)?)),
+        Some(text) => Ok(Some(series_in(alloc, text)?)),
         None => Ok(None),
     }
 }

@@ -2,10 +2,9 @@
 //!
 //! [`run`] does what the words after the program's name ask for, over files, a reader and two
 //! writers: `--selector S [--from N] [--to N] [--about SERIES] [DIR]...` has it write one file of
-//! HTML. `command` says what the words ask for, `series` reads the series that somebody asks about,
-//! `answer` makes the page, and `fault` says why there is none. With directories the library
-//! `auditor` judges the reply first, over the files that `audit_command` reads. The contract of
-//! `run` says with which status the program ends.
+//! HTML. `command` says what the words ask for, `answer` makes the page, and `fault` says why there
+//! is none. With directories the library `auditor` judges the reply first, over the files that
+//! `audit_command` reads. The contract of `run` says with which status the program ends.
 //!
 //! ```
 //! let words = [String::from_str(alloc, "--selector=up")?];
@@ -16,15 +15,14 @@
 //! assert_eq!(rt; (ending.status, err.len()), (0, 0));
 //! ```
 //!
-//! It stands on `page` and `page_claims`, on `auditor` and `audit_command`, on `labels` and
-//! `matchers`, on `clap` for words and on `sha2` for the reply's digest.
+//! It stands on `page` and `page_claims`, on `auditor` and `audit_command`, on `asked_series`,
+//! `labels` and `matchers`, on `clap` for words and on `sha2` for the reply's digest.
 #![tactic(auto)]
 
 mod answer;
 mod command;
 mod fault;
 mod program;
-mod series;
 
 use crate::program::run;
 use std::io;

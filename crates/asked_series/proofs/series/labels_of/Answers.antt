@@ -1,6 +1,6 @@
 use Rattle.std.proofs.Common.{refl}
-use Rattle.explain.proofs.Naming.{made, why_no_labels}
-use Rattle.explain.proofs.series.labels_of.Goals as goal
+use Rattle.asked_series.proofs.Naming.{made, why_no_labels}
+use Rattle.asked_series.proofs.series.labels_of.Goals as goal
 
 pub returns-in-Ok-clause-ok : goal.returns-in-Ok-clause-ok
 returns-in-Ok-clause-ok c = rw (← c.in_ok-pairs.ensures) (made _ _ _ c.in-Ok.ensures.refused c.in-Ok.ensures.made)

@@ -12,13 +12,10 @@ use Rattle.matchers.specs.declared.error.SelectorError.{SelectorError}
 use Rattle.matchers.specs.declared.error.SelectorError.TheVariants.{Syntax, Empty, TooMany}
 use Rattle.matchers.specs.declared.error.SelectorError.TheVariants.{PatternTooLong, PatternRefused}
 use Rattle.matchers.specs.declared.error.SelectorError.TheVariants as selector
-use Rattle.audit_command.specs.declared.fault.Fault.TheVariants.{Words, Refused, CannotReadInput}
-use Rattle.audit_command.specs.declared.fault.Fault.TheVariants.{BadReply, CannotRead, CannotWrite}
-use Rattle.audit_command.specs.declared.fault.Fault.TheVariants.{Memory}
-use Rattle.explain.specs.Series.{named_texts, BreakRule, IsLabelsFault, labels_fault}
-use Rattle.explain.specs.Series.{selector_fault, IsSeriesFault, by_selector, by_labels}
-use Rattle.explain.specs.declared.fault.Fault.{Fault}
-use Rattle.explain.specs.declared.fault.Fault.TheVariants.{Audit, NoSeries, NoMeaning}
+use Rattle.asked_series.specs.Series.{named_texts, BreakRule, IsLabelsFault, labels_fault}
+use Rattle.asked_series.specs.Series.{selector_fault, IsSeriesFault, by_selector, by_labels}
+use Rattle.asked_series.specs.declared.error.SeriesError.{SeriesError}
+use Rattle.asked_series.specs.declared.error.SeriesError.TheVariants.{NoSeries, Memory}
 
 abbrev ok_of : Labels → Result Labels LabelError
 ok_of labels = Ok labels
@@ -57,13 +54,6 @@ why_no_selector text PatternRefused refused = by_selector PatternRefused refused
 
 -- a selector whose texts are no label set is no series
 pub why_no_series : (text : List ℕ) (matchers : List MatcherView) → IsAccepted text matchers
-    → (fault : Fault) → IsLabelsFault matchers fault → IsSeriesFault text fault
+    → (fault : SeriesError) → IsLabelsFault matchers fault → IsSeriesFault text fault
 why_no_series text matchers accepted NoSeries h = by_labels matchers accepted h
-why_no_series text matchers accepted NoMeaning h = h
-why_no_series text matchers accepted (Audit Memory) h = tt
-why_no_series text matchers accepted (Audit BadReply) h = h
-why_no_series text matchers accepted (Audit CannotReadInput) h = h
-why_no_series text matchers accepted (Audit (Words error)) h = h
-why_no_series text matchers accepted (Audit (Refused refusal)) h = h
-why_no_series text matchers accepted (Audit (CannotRead path)) h = h
-why_no_series text matchers accepted (Audit CannotWrite) h = h
+why_no_series text matchers accepted Memory h = tt

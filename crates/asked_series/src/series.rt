@@ -2,13 +2,12 @@
 
 ghost use Rattle.std.specs.Prelude.{◌≡◌, IfOk, IfErr};
 ghost use Rattle.labels.specs.Pairs.{pairs_of};
-ghost use Rattle.explain.specs.Series.{is_equal, are_equal, named_texts, IsSeries};
-ghost use Rattle.explain.specs.Series.{AreLabels, IsLabelsFault, IsSeriesFault};
-ghost use Rattle.explain.specs.Series.{labels_fault, selector_fault};
+ghost use Rattle.asked_series.specs.Series.{is_equal, are_equal, named_texts, IsSeries};
+ghost use Rattle.asked_series.specs.Series.{AreLabels, IsLabelsFault, IsSeriesFault};
+ghost use Rattle.asked_series.specs.Series.{labels_fault, selector_fault};
 ghost use Rattle.matchers.specs.Selectors.{IsAccepted};
 
-use crate::fault::Fault;
-use audit_command::Fault as AuditFault;
+use crate::SeriesError;
 use labels::{LabelError, LabelSet};
 use matchers::{Matcher, Op, Selector, SelectorError};
 use std::alloc::{AllocError, Global};
@@ -47,17 +46,17 @@ fn named_texts(alloc: Global, matchers: &[Matcher]) -> Result<Vec<(String, Strin
     Ok(pairs)
 }
 
-fn labels_fault(error: LabelError) -> Fault
+fn labels_fault(error: LabelError) -> SeriesError
     ensures { result ≡ labels_fault error }
 {
     match error {
-        LabelError::Memory => Fault::Audit(AuditFault::Memory),
-        LabelError::BadName | LabelError::Repeated | LabelError::Limit => Fault::NoSeries,
+        LabelError::Memory => SeriesError::Memory,
+        LabelError::BadName | LabelError::Repeated | LabelError::Limit => SeriesError::NoSeries,
     }
 }
 
 /// The label set of some matchers that compare by `=`.
-fn labels_of(alloc: Global, matchers: &[Matcher]) -> Result<LabelSet, Fault>
+fn labels_of(alloc: Global, matchers: &[Matcher]) -> Result<LabelSet, SeriesError>
     ensures ok { IfOk result (λ labels. AreLabels matchers.now labels) }
     ensures err { IfErr result (λ fault. IsLabelsFault matchers.now fault) }
 {
@@ -68,16 +67,16 @@ fn labels_of(alloc: Global, matchers: &[Matcher]) -> Result<LabelSet, Fault>
     }
 }
 
-fn selector_fault(error: SelectorError) -> Fault
+fn selector_fault(error: SelectorError) -> SeriesError
     ensures { result ≡ selector_fault error }
 {
     match error {
-        SelectorError::Memory => Fault::Audit(AuditFault::Memory),
-        _ => Fault::NoSeries,
+        SelectorError::Memory => SeriesError::Memory,
+        _ => SeriesError::NoSeries,
     }
 }
 
-fn matchers_in(alloc: Global, text: &str) -> Result<Vec<Matcher>, Fault>
+fn matchers_in(alloc: Global, text: &str) -> Result<Vec<Matcher>, SeriesError>
     ensures ok { IfOk result (λ matchers. IsAccepted text.now matchers.items) }
     ensures err { IfErr result (λ fault. IsSeriesFault text.now fault) }
 {
@@ -91,13 +90,13 @@ fn matchers_in(alloc: Global, text: &str) -> Result<Vec<Matcher>, Fault>
 ///
 /// `NoSeries` for a text that is no selector, for another operator, and for a name that stands
 /// twice. A value that is empty counts as an absent label.
-pub fn series_of(alloc: Global, text: &str) -> Result<LabelSet, Fault>
+pub fn series_of(alloc: Global, text: &str) -> Result<LabelSet, SeriesError>
     ensures ok { IfOk result (λ labels. IsSeries text.now labels) }
     ensures err { IfErr result (λ fault. IsSeriesFault text.now fault) }
 {
     let matchers = matchers_in(alloc, text)?;
     if !are_equal(matchers.as_slice()) {
-        return Err(Fault::NoSeries);
+        return Err(SeriesError::NoSeries);
     }
     let labels = labels_of(alloc, matchers.as_slice())?;
     Ok(labels)

@@ -1,9 +1,9 @@
 use Rattle.std.proofs.Common.{◌≡◌, true, false, sym, ◌∙◌, rules, arith}
 use Rattle.std.proofs.lemmas.Grind.{common_steps}
 use Rattle.std.proofs.lemmas.Result.{err_from_is_err_and}
-use Rattle.explain.specs.Series.{are_equal, by_operator}
-use Rattle.explain.proofs.Naming.{why_no_series}
-use Rattle.explain.proofs.series.series_of.Goals as goal
+use Rattle.asked_series.specs.Series.{are_equal, by_operator}
+use Rattle.asked_series.proofs.Naming.{why_no_series}
+use Rattle.asked_series.proofs.series.series_of.Goals as goal
 
 pub returns-in_err-labels-clause-err : goal.returns-in_err-labels-clause-err
 returns-in_err-labels-clause-err c =
