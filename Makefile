@@ -11,7 +11,7 @@ TESTS_OF := file_tests:wire,index_reader,chunk_reader,tombstones,block,block_wri
 	port_tests:remote_http,remote_listings \
 	remote_tests:stored_doubles,varints,snappy,protobuf_fields,remote_write,remote_read,remote_requests,remote_rows \
 	tests/serving.sh:guard \
-	tests/durable/run.py:keeper,event_journal,cut_schedule,folder_lock,data_folder,store_joiner \
+	tests/durable/run.py:keeper,event_journal,cut_schedule,folder_lock,data_folder,store_joiner,store_backup \
 	tests/scraping.sh:server_metrics \
 	tests/live/run.py:waiting_room \
 	tests/importing.sh:imported_values,kept_samples,time_cuts,block_folder,block_outputs,double_text,open_metrics,metrics_writer,exposition,blocktool \

@@ -1,0 +1,114 @@
+-- A store that is read.
+use Rattle.std.proofs.Common.{◌≡◌, ℕ, Bool, true, false, List, ◌++◌, Option, map, drop, length, refl, sym}
+use Rattle.std.proofs.Common.{◌⊎◌, inl, inr, subst, ◌∙◌}
+use Rattle.std.proofs.Math.Dec.{eqb}
+use Rattle.std.proofs.lemmas.Bool.Decides.{Decides-eqb}
+use Rattle.std.proofs.lemmas.Slice.Eq.{starts_is}
+use Rattle.std.specs.List.{starts_with}
+use Rattle.data_folder.specs.Folders.{KeepsAll}
+use Rattle.data_folder.specs.JournalFile.{journal_name}
+use Rattle.head.specs.Blocks.{part_in}
+use Rattle.head.specs.Heads.{BlockPart}
+use Rattle.head.specs.Worlds.{Event}
+use Rattle.head_record.specs.Saved.{Saved}
+use Rattle.store_folder.specs.declared.error.StartCause.TheVariants.{Refused}
+use Rattle.store_folder.specs.declared.error.StartError.{StartError}
+use Rattle.store_folder.specs.declared.reading.FoundStore.{FoundStore}
+use Rattle.store_folder.specs.Codes.{cause_of}
+use Rattle.store_folder.specs.Faults.{DeniesStore, IsStoreOf}
+use Rattle.store_folder.specs.Finding.{IsFoundStore}
+use Rattle.store_folder.specs.Refusals.{IsRefusal}
+use Rattle.store_folder.proofs.Files.{blocks_kept, file_stays}
+use Rattle.store_folder.specs.Starting.{DeniesStart}
+use Rattle.store_folder.proofs.Refusals.{found_refused, store_refused}
+use Rattle.store_joiner.specs.Stores.{HasStore}
+use Rattle.store_backup.specs.declared.error.CopyFault.{CopyFault}
+use Rattle.store_backup.specs.declared.error.CopyFault.TheVariants.{Source, Taken}
+use Rattle.store_backup.specs.Copies.{DeniesRead, IsOfTarget}
+use Rattle.store_backup.specs.Reading.{DeniesSource, IsOfStart}
+
+-- whether one text begins with another
+
+pub begins_with : (last first text front : List ℕ) (r : Bool) → r ≡ starts_with eqb text front
+    → text ≡ last → front ≡ first → r ≡ true → last ≡ first ++ drop (length first) last
+begins_with last first text front r is one two is_so =
+    subst (λ (t : List ℕ). t ≡ first ++ drop (length first) t) one
+    (subst (λ (p : List ℕ). text ≡ p ++ drop (length p) text) two
+    ((starts_is Decides-eqb text front r is).0 is_so))
+
+pub begins_not : (last first text front : List ℕ) (r : Bool) → r ≡ starts_with eqb text front
+    → text ≡ last → front ≡ first → r ≡ false → (rest : List ℕ) → last ≡ first ++ rest → ⊥
+begins_not last first text front r is one two is_not rest e =
+    let here : text ≡ front ++ rest =
+    one ∙ (e ∙ subst (λ (p : List ℕ). first ++ rest ≡ p ++ rest) (sym two) refl) in
+    let is_so : r ≡ true = (starts_is Decides-eqb text front r is).1 rest here in
+    absurd (let both : true ≡ false = sym is_so ∙ is_not in cc)
+
+module _ {F : Type 0} (shows : F → List ℕ → Option (List ℕ) → Type 0)
+    (kept : F → List ℕ → ℕ → Type 0) where
+  -- what was found lies there
+  pub lies_there : (s : FoundStore) (f : F)
+      → IsFoundStore shows kept s.journal (map part_in s.blocks.items) f
+      → HasStore shows kept s.journal.head (map part_in s.blocks.items) s.journal.events.items f
+  lies_there s f is =
+      record { file = is.file; has = is.has; journal = is.journal.is; blocks = is.blocks }
+
+  -- a store stays where nothing is changed
+  pub still_lies : (saved : Saved) (parts : List BlockPart) (events : List Event) (old new : F)
+      → KeepsAll shows kept old new → HasStore shows kept saved parts events old
+      → HasStore shows kept saved parts events new
+  still_lies saved parts events old new k h = record {
+    file = h.file;
+    has = file_stays shows kept journal_name h.file old new k h.has;
+    journal = h.journal;
+    blocks = blocks_kept shows kept saved.places parts old new k h.blocks;
+  }
+
+  -- a refusal of the source is one of a start
+  pub of_start : (failed : F → Bool) (f : F) (e : StartError) → DeniesStore shows kept failed f e
+      → IsOfStart (Source e)
+  of_start failed f e denied other is refused =
+      let same : e ≡ other = cc in
+      subst IsRefusal same (store_refused shows kept failed f e
+      (subst (λ (x : StartError). cause_of x ≡ Refused) (sym same) refused) denied)
+
+  -- so is one of what was found
+  pub of_found : (s : FoundStore) (f : F) (fault : CopyFault)
+      → IsFoundStore shows kept s.journal (map part_in s.blocks.items) f
+      → IsOfTarget fault ⊎ ((cause : StartError) × (fault ≡ Source cause)
+      × DeniesStart s.journal.head (map part_in s.blocks.items) s.journal.events.items cause)
+      → IsOfStart fault
+  of_found s f fault is (inl (inl target)) other source refused = cc
+  of_found s f fault is (inl (inr x)) other source refused = let target = x.1 in cc
+  of_found s f fault is (inr x) other source refused =
+      let first = x.1 in
+      let same : x.0 ≡ other = cc in
+      subst IsRefusal same
+      (found_refused shows kept s.journal (map part_in s.blocks.items) f x.0 is x.2)
+
+-- what was read is what lay there
+pub is_that : (saved : Saved) (parts : List BlockPart) (events : List Event) (s : FoundStore)
+    → IsStoreOf saved parts events s
+    → (s.journal.head ≡ saved) × (map part_in s.blocks.items ≡ parts)
+    × (s.journal.events.items ≡ events)
+is_that saved parts events s is = (is.head, is.blocks, is.events)
+
+-- nor does one say of the target that it has a journal
+pub not_taken : {F : Type 0} (shows : F → List ℕ → Option (List ℕ) → Type 0)
+    (kept : F → List ℕ → ℕ → Type 0) (failed : F → Bool) (old new again : F) (fault : CopyFault)
+    {X : Type 0} → IsOfTarget fault ⊎ (DeniesSource shows kept failed new again fault
+    ⊎ DeniesRead shows kept old new fault) → fault ≡ Taken → X
+not_taken shows kept failed old new again fault (inl (inl is)) taken = cc
+not_taken shows kept failed old new again fault (inl (inr x)) taken = let is = x.1 in cc
+not_taken shows kept failed old new again fault (inr (inl (inl x))) taken = let is = x.0 in cc
+not_taken shows kept failed old new again fault (inr (inl (inr (inl (inl (inl x)))))) taken =
+    let is = x.0 in cc
+not_taken shows kept failed old new again fault (inr (inl (inr (inl (inl (inr x)))))) taken =
+    let is = x.0 in cc
+not_taken shows kept failed old new again fault (inr (inl (inr (inl (inr x))))) taken =
+    let is = x.1 in cc
+not_taken shows kept failed old new again fault (inr (inl (inr (inr (inl x))))) taken =
+    let is = x.0 in cc
+not_taken shows kept failed old new again fault (inr (inl (inr (inr (inr x))))) taken =
+    let is = x.0 in cc
+not_taken shows kept failed old new again fault (inr (inr x)) taken = let is = x.4.1 in cc

@@ -1,0 +1,81 @@
+use Rattle.std.proofs.Common.{◌-◌, [], length, subst, sym}
+use Rattle.event_journal.specs.Holding.{contents_with}
+use Rattle.head.specs.Heads.{world_of}
+use Rattle.head_record.specs.Spelling.{head_texts}
+use Rattle.journal.specs.Group.{IsJournalText}
+use Rattle.store_folder.specs.Writing.{places_from}
+use Rattle.store_backup.proofs.Targets.{begins_so, finds_so, next_of, only_written}
+use Rattle.store_backup.proofs.begun.begin_with.Goals as goal
+
+pub returns-in-Err-clause-begins : goal.returns-in-Err-clause-begins
+returns-in-Err-clause-begins g c =
+    let f = g.F.Folder in
+    only_written f.shows f.kept f.sound f.moment f.left_since g.met.F.Folder.only_now
+    (record { world = world_of c.args.snapshot.now; values = c.args.values }) c.args.folder
+    c.write_saved.new.folder c.write_saved.ensures.stays c.requires.none.0 c.requires.none.1
+
+pub returns-in-Err-head_journal-clause-begins : goal.returns-in-Err-head_journal-clause-begins
+returns-in-Err-head_journal-clause-begins g c =
+    let f = g.F.Folder in
+    only_written f.shows f.kept f.sound f.moment f.left_since g.met.F.Folder.only_now
+    (record { world = world_of c.args.snapshot.now; values = c.args.values }) c.args.folder
+    c.write_saved.new.folder c.write_saved.ensures.stays c.requires.none.0 c.requires.none.1
+
+pub returns-in-Ok-begin_journal-clause-finds : goal.returns-in-Ok-begin_journal-clause-finds
+returns-in-Ok-begin_journal-clause-finds g c =
+    let f = g.F.Folder in
+    let met = g.met.F.Folder in
+    let s = c.args.snapshot.now in
+    let mid = c.write_saved.new.folder in
+    let head = c.in-Ok.head in
+    let there = c.in-Ok.ensures.there in
+    let next =
+    next_of f.shows f.kept f.sound f.moment f.left_since met.only_now met.earlier s c.args.values
+    head (places_from 1 (length s.blocks - 0)) there.0 mid c.in-Ok.ensures.saved
+    c.in-Ok-head_journal.ensures.saved there.1 there.2 in
+    finds_so f.shows f.kept f.sound f.moment f.left_since met.only_now met.earlier
+    (record { world = world_of s; values = c.args.values }) mid c.in-Ok-begin_journal.begun head
+    there.0 c.deref.result.now next
+    (subst (IsJournalText (contents_with (head_texts head) [])) (sym c.deref.ensures.value)
+    c.in-Ok-head_journal.ensures.text)
+    c.in-Ok-begin_journal.ensures.keeps c.in-Ok-begin_journal.ensures.files
+
+pub returns-in-Ok-begin_journal-clause-begins : goal.returns-in-Ok-begin_journal-clause-begins
+returns-in-Ok-begin_journal-clause-begins g c =
+    let f = g.F.Folder in
+    let met = g.met.F.Folder in
+    let s = c.args.snapshot.now in
+    let mid = c.write_saved.new.folder in
+    let head = c.in-Ok.head in
+    let there = c.in-Ok.ensures.there in
+    let next =
+    next_of f.shows f.kept f.sound f.moment f.left_since met.only_now met.earlier s c.args.values
+    head (places_from 1 (length s.blocks - 0)) there.0 mid c.in-Ok.ensures.saved
+    c.in-Ok-head_journal.ensures.saved there.1 there.2 in
+    begins_so f.shows f.kept f.sound f.moment f.left_since met.only_now met.earlier
+    (record { world = world_of s; values = c.args.values }) c.args.folder mid
+    c.in-Ok-begin_journal.begun head there.0 c.deref.result.now c.write_saved.ensures.stays
+    c.requires.none.0 c.requires.none.1 next
+    (subst (IsJournalText (contents_with (head_texts head) [])) (sym c.deref.ensures.value)
+    c.in-Ok-head_journal.ensures.text)
+    c.in-Ok-begin_journal.ensures.any_moment c.in-Ok-begin_journal.ensures.others
+
+pub returns-clause-begins : goal.returns-clause-begins
+returns-clause-begins g c =
+    let f = g.F.Folder in
+    let met = g.met.F.Folder in
+    let s = c.args.snapshot.now in
+    let mid = c.write_saved.new.folder in
+    let head = c.in-Ok.head in
+    let there = c.in-Ok.ensures.there in
+    let next =
+    next_of f.shows f.kept f.sound f.moment f.left_since met.only_now met.earlier s c.args.values
+    head (places_from 1 (length s.blocks - 0)) there.0 mid c.in-Ok.ensures.saved
+    c.in-Ok-head_journal.ensures.saved there.1 there.2 in
+    begins_so f.shows f.kept f.sound f.moment f.left_since met.only_now met.earlier
+    (record { world = world_of s; values = c.args.values }) c.args.folder mid
+    c.in-Err-begin_journal.folder head there.0 c.deref.result.now c.write_saved.ensures.stays
+    c.requires.none.0 c.requires.none.1 next
+    (subst (IsJournalText (contents_with (head_texts head) [])) (sym c.deref.ensures.value)
+    c.in-Ok-head_journal.ensures.text)
+    c.in-Err-begin_journal.ensures.any_moment c.in-Err-begin_journal.ensures.others
