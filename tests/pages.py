@@ -24,7 +24,7 @@ sys.dont_write_bytecode = True
 from lib import CRATES, TOP, find_program  # noqa: E402
 
 INNER = {
-    "querier": ["select", "check", "serve", "journal", "demo"],
+    "querier": ["select", "check", "serve", "journal", "backup", "demo"],
     "blocktool": [
         "from-prometheus", "from-openmetrics", "from-rows", "to-openmetrics", "rewrite", "add", "join",
         "list",
@@ -227,6 +227,7 @@ USAGES = {
     "querier select": ["README.md"],
     "querier check": ["README.md"],
     "querier serve": ["README.md", "HTTP.md"],
+    "querier backup": ["OPERATING.md"],
     "auditor": ["AUDITING.md"],
     "explain": [],
     **{f"blocktool {inner}": ["IMPORTING.md"] for inner in INNER["blocktool"]},
@@ -417,13 +418,23 @@ def subjects_of_codes(texts):
         "help": set(codes(texts["querier serve"])),
         "man": set(codes(described(texts, "querier serve"))),
     }
+    yield "refusals of a copy", {
+        "help": [code for code in codes(texts["querier backup"]) if code[0] == "O"],
+        "man": man_items(subsection(refusals, "Refusals of a copy")),
+    }
+    yield "codes of a store that is copied", {
+        "help": codes_of_stores(between(texts["querier backup"], "Refusals:", "Exit status")),
+        "man": codes_of_stores("\n".join(re.findall(r"^\.It Cm (J.*)", querier, re.M))),
+    }
     yield "refusals of changes", {
         "HTTP": [code for row in answers if row[0] == "`H9`" for code in codes(row[2])],
         "man": [code for code in man_items(requests) if code[0] == "E"],
     }
     explained = codes("\n".join(row[0] for row in rows(operating, "What a refusal means")))
     yield "refusals that operators see", {
-        "help": set(asked) | {code for code in codes(texts["querier serve"]) if code[0] != "H"},
+        "help": set(asked)
+        | {code for code in codes(texts["querier serve"]) if code[0] != "H"}
+        | set(codes(texts["querier backup"])),
         "OPERATING": {code for code in explained if code[0] not in "HE"},
     }
     yield "refusals that operators hear of", {
@@ -443,7 +454,7 @@ def subjects_of_codes(texts):
         "man": set(codes(between(auditor, "\n.Xr fuzzledge-block 5 :\n", ".\n"))),
         "AUDITING": set(codes(between(auditing, "the store's code:", "`I11` to"))),
     }
-    for command in ("querier select", "querier check", "querier serve", "auditor", "explain"):
+    for command in ("querier select", "querier check", "querier serve", "querier backup", "auditor", "explain"):
         yield f"exit statuses of {command}", {
             "help": exit_statuses(between(texts[command], "Exit status", "\0")),
             "man": man_statuses(page_of(texts, command)),

@@ -20,6 +20,8 @@ parts, which are all run if none is named:
            its calls, and each of them fails; what is not joined stays as it is; packaging/join-store
   adding   `blocktool add`: a store has the samples of blocks beneath its own; killed and failing calls as
            above; what is refused
+  backup   `querier backup`: beside a server that writes and rolls, each copy is the store at some moment; the
+           copy is killed at each of its calls, and each of them fails; what is refused
   rounds   ROUNDS (100) crashes beside four clients: what was acknowledged is there, what was under way is
            there whole or not at all, and nothing else. In some rounds the power is cut too: what was not
            synced is lost.
@@ -43,6 +45,7 @@ HERE = pathlib.Path(__file__).resolve().parent
 sys.dont_write_bytecode = True
 sys.path.insert(0, str(HERE.parent))
 from adding import adding  # noqa: E402
+from backup import backup  # noqa: E402
 from blocks import blocks  # noqa: E402
 from cuts import cuts  # noqa: E402
 from damage import damage  # noqa: E402
@@ -55,7 +58,7 @@ from lib import TOP, end_all, find_program  # noqa: E402
 from rounds import rounds  # noqa: E402
 from running import running  # noqa: E402
 
-PARTS = ["folders", "events", "cuts", "blocks", "running", "damage", "faults", "joining", "adding", "rounds"]
+PARTS = ["folders", "events", "cuts", "blocks", "running", "damage", "faults", "joining", "adding", "backup", "rounds"]
 
 
 def failing_files(work):
@@ -88,6 +91,7 @@ def parts_of(names, preload):
         "faults": lambda looks, work: faults(looks, querier, preload, work),
         "joining": lambda looks, work: joining(looks, querier, others, preload, work, script),
         "adding": lambda looks, work: adding(looks, querier, others, preload, work),
+        "backup": lambda looks, work: backup(looks, querier, preload, work, count),
         "rounds": lambda looks, work: rounds(looks, (querier, auditor), preload, work, count, seed),
     }
 

@@ -16,12 +16,13 @@ use Rattle.clap.specs.declared.parser.matches.ArgMatches.{ArgMatches}
 use Rattle.clap.specs.declared.parser.matches.Found.{Found}
 use Rattle.clap.proofs.WalkLemmas.{one_text-rows}
 use Rattle.commands.specs.Lines.{IsTimeIn, IsDemo, IsSelect, IsCheck, IsSelectionIn, IsLineIn}
-use Rattle.commands.specs.Lines.{IsJournal, IsFoundLine}
+use Rattle.commands.specs.Lines.{IsBackup, IsJournal, IsFoundLine}
 use Rattle.commands.specs.ServingLines.{IsCountIn, IsFlagIn, IsServingIn, IsReadingIn}
 use Rattle.commands.specs.ServingLines.{IsServeIn, IsServeLine, IsFoundServe, IsOneStore}
 use Rattle.commands.specs.declared.command.Reading.{Reading}
 use Rattle.commands.specs.declared.command.Line.{Line}
 use Rattle.commands.specs.declared.command.Line.TheVariants.{Demo, Select, Check, Serve, Journal}
+use Rattle.commands.specs.declared.command.Line.TheVariants.{Backup}
 use Rattle.commands.specs.declared.command.Serving.{Serving}
 use Rattle.std.specs.Prelude.{Result, Ok, Err, IfOk, IsOkAnd}
 use Rattle.clap.specs.Words.{App, AddsSubcommand, app_of, with_subcommand}
@@ -192,6 +193,7 @@ serve_in o rows Demo is h = absurd h
 serve_in o rows (Check reading) is h = absurd h
 serve_in o rows (Select s reading) is h = absurd h
 serve_in o rows (Journal path) is h = absurd h
+serve_in o rows (Backup from out) is h = absurd h
 
 not_serve : {X : Type 0} (o : Option (Text × List Row)) (name : Text) (rows : List Row)
     → option_map (λ (p : Text × List Row). p.0) o ≡ Some (codes "serve")
@@ -223,6 +225,8 @@ serve_out o rows is none (Select s reading) h =
     not_serve o (codes "select") h.rows (name_is o (codes "serve") rows is) (λ e. cc) h.is
 serve_out o rows is none (Journal path) h =
     not_serve o (codes "journal") h.rows (name_is o (codes "serve") rows is) (λ e. cc) h.is
+serve_out o rows is none (Backup from out) h =
+    not_serve o (codes "backup") h.rows (name_is o (codes "serve") rows is) (λ e. cc) h.is
 
 serve_parts : (o : Option (Text × List Row)) (rows : List Row)
     → option_map (λ (p : Text × List Row). p.0) o ≡ Some (codes "serve")
@@ -257,6 +261,22 @@ journal_found (Some p) rows path e f given = record {
   given = given;
 }
 
+-- and so with the store that is copied
+pub backup_found : (o : Option (Text × List Row)) (rows : List Row) (from out : List ℕ)
+    → option_map (λ p. p.0) o ≡ Some (codes "backup")
+    → option_map (λ p. p.1) o ≡ Some rows
+    → from ≡ unwrap_or (first_of (codes "data") rows) []
+    → out ≡ unwrap_or (first_of (codes "out") rows) [] → IsBackup o from out
+backup_found None rows from out e f source target = cc
+backup_found (Some p) rows from out e f source target = record {
+  rows = rows;
+  is =
+      ap₂ (λ (n : Option Text) (r : Option (List Row)). Some (unwrap_or n p.0, unwrap_or r p.1)) e
+      f;
+  source = source;
+  target = target;
+}
+
 given_both : {A B : Type 0} (f : A → B) (o : Option A) (x : Option B) → option_map f o ≡ x
     → is_some o ≡ is_some x
 given_both f None x e = ap is_some e
@@ -284,6 +304,7 @@ both_denied rows serving reading asked given some many Demo h = h
 both_denied rows serving reading asked given some many (Check texts) h = h
 both_denied rows serving reading asked given some many (Select s texts) h = h
 both_denied rows serving reading asked given some many (Journal path) h = h
+both_denied rows serving reading asked given some many (Backup from out) h = h
 
 -- whether directories stand beside a folder, by a test
 pub both_stand : (folder : Bool) (n : ℕ) → (folder && not (n == 0)) ≡ true
@@ -300,20 +321,23 @@ one_stands true (suc n) e =
     let some : (suc n == 0) ≡ false = grind (arith, nat_tests) in
     absurd (true≢false (sym (ap not some) ∙ e))
 
--- none of the five is no line
+-- none of the six is no line
 pub no_line : (o : Option (Text × List Row)) → (option_map (λ p. p.0) o ≡ Some (codes "demo") → ⊥)
     → (option_map (λ p. p.0) o ≡ Some (codes "check") → ⊥)
     → (option_map (λ p. p.0) o ≡ Some (codes "select") → ⊥)
     → (option_map (λ p. p.0) o ≡ Some (codes "serve") → ⊥)
-    → (option_map (λ p. p.0) o ≡ Some (codes "journal") → ⊥) → (line : Line)
+    → (option_map (λ p. p.0) o ≡ Some (codes "journal") → ⊥)
+    → (option_map (λ p. p.0) o ≡ Some (codes "backup") → ⊥) → (line : Line)
     → IsLineIn o line → ⊥
-no_line o no_demo no_check no_select no_serve no_journal Demo h =
+no_line o no_demo no_check no_select no_serve no_journal no_backup Demo h =
     no_demo (ap (option_map (λ (p : Text × List Row). p.0)) h.is)
-no_line o no_demo no_check no_select no_serve no_journal (Check texts) h =
+no_line o no_demo no_check no_select no_serve no_journal no_backup (Check texts) h =
     no_check (ap (option_map (λ (p : Text × List Row). p.0)) h.is)
-no_line o no_demo no_check no_select no_serve no_journal (Select s texts) h =
+no_line o no_demo no_check no_select no_serve no_journal no_backup (Select s texts) h =
     no_select (ap (option_map (λ (p : Text × List Row). p.0)) h.is)
-no_line o no_demo no_check no_select no_serve no_journal (Serve serving texts) h =
+no_line o no_demo no_check no_select no_serve no_journal no_backup (Serve serving texts) h =
     no_serve (ap (option_map (λ (p : Text × List Row). p.0)) h.is)
-no_line o no_demo no_check no_select no_serve no_journal (Journal path) h =
+no_line o no_demo no_check no_select no_serve no_journal no_backup (Journal path) h =
     no_journal (ap (option_map (λ (p : Text × List Row). p.0)) h.is)
+no_line o no_demo no_check no_select no_serve no_journal no_backup (Backup from out) h =
+    no_backup (ap (option_map (λ (p : Text × List Row). p.0)) h.is)

@@ -15,6 +15,7 @@ use Rattle.commands.specs.Running.{status_at}
 use Rattle.commands.specs.declared.command.Serving.{Serving}
 use Rattle.commands.specs.declared.command.Line.{Line}
 use Rattle.commands.specs.declared.command.Line.TheVariants.{Demo, Select, Check, Serve, Journal}
+use Rattle.commands.specs.declared.command.Line.TheVariants.{Backup}
 use Rattle.commands.specs.declared.fault.Fault.{Fault}
 use Rattle.commands.specs.declared.fault.Fault.TheVariants as fault
 use Rattle.commands.specs.declared.check.Outcome.{Outcome}
@@ -63,6 +64,7 @@ memory_fault reads (Check r) old = none_begun reads (paths_of r.directories.item
 memory_fault reads (Serve serving r) old =
     by_store (memory_of serving.folder reads (paths_of r.directories.items) serving old)
 memory_fault reads (Journal path) old = (tt, keeps_itself old)
+memory_fault reads (Backup from out) old = (inl (inl tt), keeps_itself old)
 
 -- a line may end by want of memory before it begins
 pub end_without_memory : (reads : Host) (words : List Text) (old : Option (List ℕ)) → IsTaken words
@@ -93,6 +95,9 @@ kept_at_end reads words (Select s r) old new (Err fault) is ends = inr ends.1
 kept_at_end reads words (Journal path) old new (Ok Done) is ends = inr tt
 kept_at_end reads words (Journal path) old new (Ok Refused) is ends = absurd ends
 kept_at_end reads words (Journal path) old new (Err fault) is ends = inr ends.1
+kept_at_end reads words (Backup from out) old new (Ok Done) is ends = inr tt
+kept_at_end reads words (Backup from out) old new (Ok Refused) is ends = absurd ends
+kept_at_end reads words (Backup from out) old new (Err fault) is ends = inr ends.1
 
 -- what is written at an end, by its exit status
 pub written_at_status : (words : List Text) (old new : Option (List ℕ))

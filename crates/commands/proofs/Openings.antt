@@ -26,7 +26,7 @@ use Rattle.commands.specs.declared.fault.Fault.TheVariants.{CannotListen, NoList
 use Rattle.commands.specs.declared.fault.Fault.TheVariants.{Memory}
 use Rattle.commands.specs.declared.fault.Refusal.TheVariants.{Labels, Matcher, Selector, Query}
 use Rattle.commands.specs.declared.fault.Refusal.TheVariants.{Commit, Block, Open, Snapshot}
-use Rattle.commands.specs.declared.fault.Refusal.TheVariants.{Start, WholeNumbers}
+use Rattle.commands.specs.declared.fault.Refusal.TheVariants.{NotEmpty, Start, Unsettled, WholeNumbers}
 use Rattle.commands.specs.declared.files.BlockFiles.{BlockFiles}
 use Rattle.commands.specs.declared.judgement.Judgement.TheVariants as judgement
 use Rattle.commands.proofs.Judgements.{said_part, refused_files}
@@ -207,6 +207,8 @@ first_is_opening reads directories (Refused (Open store.Memory)) h = h.at
 first_is_opening reads directories (Refused (Snapshot error)) h = h.at
 first_is_opening reads directories (Refused (Start error)) h = h.at
 first_is_opening reads directories (Refused WholeNumbers) h = h.at
+first_is_opening reads directories (Refused NotEmpty) h = h.at
+first_is_opening reads directories (Refused Unsettled) h = h.at
 first_is_opening reads directories (Refused (Selector error)) h = h.at
 first_is_opening reads directories (Refused (Query error)) h = h.at
 first_is_opening reads directories (Refused (Labels error)) h = h.at

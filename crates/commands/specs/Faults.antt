@@ -38,7 +38,7 @@ use Rattle.commands.specs.declared.fault.Fault.TheVariants.{NoListener, NoThread
 use Rattle.commands.specs.declared.fault.Refusal.{Refusal}
 use Rattle.commands.specs.declared.fault.Refusal.TheVariants.{Labels, Matcher, Selector, Query}
 use Rattle.commands.specs.declared.fault.Refusal.TheVariants.{Commit, Block, Open, Snapshot}
-use Rattle.commands.specs.declared.fault.Refusal.TheVariants.{Start, WholeNumbers}
+use Rattle.commands.specs.declared.fault.Refusal.TheVariants.{NotEmpty, Start, Unsettled, WholeNumbers}
 use Rattle.commands.specs.declared.files.ReadError.{ReadError}
 use Rattle.commands.specs.declared.files.ReadError.TheVariants as failure
 
@@ -54,6 +54,8 @@ refusal_code (Open error) = open_code error
 refusal_code (Snapshot error) = snapshot_code error
 refusal_code (Start error) = start_code error
 refusal_code WholeNumbers = codes "O5"
+refusal_code NotEmpty = codes "O6"
+refusal_code Unsettled = codes "O7"
 
 -- where a text stops being a prefix of a selector
 abbrev pub selector_place : SelectorError → Option ℕ
@@ -88,6 +90,8 @@ refusal_place (Open error) = None
 refusal_place (Snapshot error) = None
 refusal_place (Start error) = Some (start_place error)
 refusal_place WholeNumbers = None
+refusal_place NotEmpty = None
+refusal_place Unsettled = None
 
 -- the place after the code
 abbrev pub place_text : Option ℕ → List ℕ

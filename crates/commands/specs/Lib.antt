@@ -1,3 +1,4 @@
+pub mod Backing
 pub mod Printed
 pub mod Demo
 pub mod DemoAnswer

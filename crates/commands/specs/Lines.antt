@@ -17,6 +17,7 @@ use Rattle.commands.specs.ServingLines.{flag_rule, serve_app, IsReadingIn, IsSer
 use Rattle.commands.specs.declared.command.Reading.{Reading}
 use Rattle.commands.specs.declared.command.Line.{Line}
 use Rattle.commands.specs.declared.command.Line.TheVariants.{Demo, Select, Check, Serve, Journal}
+use Rattle.commands.specs.declared.command.Line.TheVariants.{Backup}
 
 -- words as bytes
 abbrev pub texts_of : {Z : Type 0} → List (String Z) → List Text
@@ -54,13 +55,19 @@ abbrev pub check_app : App
 check_app =
     with_rule (with_rule (new_app (codes "check")) (flag_rule (codes "quiet"))) blocks_rule
 
--- the journal that is listed, which must be given
-abbrev pub path_rule : Rule
-path_rule = record (new_rule (codes "path")) { value_names = 1; required = true }
+-- a path that must be given
+abbrev pub path_rule : Text → Rule
+path_rule name = record (new_rule name) { value_names = 1; required = true }
 
 -- journal PATH
 abbrev pub journal_app : App
-journal_app = with_rule (new_app (codes "journal")) path_rule
+journal_app = with_rule (new_app (codes "journal")) (path_rule (codes "path"))
+
+-- backup DIR OUT
+abbrev pub backup_app : App
+backup_app =
+    with_rule (with_rule (new_app (codes "backup")) (path_rule (codes "data")))
+    (path_rule (codes "out"))
 
 -- the program, without its subcommands
 abbrev pub named_app : App
@@ -74,11 +81,12 @@ named_app =
       };
     }
 
--- the program, with `demo`, `check`, `select`, `serve` and `journal`
+-- the program, with `demo`, `check`, `select`, `serve`, `journal` and `backup`
 abbrev pub querier_app : App
 querier_app =
-    with_subcommand (with_subcommand (with_subcommand (with_subcommand (with_subcommand named_app
-    (new_app (codes "demo")).top) check_app.top) select_app.top) serve_app.top) journal_app.top
+    with_subcommand (with_subcommand (with_subcommand (with_subcommand (with_subcommand
+    (with_subcommand named_app (new_app (codes "demo")).top) check_app.top) select_app.top)
+    serve_app.top) journal_app.top) backup_app.top
 
 -- the text is a signed number of 64 bits
 pub record IsNumber (text : List ℕ) : Type 0 where
@@ -123,6 +131,13 @@ pub record IsJournal (found : Option (Text × List Row)) (path : List ℕ) : Typ
   pub is : found ≡ Some (codes "journal", rows)
   pub given : path ≡ unwrap_or (first_of (codes "path") rows) []
 
+-- `backup` was found, with these paths
+pub record IsBackup (found : Option (Text × List Row)) (from out : List ℕ) : Type 0 where
+  pub rows : List Row
+  pub is : found ≡ Some (codes "backup", rows)
+  pub source : from ≡ unwrap_or (first_of (codes "data") rows) []
+  pub target : out ≡ unwrap_or (first_of (codes "out") rows) []
+
 -- what a found subcommand asks for
 abbrev pub IsLineIn : Option (Text × List Row) → Line → Type 0
 IsLineIn found Demo = IsDemo found
@@ -130,6 +145,7 @@ IsLineIn found (Select s reading) = IsSelect found s.selector.now s.from s.to re
 IsLineIn found (Check reading) = IsCheck found reading
 IsLineIn found (Serve serving reading) = IsServe found serving reading
 IsLineIn found (Journal path) = IsJournal found path.now
+IsLineIn found (Backup from out) = IsBackup found from.now out.now
 
 -- the line that a found subcommand asks for, or that it asks for none
 abbrev pub IsFoundLine : Option (Text × List Row) → Option Line → Type 0

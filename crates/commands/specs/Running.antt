@@ -3,6 +3,7 @@ use Rattle.std.specs.Prelude.{◌≡◌, ◌⊎◌, ℕ, pos, List, Option, Resu
 use Rattle.std.specs.Io.KnownBytes.{Appends, Keeps}
 use Rattle.clap.specs.Words.{IsAmong, Text, fault_of, kind_of}
 use Rattle.clap.specs.declared.error.kind.ErrorKind.TheVariants.{DisplayHelp, DisplayVersion}
+use Rattle.commands.specs.Backing.{IsBackedUp, IsBackupFault}
 use Rattle.commands.specs.Checking.{IsChecked, IsCheckFault}
 use Rattle.commands.specs.Demo.{demo_events, demo_query}
 use Rattle.commands.specs.DemoAnswer.{IsDemoFault, WritesAnswerAfter}
@@ -15,6 +16,7 @@ use Rattle.commands.specs.Listing.{IsListed, IsListFault}
 use Rattle.commands.specs.ServingRuns.{IsServing, IsServeFault}
 use Rattle.commands.specs.declared.command.Line.{Line}
 use Rattle.commands.specs.declared.command.Line.TheVariants.{Demo, Select, Check, Serve, Journal}
+use Rattle.commands.specs.declared.command.Line.TheVariants.{Backup}
 use Rattle.commands.specs.declared.fault.Fault.{Fault}
 use Rattle.commands.specs.declared.fault.Fault.TheVariants as fault
 use Rattle.commands.specs.declared.check.Outcome.{Outcome}
@@ -27,8 +29,8 @@ pub record IsTaken (words : List Text) : Type 0 where
   pub line : Line
   pub is : IsLineOf words line
 
--- what a line asks for was written; the demo, a selection, a server and a list of a journal end
--- with their text alone
+-- what a line asks for was written; the demo, a selection, a server, a list of a journal and a copy
+-- end with their text alone
 abbrev pub IsDone : Host → Line → Option (List ℕ) → Option (List ℕ) → Outcome → Type 0
 IsDone reads Demo old new Done =
     WritesAnswerAfter demo_events (demo_query (pos 0) (pos 100)) old new
@@ -39,6 +41,7 @@ IsDone reads (Check r) old new outcome =
 IsDone reads (Serve serving r) old new Done =
     IsServing reads serving (paths_of r.directories.items) old new
 IsDone reads (Journal path) old new Done = IsListed reads path.now old new
+IsDone reads (Backup from out) old new Done = IsBackedUp out.now old new
 IsDone reads line old new other = ⊥
 
 -- why a line ends before it is done, and what was written by then
@@ -52,6 +55,8 @@ IsLineFault reads (Serve serving r) old new fault =
     IsServeFault reads (paths_of r.directories.items) serving old new fault
 IsLineFault reads (Journal path) old new fault =
     IsListFault reads path.now fault × KeepsAt fault old new
+IsLineFault reads (Backup from out) old new fault =
+    IsBackupFault from.now out.now fault × KeepsAt fault old new
 
 -- how a line ends
 abbrev pub IsLineEnd : Host → Line → Option (List ℕ) → Option (List ℕ)

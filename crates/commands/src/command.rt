@@ -13,16 +13,17 @@ ghost use Rattle.clap.specs.Words.{subcommand_of, subcommand_rows_of, fault_of, 
 ghost use Rattle.clap.specs.Words.{AddsSubcommand};
 ghost use Rattle.commands.specs.OptionRules.{directories_rule};
 ghost use Rattle.commands.specs.Lines.{time_rule, selector_rule, blocks_rule, select_app};
-ghost use Rattle.commands.specs.Lines.{check_app, named_app, querier_app, path_rule, journal_app};
+ghost use Rattle.commands.specs.Lines.{backup_app, check_app, named_app, querier_app, path_rule};
+ghost use Rattle.commands.specs.Lines.{journal_app};
 ghost use Rattle.commands.specs.Lines.{IsKindFor, IsLineFault};
 ghost use Rattle.commands.specs.Lines.{IsTimeIn, IsSelectionIn};
 ghost use Rattle.commands.specs.Lines.{AreTakenByClap, AreRefusedByClap, IsFoundLine, IsLineOf};
 ghost use Rattle.commands.specs.Lines.{texts_of};
 
 use crate::help::{
-    CHECKS, CUT_AFTER, CUT_EVERY, DATA, EXAMPLE, FROM, GUARD, IDLE, JOURNAL_MB, JOURNALS, PATH,
-    PORT, PROMETHEUS_PORT, PROMETHEUS_WORKERS, QUIET, READ_ONLY, REQUESTS, SERVES, STATUS_PORT,
-    STATUSES, TO, VERSION, WORKERS,
+    BACKUPS, CHECKS, COPY, CUT_AFTER, CUT_EVERY, DATA, EXAMPLE, FROM, GUARD, IDLE, JOURNAL_MB,
+    JOURNALS, PATH, PORT, PROMETHEUS_PORT, PROMETHEUS_WORKERS, QUIET, READ_ONLY, REQUESTS, SERVES,
+    SOURCE, STATUS_PORT, STATUSES, TO, VERSION, WORKERS,
 };
 use clap::builder::ValueParser;
 use clap::error::ErrorKind;
@@ -91,6 +92,8 @@ pub enum Line<'a> {
     Serve(Serving<'a>, Reading<'a>),
     /// What the journal at this path holds.
     Journal(&'a str),
+    /// A copy of the store in the first folder, in the second.
+    Backup(&'a str, &'a str),
 }
 
 /// The most milliseconds between cuts: the greatest time.
@@ -258,15 +261,15 @@ fn serve<'a>(alloc: Global) -> Result<Command<'a>, AllocError>
         .arg(directories(alloc))
 }
 
-/// The journal that is listed, which must be given.
-fn path<'a>(alloc: Global) -> Arg<'a>
-    ensures rule { rule_of result ≡ path_rule }
+/// A path that must be given.
+fn path<'a>(alloc: Global, name: &'a str, value: &'a str, help: &'a str) -> Arg<'a>
+    ensures rule { rule_of result ≡ path_rule name.entry.now }
     ensures global { result.global ≡ false }
 {
-    Arg::new(alloc, "path")
-        .value_name("PATH")
+    Arg::new(alloc, name)
+        .value_name(value)
         .required(true)
-        .help(PATH)
+        .help(help)
 }
 
 fn journal<'a>(alloc: Global) -> Result<Command<'a>, AllocError>
@@ -275,7 +278,17 @@ fn journal<'a>(alloc: Global) -> Result<Command<'a>, AllocError>
     Command::new(alloc, "journal")
         .about("Lists the changes that a journal holds")
         .after_help(JOURNALS)
-        .arg(path(alloc))
+        .arg(path(alloc, "path", "PATH", PATH))
+}
+
+fn backup<'a>(alloc: Global) -> Result<Command<'a>, AllocError>
+    ensures { IfOk result (λ command. app_of command ≡ backup_app) }
+{
+    Command::new(alloc, "backup")
+        .about("Copies the store of a folder, beside its server")
+        .after_help(BACKUPS)
+        .arg(path(alloc, "data", "DIR", SOURCE))?
+        .arg(path(alloc, "out", "OUT", COPY))
 }
 
 /// The program, without its subcommands.
@@ -312,7 +325,8 @@ fn querier<'a>(alloc: Global) -> Result<Command<'a>, AllocError>
     let command = add(command, check(alloc))?;
     let command = add(command, select(alloc))?;
     let command = add(command, serve(alloc))?;
-    add(command, journal(alloc))
+    let command = add(command, journal(alloc))?;
+    add(command, backup(alloc))
 }
 
 /// The time that an option gives, or another where it is not used.
@@ -453,6 +467,10 @@ fn line_in<'a>(alloc: Global, found: &ArgMatches<'a>) -> Result<Option<Line<'a>>
     }
     if let Some(arguments) = found.subcommand_matches("journal") {
         return Ok(Some(Line::Journal(text_in(arguments, "path"))));
+    }
+    if let Some(arguments) = found.subcommand_matches("backup") {
+        let (from, out) = (text_in(arguments, "data"), text_in(arguments, "out"));
+        return Ok(Some(Line::Backup(from, out)));
     }
     let Some(arguments) = found.subcommand_matches("select") else {
         return Ok(None);

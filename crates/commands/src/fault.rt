@@ -42,6 +42,11 @@ pub enum Refusal {
     /// `O5`: the port of Prometheus is for a store whose values are doubles, and those of the store
     /// that a folder has are whole numbers.
     WholeNumbers,
+    /// `O6`: the folder of a copy is not empty.
+    NotEmpty,
+    /// `O7`: the journal of the store that is to be copied was begun anew each time that it was
+    /// read.
+    Unsettled,
 }
 
 impl Refusal {
@@ -60,6 +65,8 @@ impl Refusal {
             Refusal::Snapshot(error) => error.code(),
             Refusal::Start(error) => error.code(),
             Refusal::WholeNumbers => "O5",
+            Refusal::NotEmpty => "O6",
+            Refusal::Unsettled => "O7",
         }
     }
 

@@ -133,6 +133,37 @@ cannot be read (it is named on standard error), or the lines cannot be written; 
 
 Example: querier journal data"#;
 
+pub(crate) const SOURCE: &str = "The folder of --data of a server";
+
+pub(crate) const COPY: &str = "The folder of the copy, which must not be there, or be empty";
+
+pub(crate) const BACKUPS: &str =
+    r#"Copies the store that `querier serve --data DIR` keeps, as it is at some moment of the call. The
+server may run and change it meanwhile: nothing in DIR is changed or locked.
+
+The copy is a store by itself: `querier serve --data OUT` serves it. OUT is made if there is none,
+and OUT/lock is locked meanwhile. The blocks are written first, to OUT/blocks, and last OUT/journal,
+with a head that has the rest, and no event. A copy that was cut off has no journal, so it is no
+store: remove it.
+
+One line is printed, with the number of its blocks, and of the changes that stood in DIR/journal,
+which the copy has:
+  OUT: 2 blocks, 37 events
+
+It takes memory for the whole store, as a start of the server does.
+
+Refusals:
+  O6                 OUT is not empty
+  O7                 the server began its journal anew each of five times while it was read
+  J1 to J4, J8 to J14, J15 to J18
+                     the store is refused, as by `querier serve`
+
+Exit status: 0 done; 1 refused, with the code on standard error; 2 a fault of the words; 3 a file
+cannot be read or written, another process has OUT locked, or the line cannot be written; 4 no
+memory
+
+Example: querier backup data /backup/today"#;
+
 pub(crate) const SERVES: &str =
     r#"The directories are opened and verified as by `querier select`, and over them stands an empty
 head, in memory alone: what is written to it ends with the program. Then `listening P` is printed, P

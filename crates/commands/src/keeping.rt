@@ -50,7 +50,7 @@ use store_folder::{
 const MB: u64 = 1_048_576;
 
 /// That what stands in a folder cannot be read: the folder of a block, or the journal.
-fn unreadable(alloc: Global, folder: &str, error: StartError) -> Fault
+pub(crate) fn unreadable(alloc: Global, folder: &str, error: StartError) -> Fault
     ensures { IsDataFault folder.now result }
 {
     let path = match error {
@@ -64,7 +64,7 @@ fn unreadable(alloc: Global, folder: &str, error: StartError) -> Fault
 }
 
 /// That the journal in a folder is not there.
-fn no_journal(alloc: Global, folder: &str) -> Fault
+pub(crate) fn no_journal(alloc: Global, folder: &str) -> Fault
     ensures { IsDataFault folder.now result }
 {
     match path_in(alloc, folder, "journal") {

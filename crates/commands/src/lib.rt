@@ -9,8 +9,8 @@
 //! `select`). `check` verifies blocks completely and writes a line for each: `files` says what is
 //! read of a directory, `judgement` what that is judged to be, and `check` which lines are
 //! written. What is refused, and with which status a line ends, is said by `fault` and `run`.
-//! `serve` serves the blocks in directories, under an empty head, to HTTP clients. A terminal is
-//! told by `progress` which directory is read.
+//! `serve` serves the blocks in directories, under an empty head, to HTTP clients; `backup` copies a
+//! store that it keeps. A terminal is told by `progress` which directory is read.
 //!
 //! ```
 //! let words = [
@@ -30,6 +30,7 @@
 //! Kenyon, SODA 2002.
 #![tactic(auto)]
 
+mod backup;
 pub mod check;
 mod command;
 mod demo;

@@ -8,6 +8,7 @@ ghost use Rattle.commands.specs.Running.{IsTaken, IsLineEnd, IsEnd, IsNoLine, Is
 ghost use Rattle.commands.specs.Running.{IsWordsFault};
 ghost use Rattle.commands.specs.Running.{IsEarlyLine, IsTold, HasEnded, KeepsAtEnd, status_at};
 
+use crate::backup::backup;
 use crate::check::{Outcome, check};
 use crate::command::{Line, read_line};
 use crate::demo::demo;
@@ -58,6 +59,7 @@ fn answer_line<
             serve(rt, alloc, &followed, serving, directories, out)?;
         }
         Line::Journal(path) => list(alloc, files, path, out)?,
+        Line::Backup(from, folder) => backup(alloc, files, from, folder, out)?,
     }
     Ok(Outcome::Done)
 }
