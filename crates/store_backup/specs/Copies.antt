@@ -28,9 +28,9 @@ NoneOrFinds first left =
     (left journal_name ≡ None) ⊎ Finds first.values (λ (v : World). v ≡ first.world) left
 
 -- From old to new the store of this world was begun in a folder without a journal. First the files
--- of blocks were written: all that stands at the top stayed, and there was no journal yet. Then the
--- journal was begun: a crash at any moment since leaves none, or the store. No name at the top but
--- that of the journal, and of one in the making, has other than what it had.
+-- of blocks were written: all that is no block's stayed, and there was no journal yet. Then the
+-- journal was begun: a crash at any moment since leaves none, or the store. No other name but that
+-- of a journal in the making has other than what it had then.
 pub record Begins {F : Type 0} (shows : F → List ℕ → Option (List ℕ) → Type 0)
     (kept : F → List ℕ → ℕ → Type 0) (sound : F → Bool) (moment : F → ℕ)
     (left_since : F → ℕ → Left → Type 0) (first : Origin) (old new : F) : Type 0 where
