@@ -497,7 +497,7 @@ def shared(room):
   - url: http://127.0.0.1:{store.port}/api/v1/write
     queue_config: {{batch_send_deadline: 1s}}
     write_relabel_configs:
-      - {{source_labels: [__name__, instance, value, le], modulus: 2, target_label: __tmp_shard, action: hashmod}}
+      - {{source_labels: [__name__, value, le, number], modulus: 2, target_label: __tmp_shard, action: hashmod}}
       - {{source_labels: [__tmp_shard], regex: "{shard}", action: keep}}
       - {{regex: __tmp_shard, action: labeldrop}}"""
 
