@@ -304,7 +304,12 @@ def restless(them, looks):
     put(0)
     thread = threading.Thread(target=change, daemon=True)
     thread.start()
-    ended = them.copy(folder, out)
+    # on a busy machine the thread may pause: then a copy finds rest, and the next one is looked at
+    for _ in range(50):
+        ended = them.copy(folder, out)
+        if ended != them.line(out, 0, 0):
+            break
+        shutil.rmtree(out)
     over.set()
     thread.join()
     looks.at("a journal that never rests", (1, "", "refused O7\n"), ended)
