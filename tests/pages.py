@@ -433,7 +433,7 @@ def subjects_of_codes(texts):
     explained = codes("\n".join(row[0] for row in rows(operating, "What a refusal means")))
     yield "refusals that operators see", {
         "help": set(asked)
-        | {code for code in codes(texts["querier serve"]) if code[0] != "H"}
+        | {code for code in codes(texts["querier serve"]) if code[0] not in "HE"}
         | set(codes(texts["querier backup"])),
         "OPERATING": {code for code in explained if code[0] not in "HE"},
     }
