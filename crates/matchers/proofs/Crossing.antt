@@ -9,6 +9,9 @@ use Rattle.regex_meta.specs.contracts.plan.Plans as plans
 use Rattle.regex_meta.specs.contracts.signs.Signs as signs
 use Rattle.regex_literal.specs.contracts.byte_set.ByteSet as bytes
 use Rattle.regex.specs.contracts.pattern.Pattern as pattern
+use Rattle.text_choices.specs.contracts.atom.Atom as atom
+use Rattle.text_choices.specs.contracts.choice.Choice as choice
+use Rattle.matchers.specs.contracts.pattern.Built as built
 use Rattle.matchers.specs.contracts.pattern.Pattern as own
 use Rattle.matchers.specs.contracts.matcher.Test as test
 use Rattle.matchers.specs.contracts.matcher.Matcher as matcher
@@ -57,8 +60,23 @@ BuiltPattern-send = search (sendable, maps.String-send, heap.crosses, Program-se
 pub Regex-send : IsSend regex.the_field.row
 Regex-send = search (sendable, BuiltPattern-send) depth 60 fits 20000
 
+pub Atom-sync : IsSync atom.the_field.row
+Atom-sync = search (sendable) depth 60 fits 20000
+
+pub Atom-send : IsSend atom.the_field.row
+Atom-send = search (sendable) depth 60 fits 20000
+
+pub Choice-sync : IsSync choice.the_field.row
+Choice-sync = search (sendable, heap.Vec-sync, Atom-sync) depth 60 fits 20000
+
+pub Choice-send : IsSend choice.the_field.row
+Choice-send = search (sendable, heap.Vec-send, Atom-send) depth 60 fits 20000
+
+pub Built-sync : IsSync built.the_field.row
+Built-sync = search (sendable, heap.Arc-sync, Regex-send, Regex-sync, Choice-send, Choice-sync) depth 60 fits 20000
+
 pub Pattern-sync : IsSync own.the_field.row
-Pattern-sync = search (sendable, heap.Vec-sync, heap.Arc-sync, Regex-send, Regex-sync) depth 60 fits 20000
+Pattern-sync = search (sendable, heap.Vec-sync, Built-sync) depth 60 fits 20000
 
 pub Test-sync : IsSync test.the_field.row
 Test-sync = search (sendable, heap.Vec-sync, Pattern-sync) depth 60 fits 20000

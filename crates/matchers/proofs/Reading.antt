@@ -1,5 +1,5 @@
 -- A compiled pattern finds a match exactly where the tree that its text is read as does.
-use Rattle.std.proofs.Common.{◌≡◌, ℕ, ◌<◌, ◌≤◌, true, List, All, length, Option, None, Some, IsSomeAnd, is_some, option_map, sym, ap, refl, ◌∙◌}
+use Rattle.std.proofs.Common.{◌≡◌, ℕ, ◌<◌, ◌≤◌, true, List, All, length, Option, None, Some, IsSomeAnd, is_some, option_map, sym, ap, refl, ◌∙◌, IsUtf8}
 use Rattle.std.specs.Prelude.{option_and_then}
 use Rattle.regex.specs.Patterns.{Re, find_str, SameCaptures, Reads}
 use Rattle.regex.specs.Strings.{regex_pattern}
@@ -8,7 +8,8 @@ use Rattle.regex_syntax.specs.Grammar.{Names, group_count}
 use Rattle.regex_syntax.specs.Brackets.{Nested}
 use Rattle.regex_syntax.proofs.CapturesLemmas.{find_str_alike}
 use Rattle.regex_syntax.proofs.Written.{is_some-option_map}
-use Rattle.matchers.specs.Patterns.{tree_of, anchored, IsBuiltOf, FindsFullMatches}
+use Rattle.text_choices.specs.Alternatives.{Choice, accepts, MeansPattern}
+use Rattle.matchers.specs.Patterns.{tree_of, anchored, is_full_match, IsBuiltOf, FindsFullMatches}
 
 by_read : (o : Option (Nested Re × Names)) (most : ℕ) (a : Re) (names : Names) (hay : List ℕ) → All (λ b. b < 256) hay →
     IsSomeAnd o (λ (re, found). (re.depth ≤ most) × SameCaptures a re.value × (names ≡ found) × (group_count a ≤ length names)) →
@@ -34,3 +35,10 @@ unfolding Reads
 finds_of_built built = record {
   agrees = λ hay small. by_read _ _ _ _ hay small (rw (built.source, built.config) at built.read);
 }
+
+-- a choice accepts just the full matches of the pattern that it is of
+pub choice_agrees : (pattern value : List ℕ) (choice : Choice) → MeansPattern pattern choice
+    → IsUtf8 value → accepts choice value ≡ is_full_match pattern value
+choice_agrees pattern value choice means utf8 =
+    sym (ap (λ o. is_some (option_and_then (λ tree. find_str tree value 0) o)) means.is_read
+    ∙ means.each value utf8)

@@ -8,3 +8,5 @@ pub mod Errors
 pub mod Grammar
 pub mod Scanner
 pub mod Selectors
+pub mod Limits
+pub mod Built

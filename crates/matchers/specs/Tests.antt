@@ -1,12 +1,11 @@
 -- How a matcher is kept.
 use Rattle.std.specs.Prelude.{◌≡◌, ℕ, true, false, List, Option, None, Some, string_bytes}
-use Rattle.regex.specs.Strings.{matcher_pattern}
-use Rattle.regex.specs.declared.string.matcher.Matcher.{Matcher as Search}
 use Rattle.matchers.specs.declared.matcher.Op.{Op}
 use Rattle.matchers.specs.declared.matcher.Op.TheVariants as op
 use Rattle.matchers.specs.declared.matcher.Test.{Test}
 use Rattle.matchers.specs.declared.matcher.Test.TheVariants.{Equal, NotEqual, Like, NotLike}
-use Rattle.matchers.specs.Patterns.{FindsFullMatches}
+use Rattle.matchers.specs.declared.pattern.Search.{Search}
+use Rattle.matchers.specs.Built.{SearchesFor}
 use Rattle.matchers.specs.Satisfies.{takes_pattern}
 use Rattle.matchers.specs.Views.{MatcherView}
 
@@ -26,4 +25,4 @@ text_of (NotLike pattern) = pattern
 abbrev pub IsTestedBy : MatcherView → Option Search → Type 0
 IsTestedBy m None = takes_pattern m.op ≡ false
 IsTestedBy m (Some search) =
-    (takes_pattern m.op ≡ true) × FindsFullMatches (matcher_pattern search) m.text
+    (takes_pattern m.op ≡ true) × SearchesFor search m.text

@@ -12,7 +12,7 @@ use std::fmt;
 pub enum MatcherError {
     /// `M1`: the name is not of the form `[a-zA-Z_][a-zA-Z0-9_]*`.
     BadName,
-    /// `M3`: the pattern has more than 256 bytes.
+    /// `M3`: the pattern has more bytes than its limits allow, which are 256 as a rule.
     PatternTooLong,
     /// `M2`: `regex` does not build the pattern, or not between `^(?s:` and `)$`.
     PatternRefused,

@@ -5,7 +5,7 @@
 //! absent label counting as the empty text. A [`Tester`] makes the search of a pattern once for
 //! many values. [`Selector::parse`] reads the matchers of a text, and a [`Query`] is matchers
 //! with a closed range of times. [`MatcherError`], [`SelectorError`] and [`QueryError`] say why
-//! one is refused.
+//! one is refused, and [`Limits`] how many matchers and how large patterns are taken.
 //!
 //! ```
 //! let alloc = rt.alloc();
@@ -24,6 +24,7 @@
 
 mod choices;
 mod error;
+mod limits;
 mod matcher;
 mod pattern;
 mod query;
@@ -32,6 +33,7 @@ mod selector;
 mod tester;
 
 pub use error::{MatcherError, QueryError, SelectorError};
+pub use limits::Limits;
 pub use matcher::{Matcher, Op};
 pub use pattern::MAX_PATTERN_BYTES;
 pub use query::{MAX_MATCHERS, Query, is_query_range};

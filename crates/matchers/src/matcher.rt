@@ -4,6 +4,8 @@ ghost use Rattle.std.specs.Prelude.{◌≡◌, ◌↔◌, ◌<◌, ◌≤◌, tr
 ghost use Rattle.std.specs.Prelude.{IfSome, IfOk, OnOk, OnErr, IsErrOf, string_bytes};
 ghost use Rattle.std.specs.List.{Contains};
 ghost use Rattle.labels.specs.Names.{is_name};
+ghost use Rattle.matchers.specs.Limits.{IsPatternWithin, IsTooLong, IsRefusedWithin};
+ghost use Rattle.matchers.specs.declared.limits.Limits.TheVariants as Limits;
 ghost use Rattle.matchers.specs.Patterns.{IsPattern, IsRefusedPattern};
 ghost use Rattle.matchers.specs.Satisfies.{accepts_text, takes_pattern};
 ghost use Rattle.matchers.specs.Tests.{op_of, text_of};
@@ -11,7 +13,7 @@ ghost use Rattle.matchers.specs.Choices.{is_choice, AreFullMatches};
 
 use crate::choices::choices;
 use crate::pattern::Pattern;
-use crate::{MatcherError, Tester};
+use crate::{Limits, MatcherError, Tester};
 use labels::is_name;
 use std::alloc::{AllocError, Global};
 use std::marker::Model;
@@ -38,22 +40,25 @@ enum Test {
 }
 
 impl Test {
-    fn new(alloc: Global, op: Op, text: String) -> Result<Test, MatcherError>
+    fn new(alloc: Global, limits: Limits, op: Op, text: String) -> Result<Test, MatcherError>
         ensures op { IfOk result (λ t. op_of t ≡ op) }
         ensures text { IfOk result (λ t. text_of t ≡ string_bytes text) }
-        ensures read { OnOk result (takes_pattern op ≡ true → IsPattern (string_bytes text)) }
+        ensures read { OnOk result
+            (takes_pattern op ≡ true → IsPatternWithin limits (string_bytes text)) }
         ensures not_name { IsErrOf result MatcherError.BadName → ⊥ }
         ensures too_long { IsErrOf result MatcherError.PatternTooLong
-            ↔ ((takes_pattern op ≡ true) × (256 < length (string_bytes text))) }
+            → (takes_pattern op ≡ true) × IsTooLong limits (string_bytes text) }
+        ensures short { limits ≡ Limits.Short → takes_pattern op ≡ true
+            → 256 < length (string_bytes text) → IsErrOf result MatcherError.PatternTooLong }
         ensures refused { IsErrOf result MatcherError.PatternRefused
-            → (takes_pattern op ≡ true) × IsRefusedPattern (string_bytes text) }
+            → (takes_pattern op ≡ true) × IsRefusedWithin limits (string_bytes text) }
         ensures memory { IsErrOf result MatcherError.Memory → takes_pattern op ≡ true }
     {
         match op {
             Op::Equal => Ok(Test::Equal(text)),
             Op::NotEqual => Ok(Test::NotEqual(text)),
-            Op::Like => Ok(Test::Like(Pattern::new(alloc, text)?)),
-            Op::NotLike => Ok(Test::NotLike(Pattern::new(alloc, text)?)),
+            Op::Like => Ok(Test::Like(Pattern::within(alloc, limits, text)?)),
+            Op::NotLike => Ok(Test::NotLike(Pattern::within(alloc, limits, text)?)),
         }
     }
 
@@ -152,10 +157,40 @@ impl Matcher {
             → (takes_pattern op ≡ true) × IsRefusedPattern (string_bytes text) }
         ensures memory { IsErrOf result MatcherError.Memory → takes_pattern op ≡ true }
     {
+        Matcher::within(alloc, Limits::Short, name, op, text)
+    }
+
+    /// The same within these limits. In the longer ones a choice of plain characters, dots and
+    /// marks behind a backslash, perhaps in one pair of parentheses, may have 65,536 bytes, and
+    /// `regex` is not asked. There memory may fail before it is known that a pattern is too long.
+    pub fn within(
+        alloc: Global,
+        limits: Limits,
+        name: String,
+        op: Op,
+        text: String,
+    ) -> Result<Matcher, MatcherError>
+        ensures ok { IfOk result (λ m.
+            m ≡ record { name = string_bytes name; op = op; text = string_bytes text }) }
+        ensures named { OnOk result (is_name (string_bytes name) ≡ true) }
+        ensures read { OnOk result
+            (takes_pattern op ≡ true → IsPatternWithin limits (string_bytes text)) }
+        ensures bad_name { IsErrOf result MatcherError.BadName
+            ↔ (is_name (string_bytes name) ≡ false) }
+        ensures too_long { IsErrOf result MatcherError.PatternTooLong
+            → (is_name (string_bytes name) ≡ true) × (takes_pattern op ≡ true)
+            × IsTooLong limits (string_bytes text) }
+        ensures short { limits ≡ Limits.Short → is_name (string_bytes name) ≡ true
+            → takes_pattern op ≡ true → 256 < length (string_bytes text)
+            → IsErrOf result MatcherError.PatternTooLong }
+        ensures refused { IsErrOf result MatcherError.PatternRefused
+            → (takes_pattern op ≡ true) × IsRefusedWithin limits (string_bytes text) }
+        ensures memory { IsErrOf result MatcherError.Memory → takes_pattern op ≡ true }
+    {
         if !is_name(name.as_str()) {
             return Err(MatcherError::BadName);
         }
-        let test = Test::new(alloc, op, text)?;
+        let test = Test::new(alloc, limits, op, text)?;
         Ok(Matcher { name, test })
     }
 

@@ -1,39 +1,71 @@
-//! Patterns that accept whole values, as Rust's `regex` reads them.
+//! Patterns that accept whole values, as Rust's `regex` reads them. A choice of texts with dots is
+//! asked by its alternatives, and needs no `regex`.
 
 ghost use Rattle.std.specs.Prelude.{◌≡◌, ◌<◌, ◌↔◌, ◌⊎◌, length, string_bytes, IfOk, OnOk, IsErrOf};
-ghost use Rattle.regex.specs.Strings.{regex_pattern, matcher_pattern};
+ghost use Rattle.regex.specs.Strings.{regex_pattern};
 ghost use Rattle.matchers.specs.Patterns.{anchored, IsPattern, IsRead, IsRefused, IsRefusedPattern};
 ghost use Rattle.matchers.specs.Patterns.{IsBuiltOf, FindsFullMatches};
+ghost use Rattle.std.specs.Prelude.{ℕ, List};
+ghost use Rattle.matchers.specs.Built.{IsBuiltFor, SearchesFor};
+ghost use Rattle.matchers.specs.Limits.{IsPatternWithin, IsTooLong, IsRefusedWithin};
+ghost use Rattle.matchers.specs.declared.limits.Limits.TheVariants as Limits;
 
-use crate::MatcherError;
+use crate::{Limits, MatcherError};
 use regex::Regex;
 use std::alloc::{AllocError, Global};
 use std::marker::Model;
 use std::sync::Arc;
+use text_choices::{Choice, read_choice};
 
 /// The most bytes of a pattern.
 pub const MAX_PATTERN_BYTES: usize = 256;
+
+/// The most bytes of a long choice.
+const MAX_CHOICE_BYTES: usize = 65_536;
+
+/// What was built of a pattern.
+#[derive(Drop)]
+enum Built {
+    Regex(Arc<Regex>),
+    Choice(Arc<Choice>),
+}
+
+impl Built {
+    fn try_clone(&self) -> Result<Built, AllocError>
+        ensures { IfOk result (λ built. (text : List ℕ) → IsBuiltFor self.now text
+            → IsBuiltFor built text) }
+    {
+        match self {
+            Built::Regex(regex) => Ok(Built::Regex(Arc::try_clone(regex)?)),
+            Built::Choice(choice) => Ok(Built::Choice(Arc::try_clone(choice)?)),
+        }
+    }
+}
+
+/// A search for the values that match a pattern.
+#[derive(Drop)]
+pub enum Search<'a> {
+    Regex(regex::Matcher<'a>),
+    Choice(&'a Choice),
+}
 
 /// A pattern, seen as its text. What was built of it does not change, and is shared.
 #[derive(Drop)]
 pub struct Pattern {
     text: String,
-    regex: Arc<Regex>,
+    built: Built,
 }
 
 impl Model for Pattern {
     ghost use Rattle.std.specs.Prelude.{ℕ, List, string_bytes};
-    ghost use Rattle.std.specs.Arc.{arc_value};
 
     ghost Value = { List ℕ };
 
-    ghost use Rattle.regex.specs.Strings.{regex_pattern};
-    ghost use Rattle.matchers.specs.Patterns.{FindsFullMatches};
+    ghost use Rattle.matchers.specs.Built.{IsBuiltFor};
 
     ghost view = { λ p. string_bytes p.text };
 
-    ghost invariant = { λ p.
-        FindsFullMatches (regex_pattern (arc_value p.regex)) (string_bytes p.text) };
+    ghost invariant = { λ p. IsBuiltFor p.built (string_bytes p.text) };
 }
 
 /// The pattern between its anchors.
@@ -77,7 +109,7 @@ fn build_anchored(alloc: Global, text: &str) -> Result<Regex, MatcherError>
 impl Pattern {
     /// The pattern of a text: `M3` above 256 bytes, then `M2` where `regex` builds not both the
     /// text and `^(?s:text)$`.
-    pub fn new(alloc: Global, text: String) -> Result<Pattern, MatcherError>
+    fn new(alloc: Global, text: String) -> Result<Pattern, MatcherError>
         ensures ok { IfOk result (λ p. p ≡ string_bytes text) }
         ensures read { OnOk result (IsPattern (string_bytes text)) }
         ensures not_name { IsErrOf result MatcherError.BadName → ⊥ }
@@ -90,8 +122,46 @@ impl Pattern {
             return Err(MatcherError::PatternTooLong);
         }
         let regex = build_anchored(alloc, text.as_str())?;
-        let regex = Arc::new(alloc, regex)?;
-        Ok(Pattern { text, regex })
+        let built = Built::Regex(Arc::new(alloc, regex)?);
+        Ok(Pattern { text, built })
+    }
+
+    /// The same, and the pattern of a choice of at most 65,536 bytes; `M3` above these.
+    fn long(alloc: Global, text: String) -> Result<Pattern, MatcherError>
+        ensures ok { IfOk result (λ p. p ≡ string_bytes text) }
+        ensures read { OnOk result (IsPatternWithin Limits.Long (string_bytes text)) }
+        ensures not_name { IsErrOf result MatcherError.BadName → ⊥ }
+        ensures too_long { IsErrOf result MatcherError.PatternTooLong
+            → IsTooLong Limits.Long (string_bytes text) }
+        ensures refused { IsErrOf result MatcherError.PatternRefused
+            → IsRefusedWithin Limits.Long (string_bytes text) }
+    {
+        if text.len() > MAX_CHOICE_BYTES {
+            return Err(MatcherError::PatternTooLong);
+        }
+        let Some(choice) = read_choice(alloc, text.as_str())? else {
+            return Pattern::new(alloc, text);
+        };
+        let built = Built::Choice(Arc::new(alloc, choice)?);
+        Ok(Pattern { text, built })
+    }
+
+    /// The pattern of a text within these limits.
+    pub fn within(alloc: Global, limits: Limits, text: String) -> Result<Pattern, MatcherError>
+        ensures ok { IfOk result (λ p. p ≡ string_bytes text) }
+        ensures read { OnOk result (IsPatternWithin limits (string_bytes text)) }
+        ensures not_name { IsErrOf result MatcherError.BadName → ⊥ }
+        ensures too_long { IsErrOf result MatcherError.PatternTooLong
+            → IsTooLong limits (string_bytes text) }
+        ensures short { limits ≡ Limits.Short → 256 < length (string_bytes text)
+            → IsErrOf result MatcherError.PatternTooLong }
+        ensures refused { IsErrOf result MatcherError.PatternRefused
+            → IsRefusedWithin limits (string_bytes text) }
+    {
+        match limits {
+            Limits::Short => Pattern::new(alloc, text),
+            Limits::Long => Pattern::long(alloc, text),
+        }
     }
 
     /// An equal one, which shares what was built.
@@ -99,8 +169,8 @@ impl Pattern {
         ensures { IfOk result (λ p. p ≡ self.now) }
     {
         let text = self.text.clone()?;
-        let regex = Arc::try_clone(&self.regex)?;
-        Ok(Pattern { text, regex })
+        let built = self.built.try_clone()?;
+        Ok(Pattern { text, built })
     }
 
     /// The text that it was made of.
@@ -111,9 +181,12 @@ impl Pattern {
     }
 
     /// A search for the whole values that it matches.
-    pub fn search(&self, alloc: Global) -> Result<regex::Matcher<'_>, AllocError>
-        ensures { IfOk result (λ search. FindsFullMatches (matcher_pattern search) self.now) }
+    pub fn search(&self, alloc: Global) -> Result<Search<'_>, AllocError>
+        ensures { IfOk result (λ search. SearchesFor search self.now) }
     {
-        self.regex.matcher(alloc)
+        match &self.built {
+            Built::Regex(regex) => Ok(Search::Regex(regex.matcher(alloc)?)),
+            Built::Choice(choice) => Ok(Search::Choice(choice)),
+        }
     }
 }

@@ -1,13 +1,14 @@
 //! Queries.
 
 ghost use Rattle.std.specs.Prelude.{◌≡◌, ◌↔◌, ◌<◌, ◌≤◌, true, false, length, IfOk, IsErrOf};
+ghost use Rattle.matchers.specs.Limits.{most_matchers};
 ghost use Rattle.matchers.specs.Queries.{is_query_range};
 
-use crate::{Matcher, QueryError};
+use crate::{Limits, Matcher, QueryError};
 use labels::{MAX_TIME, MIN_TIME};
 use std::marker::Model;
 
-/// The most matchers of a query.
+/// The most matchers of a query within the shorter limits.
 pub const MAX_MATCHERS: usize = 16;
 
 /// Matchers, and a closed range of times.
@@ -28,7 +29,7 @@ impl Model for Query {
 
     ghost view = { λ q. record { matchers = q.matchers.items; from = q.from; to = q.to } };
 
-    ghost invariant = { λ q. (is_query_range q.from q.to ≡ true) × (length q.matchers.items ≤ 16) };
+    ghost invariant = { λ q. (is_query_range q.from q.to ≡ true) × (length q.matchers.items ≤ 64) };
 }
 
 /// Whether both ends are in [`MIN_TIME`] to [`MAX_TIME`], and the first is not above the second.
@@ -51,19 +52,36 @@ impl Query {
         ensures too_many { IsErrOf result QueryError.TooManyMatchers
             ↔ ((is_query_range from to ≡ true) × (16 < length matchers.items)) }
     {
+        Query::within(Limits::Short, matchers, from, to)
+    }
+
+    /// The same, with `Q2` where there are more matchers than these limits allow.
+    pub fn within(
+        limits: Limits,
+        matchers: Vec<Matcher>,
+        from: i64,
+        to: i64,
+    ) -> Result<Query, QueryError>
+        ensures ok { IfOk result (λ q.
+            q ≡ record { matchers = matchers.items; from = from; to = to }) }
+        ensures bad_range { IsErrOf result QueryError.BadRange ↔ (is_query_range from to ≡ false) }
+        ensures too_many { IsErrOf result QueryError.TooManyMatchers
+            ↔ ((is_query_range from to ≡ true)
+            × (most_matchers limits < length matchers.items)) }
+    {
         if !is_query_range(from, to) {
             return Err(QueryError::BadRange);
         }
-        if matchers.len() > MAX_MATCHERS {
+        if matchers.len() > limits.most_matchers() {
             return Err(QueryError::TooManyMatchers);
         }
         Ok(Query { matchers, from, to })
     }
 
-    /// The matchers, at most [`MAX_MATCHERS`].
+    /// The matchers, at most 64.
     pub fn matchers(&self) -> &[Matcher]
         ensures items { result.now ≡ self.now.matchers }
-        ensures few { length self.now.matchers ≤ 16 }
+        ensures few { length self.now.matchers ≤ 64 }
     {
         self.matchers.as_slice()
     }

@@ -5,11 +5,12 @@ ghost use Rattle.std.specs.Prelude.{OnOk};
 ghost use Rattle.labels.specs.Names.{is_name};
 ghost use Rattle.matchers.specs.Grammar.{IsSelector, HasOneReading};
 ghost use Rattle.matchers.specs.Scanner.{nothing_read, closed, taken};
-ghost use Rattle.matchers.specs.Selectors.{AreNamed, IsMade, AreMade, IsFaultOf, HasFault};
-ghost use Rattle.matchers.specs.Selectors.{OrMemory, RefusedBy};
+ghost use Rattle.matchers.specs.Limits.{IsMadeWithin, AreMadeWithin, IsFaultWithin, HasFaultWithin};
+ghost use Rattle.matchers.specs.Limits.{IsAcceptedWithin, IsRefusalWithin, IsUnread};
+ghost use Rattle.matchers.specs.Selectors.{AreNamed, AreMade, OrMemory, RefusedBy};
 
 use crate::scanner::{Mark, State, end_mark, step};
-use crate::{MAX_MATCHERS, Matcher, MatcherError, Op, SelectorError};
+use crate::{Limits, Matcher, MatcherError, Op, SelectorError};
 use std::alloc::{AllocError, Global};
 use std::marker::Model;
 use std::mem;
@@ -33,13 +34,13 @@ impl Model for Part {
 }
 
 impl Part {
-    fn into_matcher(self, alloc: Global) -> Result<Matcher, SelectorError>
+    fn into_matcher(self, alloc: Global, limits: Limits) -> Result<Matcher, SelectorError>
         requires { is_name self.name ≡ true }
         ensures ok { IfOk result (λ m. m ≡ self) }
-        ensures made { OnOk result (IsMade self) }
-        ensures err { IfErr result (OrMemory (IsFaultOf self)) }
+        ensures made { OnOk result (IsMadeWithin limits self) }
+        ensures err { IfErr result (OrMemory (IsFaultWithin limits self)) }
     {
-        match Matcher::new(alloc, self.name, self.op, self.text) {
+        match Matcher::within(alloc, limits, self.name, self.op, self.text) {
             Ok(matcher) => Ok(matcher),
             Err(MatcherError::PatternTooLong) => Err(SelectorError::PatternTooLong),
             Err(MatcherError::PatternRefused) => Err(SelectorError::PatternRefused),
@@ -113,7 +114,7 @@ impl Reading {
 
 fn read(alloc: Global, text: &str) -> Result<Vec<Part>, SelectorError>
     ensures ok { IfOk result (λ parts. IsSelector text.now parts.items) }
-    ensures err { IfErr result (RefusedBy text.now) }
+    ensures err { IfErr result (OrMemory (IsUnread text.now)) }
 {
     let mut state = State::Start;
     let mut reading = Reading::new(alloc);
@@ -135,15 +136,15 @@ fn read(alloc: Global, text: &str) -> Result<Vec<Part>, SelectorError>
     Ok(reading.into_parts())
 }
 
-fn matchers(alloc: Global, parts: Vec<Part>) -> Result<Vec<Matcher>, SelectorError>
+fn matchers(alloc: Global, limits: Limits, parts: Vec<Part>) -> Result<Vec<Matcher>, SelectorError>
     requires { AreNamed parts.items }
     ensures ok { IfOk result (λ v. v.items ≡ parts.items) }
-    ensures made { OnOk result (AreMade parts.items) }
-    ensures err { IfErr result (OrMemory (HasFault parts.items)) }
+    ensures made { OnOk result (AreMadeWithin limits parts.items) }
+    ensures err { IfErr result (OrMemory (HasFaultWithin limits parts.items)) }
 {
     let mut made = Vec::with_capacity(alloc, parts.len())?;
     for part in parts {
-        made.push(part.into_matcher(alloc)?)?;
+        made.push(part.into_matcher(alloc, limits)?)?;
     }
     Ok(made)
 }
@@ -156,7 +157,7 @@ impl Selector {
     ///
     /// Refusals, the first that holds: `M4` where the text is none of the language, with the
     /// length in bytes of its longest prefix that also begins one; `M6` where it has no matcher;
-    /// `M5` where it has more than [`MAX_MATCHERS`]; then, by the first matcher at fault, `M3` or
+    /// `M5` where it has more than 16; then, by the first matcher at fault, `M3` or
     /// `M2` as of [`Matcher::new`]. The time is linear in the length of the text, beside what
     /// `regex` takes for at most 16 patterns.
     pub fn parse(alloc: Global, text: &str) -> Result<Vec<Matcher>, SelectorError>
@@ -166,14 +167,26 @@ impl Selector {
         ensures made { IfOk result (λ v. AreMade v.items) }
         ensures err { IfErr result (λ e. RefusedBy text.now e) }
     {
+        Selector::parse_within(alloc, Limits::Short, text)
+    }
+
+    /// The same within these limits.
+    pub fn parse_within(
+        alloc: Global,
+        limits: Limits,
+        text: &str,
+    ) -> Result<Vec<Matcher>, SelectorError>
+        ensures ok { IfOk result (λ v. IsAcceptedWithin limits text.now v.items) }
+        ensures err { IfErr result (OrMemory (IsRefusalWithin limits text.now)) }
+    {
         let parts = read(alloc, text)?;
         if parts.is_empty() {
             return Err(SelectorError::Empty);
         }
-        if parts.len() > MAX_MATCHERS {
+        if parts.len() > limits.most_matchers() {
             return Err(SelectorError::TooMany);
         }
-        matchers(alloc, parts)
+        matchers(alloc, limits, parts)
     }
 
     /// No text is read in two ways.

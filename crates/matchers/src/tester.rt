@@ -1,10 +1,10 @@
 //! One matcher for many values.
 
 ghost use Rattle.std.specs.Prelude.{◌≡◌, true, false, None, Some};
-ghost use Rattle.regex.specs.Strings.{matcher_pattern};
-ghost use Rattle.matchers.specs.Patterns.{FindsFullMatches};
+ghost use Rattle.matchers.specs.Built.{SearchesFor};
 ghost use Rattle.matchers.specs.Satisfies.{accepts_text, takes_pattern};
 
+use crate::pattern::Search;
 use crate::{Matcher, Op};
 use std::marker::Model;
 
@@ -12,7 +12,7 @@ use std::marker::Model;
 #[derive(Drop)]
 pub struct Tester<'a> {
     matcher: &'a Matcher,
-    search: Option<regex::Matcher<'a>>,
+    search: Option<Search<'a>>,
 }
 
 impl<'a> Model for Tester<'a> {
@@ -38,9 +38,9 @@ impl<'a> Tester<'a> {
         }
     }
 
-    pub(crate) fn of_pattern(matcher: &'a Matcher, search: regex::Matcher<'a>) -> Tester<'a>
+    pub(crate) fn of_pattern(matcher: &'a Matcher, search: Search<'a>) -> Tester<'a>
         requires pattern { takes_pattern matcher.now.op ≡ true }
-        requires finds { FindsFullMatches (matcher_pattern search) matcher.now.text }
+        requires finds { SearchesFor search matcher.now.text }
         ensures { result ≡ matcher.entry.now }
     {
         Tester {
@@ -55,7 +55,8 @@ impl<'a> Tester<'a> {
         ensures same { self.new ≡ self.old }
     {
         let agrees = match &mut self.search {
-            Some(search) => search.is_match(value),
+            Some(Search::Regex(search)) => search.is_match(value),
+            Some(Search::Choice(choice)) => choice.accepts(value),
             None => value == self.matcher.text(),
         };
         match self.matcher.op() {

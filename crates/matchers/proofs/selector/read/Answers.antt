@@ -1,11 +1,10 @@
 use Rattle.std.proofs.Common.{◌-◌, length, ap}
-use Rattle.matchers.specs.Selectors.{none}
 use Rattle.matchers.proofs.Reaching.{goes_on, refused_at, refused_end, accepted, no_bytes}
 use Rattle.matchers.proofs.selector.read.Goals as goal
 
 pub returns-in_default-step-clause-err : goal.returns-in_default-step-clause-err
 returns-in_default-step-clause-err c =
-    none _ (refused_at _ _ _ _ c.in-Some.c _ _ c.loop-c.invariant c.in-Some.ensures.steps.0 (let h = c.in_default-step.ensures in let i = c.in_default-step.is in let k = c.step.ensures in cc))
+    refused_at _ _ _ _ c.in-Some.c _ _ c.loop-c.invariant c.in-Some.ensures.steps.0 (let h = c.in_default-step.ensures in let i = c.in_default-step.is in let k = c.step.ensures in cc)
 
 pub loop-c-preserved : goal.loop-c-preserved
 loop-c-preserved c =
@@ -16,9 +15,8 @@ loop-c-preserved c =
 
 pub returns-in_default-end_mark-clause-err : goal.returns-in_default-end_mark-clause-err
 returns-in_default-end_mark-clause-err c =
-    none _
-    (refused_end _ _ _ _ _ c.loop-c.invariant (no_bytes _ c.in_default.ensures.steps.0.0)
-    (let h = c.in_default-end_mark.ensures in let i = c.in_default-end_mark.is in let k = c.end_mark.ensures in cc))
+    refused_end _ _ _ _ _ c.loop-c.invariant (no_bytes _ c.in_default.ensures.steps.0.0)
+    (let h = c.in_default-end_mark.ensures in let i = c.in_default-end_mark.is in let k = c.end_mark.ensures in cc)
 
 pub returns-clause-ok : goal.returns-clause-ok
 returns-clause-ok c =
