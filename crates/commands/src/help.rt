@@ -204,6 +204,7 @@ own (--prometheus-workers), one request a connection; values are doubles there, 
   POST /api/v1/read    remote read: samples, of one snapshot for all queries of a request
   GET or POST /api/v1/labels, GET /api/v1/label/NAME/values, GET or POST /api/v1/series
   GET /api/v1/status/buildinfo
+  GET /                a form for a browser; GET /page draws the answer, certified, not judged
 A client that is slow there holds no worker. --guard asks the token of writes there, too. A store
 that begins in the folder of --data with this port has doubles ever after; one that has whole
 numbers is left as it is, and the port is refused (O5).

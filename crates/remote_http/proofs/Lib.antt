@@ -7,4 +7,5 @@ pub mod Kept
 pub mod Listed
 pub mod Answered
 pub mod Means
+pub mod Paged
 pub mod Served

@@ -16,12 +16,14 @@ use Rattle.remote_write.specs.Format.{SampleValue, SeriesValue}
 use Rattle.remote_requests.specs.declared.asked.Asked.{Asked}
 use Rattle.remote_requests.specs.declared.asked.Asked.TheVariants.{Write, Read, BuildInfo}
 use Rattle.remote_requests.specs.declared.asked.Asked.TheVariants.{List as ListAsked}
+use Rattle.remote_requests.specs.declared.asked.Asked.TheVariants.{Home, Page}
 use Rattle.remote_requests.specs.declared.asked.Received.{Received}
 use Rattle.remote_requests.specs.declared.path.Path.{Path}
 use Rattle.remote_requests.specs.declared.path.Path.TheVariants as paths
 use Rattle.remote_requests.specs.declared.refusal.Refusal.{Refusal}
 use Rattle.remote_requests.specs.declared.refusal.Refusal.TheVariants as refusals
 use Rattle.remote_requests.specs.Asking.{ListingMeans, SelectorsMean, WantedMeans}
+use Rattle.remote_requests.specs.Paging.{PageMeans}
 use Rattle.remote_requests.specs.Parameters.{Wanted, wanted_of}
 use Rattle.remote_requests.specs.Admitting.{admission, refusal_of, refused_by}
 use Rattle.remote_requests.specs.Meaning.{AdmittedMeans, BodyMeans, FormMeans, MeansUnder, PathMeans, PostMeans}
@@ -131,12 +133,16 @@ write_fits now body (Write received) m = received_fits now m.0 received m.1.few 
 write_fits now body (Read readings) m = absurd m
 write_fits now body BuildInfo m = absurd m
 write_fits now body (ListAsked listing) m = absurd m
+write_fits now body Home m = absurd m
+write_fits now body (Page question) m = absurd m
 
 read_fits : (body : List ℕ) (asked : Asked) → ReadMeans body (Ok asked) → IsFit asked
 read_fits body (Write received) m = absurd m
 read_fits body (Read readings) m = tt
 read_fits body BuildInfo m = absurd m
 read_fits body (ListAsked listing) m = absurd m
+read_fits body Home m = absurd m
+read_fits body (Page question) m = absurd m
 
 build_fits : (asked : Asked) → ok_of asked ≡ ok_of BuildInfo → IsFit asked
 unfolding ok_of
@@ -144,6 +150,25 @@ build_fits (Write received) e = absurd (cc)
 build_fits (Read readings) e = tt
 build_fits BuildInfo e = tt
 build_fits (ListAsked listing) e = tt
+build_fits Home e = tt
+build_fits (Page question) e = tt
+
+home_fits : (asked : Asked) → ok_of asked ≡ ok_of Home → IsFit asked
+unfolding ok_of
+home_fits (Write received) e = absurd (cc)
+home_fits (Read readings) e = tt
+home_fits BuildInfo e = tt
+home_fits (ListAsked listing) e = tt
+home_fits Home e = tt
+home_fits (Page question) e = tt
+
+page_fits : (target : List ℕ) (asked : Asked) → PageMeans target (Ok asked) → IsFit asked
+page_fits target (Write received) m = absurd m
+page_fits target (Read readings) m = tt
+page_fits target BuildInfo m = tt
+page_fits target (ListAsked listing) m = tt
+page_fits target Home m = tt
+page_fits target (Page question) m = tt
 
 wanted_fits : (wanted : Result Wanted Refusal) (pairs : List (List ℕ × List ℕ)) (asked : Asked)
     → WantedMeans wanted pairs (Ok asked) → IsFit asked
@@ -153,6 +178,8 @@ wanted_fits (Ok wanted) pairs (Write received) m = absurd m
 wanted_fits (Ok wanted) pairs (Read readings) m = absurd m
 wanted_fits (Ok wanted) pairs BuildInfo m = absurd m
 wanted_fits (Ok wanted) pairs (ListAsked listing) m = tt
+wanted_fits (Ok wanted) pairs Home m = absurd m
+wanted_fits (Ok wanted) pairs (Page question) m = absurd m
 
 listing_fits : (path : Path) (target body : List ℕ) (asked : Asked)
     → ListingMeans path target body (Ok asked) → IsFit asked
@@ -169,6 +196,8 @@ body_fits paths.LabelsByForm target now body asked m = listing_fits paths.Labels
 body_fits paths.Values target now body asked m = listing_fits paths.Values target body asked m
 body_fits paths.Series target now body asked m = listing_fits paths.Series target body asked m
 body_fits paths.SeriesByForm target now body asked m = listing_fits paths.SeriesByForm target body asked m
+body_fits paths.Home target now body asked m = home_fits asked m
+body_fits paths.Page target now body asked m = page_fits target asked m
 
 form_fits : (form : Result (Unit {0}) Refusal) (path : Path) (target : List ℕ) (now : ℤ) (body : List ℕ)
     (asked : Asked) → FormMeans form path target now body (Ok asked) → IsFit asked
@@ -197,6 +226,8 @@ path_fits (Ok paths.Values) target size form now rest asked m = listing_fits pat
 path_fits (Ok paths.Series) target size form now rest asked m = listing_fits paths.Series target [] asked m
 path_fits (Ok paths.SeriesByForm) target size form now rest asked m =
     post_fits paths.SeriesByForm target size form now rest asked m
+path_fits (Ok paths.Home) target size form now rest asked m = home_fits asked m
+path_fits (Ok paths.Page) target size form now rest asked m = page_fits target asked m
 
 admitted_fits : (admitted : Result (Unit {0}) Refusal) (h : RequestHead) (now : ℤ) (rest : List ℕ) (asked : Asked)
     → AdmittedMeans admitted h now rest (Ok asked) → IsFit asked

@@ -10,5 +10,6 @@ pub mod Writing
 pub mod Reading
 pub mod Answering
 pub mod Listing
+pub mod Paging
 pub mod Fitting
 pub mod Serving

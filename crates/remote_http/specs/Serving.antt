@@ -9,6 +9,7 @@ use Rattle.head.specs.Heads.{SnapshotParts}
 use Rattle.remote_requests.specs.declared.asked.Asked.{Asked}
 use Rattle.remote_requests.specs.declared.asked.Asked.TheVariants.{Write, Read, BuildInfo}
 use Rattle.remote_requests.specs.declared.asked.Asked.TheVariants.{List as ListAsked}
+use Rattle.remote_requests.specs.declared.asked.Asked.TheVariants.{Home, Page}
 use Rattle.remote_requests.specs.declared.came.Came.{Came}
 use Rattle.remote_requests.specs.declared.refusal.Refusal.{Refusal}
 use Rattle.remote_requests.specs.declared.status.Status.{Status}
@@ -17,6 +18,7 @@ use Rattle.remote_requests.specs.Admitting.{claims_of}
 use Rattle.remote_requests.specs.Meaning.{MeansUnder, HasEnded}
 use Rattle.remote_http.specs.declared.engine.TheConstants.{EARLIEST}
 use Rattle.remote_http.specs.Listing.{IsListReply}
+use Rattle.remote_http.specs.Paging.{IsHomeReply, IsPageReply}
 use Rattle.remote_http.specs.Reading.{IsReadReply}
 use Rattle.remote_http.specs.Text.{build_text}
 use Rattle.remote_http.specs.Workers.{Worker, IsIdle}
@@ -38,6 +40,10 @@ IsAskedReply version now opening idle BuildInfo before after status text =
     IsBuildReply version status text × (after ≡ before)
 IsAskedReply version now opening idle (ListAsked listing) before after status text =
     IsListReply opening listing before.known after.known status text × IsIdle before after
+IsAskedReply version now opening idle Home before after status text =
+    IsHomeReply status text × (after ≡ before)
+IsAskedReply version now opening idle (Page question) before after status text =
+    IsPageReply opening question before.known after.known status text × IsIdle before after
 
 -- the bytes that came are refused by their first failing check, and nothing changed
 pub record TurnsAway (rules : Rules) (now : ℤ) (came : Came) (before after : Worker)
@@ -72,6 +78,8 @@ HasFront opening (Write received) before after =
 HasFront opening (Read readings) before after = IsIdle before after
 HasFront opening BuildInfo before after = after ≡ before
 HasFront opening (ListAsked listing) before after = IsIdle before after
+HasFront opening Home before after = after ≡ before
+HasFront opening (Page question) before after = IsIdle before after
 
 -- there was no memory for the reply to what the bytes ask
 pub record BreaksOff (rules : Rules) (now : ℤ) (came : Came) (opening : SnapshotParts)

@@ -9,12 +9,15 @@ use Rattle.remote_requests.specs.Statuses.{status_number, status_reason}
 use Rattle.remote_requests.specs.Refusals.{status_of}
 use Rattle.remote_requests.specs.Replies.{refusal_line}
 
--- how a body is spelled: as JSON, or as a message that is compressed
+-- how a body is spelled: as JSON, as a message that is compressed, or as a page
 abbrev pub json_lines : List ℕ
 json_lines = codes "Content-Type: application/json\r\n"
 
 abbrev pub packed_lines : List ℕ
 packed_lines = codes "Content-Type: application/x-protobuf\r\nContent-Encoding: snappy\r\n"
+
+abbrev pub html_lines : List ℕ
+html_lines = codes "Content-Type: text/html; charset=utf-8\r\n"
 
 -- the lines before a body of so many bytes, which is spelled so
 abbrev pub head_text : Status → List ℕ → ℕ → List ℕ
@@ -30,6 +33,10 @@ json_text status body = head_text status json_lines (length body) ++ body
 -- the reply of success with this message, compressed
 abbrev pub packed_text : List ℕ → List ℕ
 packed_text body = head_text Done packed_lines (length body) ++ body
+
+-- the reply of success with this page
+abbrev pub html_text : List ℕ → List ℕ
+html_text body = head_text Done html_lines (length body) ++ body
 
 -- the reply of a refusal
 abbrev pub refusal_text : Refusal → List ℕ

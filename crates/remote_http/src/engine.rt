@@ -10,6 +10,7 @@ ghost use Rattle.remote_http.specs.Workers.{worker, IsIdle};
 ghost use Rattle.remote_http.specs.Writing.{IsReplyOfRefusal};
 
 use crate::list::list;
+use crate::paging::{home, page};
 use crate::read::read;
 use crate::reply::{Reply, build_reply, refusal_reply};
 use crate::write::write;
@@ -60,6 +61,8 @@ fn act<J: Naming, C: Wait + Drop, K: Keeper + Drop>(
         Asked::Read(readings) => read(rt, alloc, readings.as_slice(), pass),
         Asked::BuildInfo => build_reply(alloc, version),
         Asked::List(listing) => list(alloc, &listing, pass),
+        Asked::Home => home(alloc),
+        Asked::Page(question) => page(rt, alloc, &question, pass),
     }
 }
 

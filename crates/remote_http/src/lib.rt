@@ -12,6 +12,7 @@ mod counts;
 mod engine;
 mod list;
 mod metric;
+mod paging;
 mod parts;
 mod read;
 mod reply;

@@ -6,7 +6,7 @@ ghost use Rattle.serde_json.specs.Written.{compact_text};
 ghost use Rattle.remote_requests.specs.declared.status.Status.TheVariants.{Done};
 ghost use Rattle.remote_http.specs.Reply.{text_of};
 ghost use Rattle.remote_http.specs.Text.{build_data, build_text, done_data, head_text, json_lines};
-ghost use Rattle.remote_http.specs.Text.{json_text, packed_text};
+ghost use Rattle.remote_http.specs.Text.{html_text, json_text, packed_text};
 ghost use Rattle.remote_http.specs.Writing.{IsReplyOfRefusal};
 
 use remote_requests::{Refusal, Status};
@@ -54,6 +54,8 @@ impl Reply {
 
 const JSON: &str = "Content-Type: application/json\r\n";
 
+const HTML: &str = "Content-Type: text/html; charset=utf-8\r\n";
+
 const PACKED: &str = "Content-Type: application/x-protobuf\r\nContent-Encoding: snappy\r\n";
 
 fn head_line(alloc: Global, status: Status, lines: &str, len: usize) -> Result<String, AllocError>
@@ -88,6 +90,16 @@ pub(crate) fn packed_reply(alloc: Global, body: Vec<u8>) -> Result<Reply, AllocE
 {
     let status = Status::Done;
     let head = head_of(alloc, status, PACKED, body.len())?;
+    Ok(Reply { status, head, body })
+}
+
+/// The reply of success with this page.
+pub(crate) fn html_reply(alloc: Global, body: Vec<u8>) -> Result<Reply, AllocError>
+    ensures number { IfOk result (λ r. r.status ≡ Done) }
+    ensures spelled { IfOk result (λ r. text_of r ≡ html_text body.items) }
+{
+    let status = Status::Done;
+    let head = head_of(alloc, status, HTML, body.len())?;
     Ok(Reply { status, head, body })
 }
 

@@ -128,6 +128,7 @@ no_head rules now bytes refusals.NoLabel p = absurd p
 no_head rules now bytes refusals.NoMatch p = absurd p
 no_head rules now bytes refusals.BadParameter p = absurd p
 no_head rules now bytes (refusals.BadSelector error) p = absurd p
+no_head rules now bytes (refusals.BadPage refusal) p = absurd p
 no_head rules now bytes refusals.NoMetric p = absurd p
 no_head rules now bytes refusals.ClockBehind p = absurd p
 no_head rules now bytes refusals.Unavailable p = absurd p

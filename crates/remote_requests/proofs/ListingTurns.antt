@@ -4,7 +4,9 @@ use Rattle.std.proofs.Common.{get_or, Option, None, Some, Result, Ok, Err, refl,
 use Rattle.std.specs.List.{AllZip, cons_option, filter_map}
 use Rattle.matchers.specs.declared.error.SelectorError.{SelectorError}
 use Rattle.matchers.specs.declared.error.SelectorError.TheVariants as errors
-use Rattle.matchers.specs.Selectors.{IsAccepted, IsTextRefusal, OrMemory, RefusedBy}
+use Rattle.matchers.specs.declared.limits.Limits.TheVariants.{Long}
+use Rattle.matchers.specs.Limits.{IsAcceptedWithin, IsRefusalWithin}
+use Rattle.matchers.specs.Selectors.{OrMemory}
 use Rattle.matchers.specs.Views.{MatcherView, QueryView}
 use Rattle.std.proofs.lemmas.List.{at_drop_more}
 use Rattle.std.specs.List.{filter}
@@ -57,7 +59,7 @@ selected_more : (texts : List (List ℕ)) (text : List ℕ) (start end : ℤ) (o
     → AreSelected (texts ++ text ∷ []) start end new
 selected_more texts text start end old new a add = record {
   selectors = a.selectors ++ add.matchers ∷ [];
-  each = zip_more IsAccepted texts a.selectors text add.matchers a.each add.accepted;
+  each = zip_more (IsAcceptedWithin Long) texts a.selectors text add.matchers a.each add.accepted;
   are =
       add.added
       ∙ ap (λ (queries : List QueryView). queries ++ cons_option (query_over add.matchers start end) [])
@@ -75,8 +77,8 @@ selected_turn f xs i x d start end old new lt at a add =
     rw (map_turn f xs i x d lt at) (selected_more (map f (take i xs)) (f x) start end old new a add)
 
 fault_at : (texts front back : List (List ℕ)) (first : List ℕ) (selectors : List (List MatcherView))
-    (e : SelectorError) → texts ≡ front ++ first ∷ back → AllZip IsAccepted front selectors
-    → IsTextRefusal first e → HasSelectorFault texts e
+    (e : SelectorError) → texts ≡ front ++ first ∷ back → AllZip (IsAcceptedWithin Long) front selectors
+    → IsRefusalWithin Long first e → HasSelectorFault texts e
 fault_at texts front back first selectors e is each p = record {
   front = front;
   first = first;
@@ -89,7 +91,7 @@ fault_at texts front back first selectors e is each p = record {
 
 selector_fault : (texts front back : List (List ℕ)) (first : List ℕ)
     (selectors : List (List MatcherView)) (e : SelectorError) → texts ≡ front ++ first ∷ back
-    → AllZip IsAccepted front selectors → RefusedBy first e → OrMemory (HasSelectorFault texts) e
+    → AllZip (IsAcceptedWithin Long) front selectors → OrMemory (IsRefusalWithin Long first) e → OrMemory (HasSelectorFault texts) e
 selector_fault texts front back first selectors errors.Memory is each p = tt
 selector_fault texts front back first selectors (errors.Syntax at) is each p =
     fault_at texts front back first selectors (errors.Syntax at) is each p
@@ -105,7 +107,7 @@ selector_fault texts front back first selectors errors.PatternRefused is each p 
 -- the first that is refused
 pub fault_turn : {X : Type 0} (f : X → List ℕ) (xs : List X) (i : ℕ) (x d : X) (start end : ℤ)
     (queries : List QueryView) (e : SelectorError) → i < length xs → x ≡ get_or xs i d
-    → AreSelected (map f (take i xs)) start end queries → RefusedBy (f x) e
+    → AreSelected (map f (take i xs)) start end queries → OrMemory (IsRefusalWithin Long (f x)) e
     → OrMemory (HasSelectorFault (map f xs)) e
 fault_turn f xs i x d start end queries e lt at a p =
     selector_fault (map f xs) (map f (take i xs)) (map f (drop (i + 1) xs)) (f x) a.selectors e

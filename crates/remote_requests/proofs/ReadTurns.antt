@@ -1,21 +1,21 @@
 -- What matchers and queries give, one after another.
 use Rattle.std.proofs.Common.{◌≡◌, ◌<◌, ◌≤◌, ℕ, ℤ, List, ◌∷◌, ◌++◌, length}
 use Rattle.std.proofs.Common.{true, false, Bool, Some, sym, ap, ◌∙◌, refl}
-use Rattle.std.proofs.Common.{Err, IsErrOf, IsUtf8, subst}
+use Rattle.std.proofs.Common.{Err, IsErrOf, IsUtf8, subst, arith, true≢false}
 use Rattle.std.specs.List.{AllZip}
 use Rattle.std.specs.Prelude.{int_lt, pos, negsuc, ◌&&◌, if◌then◌else◌}
 use Rattle.std.specs.Str.{is_utf8}
 use Rattle.std.proofs.lemmas.Bool.{false_from_ne_true, true_from_ne_false}
 use Rattle.std.proofs.lemmas.Str.{IsUtf8-from_is_utf8, is_utf8-from_IsUtf8}
 use Rattle.labels.specs.Names.{is_name}
-use Rattle.matchers.specs.Patterns.{IsPattern}
+use Rattle.matchers.specs.Limits.{IsPatternWithin}
+use Rattle.matchers.specs.declared.limits.Limits.TheVariants.{Long}
 use Rattle.matchers.specs.Satisfies.{takes_pattern}
 use Rattle.matchers.specs.declared.error.MatcherError.{MatcherError}
 use Rattle.matchers.specs.declared.error.MatcherError.TheVariants.{BadName, PatternRefused}
 use Rattle.matchers.specs.declared.error.QueryError.{QueryError}
 use Rattle.matchers.specs.declared.error.QueryError.TheVariants.{BadRange, TooManyMatchers}
 use Rattle.matchers.specs.declared.matcher.Op.{Op}
-use Rattle.requests.proofs.SelectorTexts.{no_query_error}
 use Rattle.matchers.specs.Queries.{is_query_range}
 use Rattle.matchers.specs.Views.{MatcherView, QueryView}
 use Rattle.remote_read.specs.Format.{MatcherValue, QueryValue}
@@ -43,7 +43,7 @@ matcher_fault sent front back first made (Fault why) is each p = record {
   fault = p;
 }
 
-pub query_fault : (sent : QueryValue) (e : NoQuery) → length sent.matchers ≤ 16
+pub query_fault : (sent : QueryValue) (e : NoQuery) → length sent.matchers ≤ 64
     → OrMemory (HasMatcherFault sent.matchers) e → OrMemory (IsQueryFault sent) e
 query_fault sent Memory few p = tt
 query_fault sent (Fault faults.TooMany) few p = absurd p.fault
@@ -90,17 +90,18 @@ range_is start end e =
     ) refl
 
 pub no_query : (e : QueryError) (a b start end : ℤ) (ms : List MatcherView) → a ≡ from_of start
-    → b ≡ to_of end → int_lt b a ≡ false → length ms ≤ 16
+    → b ≡ to_of end → int_lt b a ≡ false → length ms ≤ 64
     → (IsErrOf {T = QueryView} (Err e) BadRange → is_query_range a b ≡ false)
     → (IsErrOf {T = QueryView} (Err e) TooManyMatchers → (is_query_range a b ≡ true)
-    × (16 < length ms)) → ⊥
-no_query e a b start end ms low high order few bad many =
+    × (64 < length ms)) → ⊥
+no_query BadRange a b start end ms low high order few bad many =
     let first : int_lt b (from_of start) ≡ false =
     subst (λ (p : ℤ). int_lt b p ≡ false) low order in
     let both : int_lt (to_of end) (from_of start) ≡ false =
     subst (λ (p : ℤ). int_lt p (from_of start) ≡ false) high first in
-    no_query_error e (from_of start) (to_of end) a b ms low high (range_is start end both) few bad
-    many
+    true≢false (sym (range_is start end both) ∙ (rw (low, high) at (bad refl)))
+no_query TooManyMatchers a b start end ms low high order few bad many =
+    omega (arith, few, (many refl).1)
 
 no_text : (bytes : List ℕ) → (IsUtf8 bytes → ⊥) → is_utf8 bytes ≡ false
 no_text bytes never =
@@ -124,7 +125,7 @@ pub matcher_made : (sent : MatcherValue) (matcher : MatcherView) (op : Op) (name
     → Some op ≡ op_of sent.kind
     → matcher ≡ record { name = name; op = op; text = text }
     → name ≡ sent.name → text ≡ sent.value → IsUtf8 sent.name → IsUtf8 sent.value
-    → is_name name ≡ true → (takes_pattern op ≡ true → IsPattern text)
+    → is_name name ≡ true → (takes_pattern op ≡ true → IsPatternWithin Long text)
     → IsMatcherOf sent matcher
 matcher_made sent matcher op name text kind is same_name same_text name_text value_text named read =
     record {
@@ -134,7 +135,7 @@ matcher_made sent matcher op name text kind is same_name same_text name_text val
       texts = both_texts sent.name sent.value name_text value_text;
       named = subst (λ (n : List ℕ). is_name n ≡ true) same_name named;
       pattern =
-          λ takes. subst IsPattern same_text
+          λ takes. subst (IsPatternWithin Long) same_text
           (read (ap (λ (m : MatcherView). takes_pattern m.op) (sym is) ∙ takes));
     }
 

@@ -4,7 +4,8 @@ use Rattle.std.specs.Prelude.{Result, Ok, Err}
 use Rattle.std.specs.List.{AllZip, cons_option, filter_map}
 use Rattle.matchers.specs.declared.error.SelectorError.{SelectorError}
 use Rattle.matchers.specs.declared.error.SelectorError.TheVariants as errors
-use Rattle.matchers.specs.Selectors.{IsAccepted, IsTextRefusal}
+use Rattle.matchers.specs.declared.limits.Limits.TheVariants.{Long}
+use Rattle.matchers.specs.Limits.{IsAcceptedWithin, IsRefusalWithin}
 use Rattle.matchers.specs.Views.{MatcherView, QueryView}
 use Rattle.requests.specs.QueryStrings.{query_pairs, values_named}
 use Rattle.requests.specs.Targets.{query_text}
@@ -31,7 +32,7 @@ pairs_asked target body = query_pairs body ++ query_pairs (query_text target)
 -- the query of a selector over a range, if it has one, was added
 pub record AddsSelected (text : List ℕ) (start end : ℤ) (old new : List QueryView) : Type 0 where
   pub matchers : List MatcherView
-  pub accepted : IsAccepted text matchers
+  pub accepted : IsAcceptedWithin Long text matchers
   pub added : new ≡ old ++ cons_option (query_over matchers start end) []
 
 -- The queries of selectors over a range, cut to the times of the store: one for each selector, or
@@ -39,7 +40,7 @@ pub record AddsSelected (text : List ℕ) (start end : ℤ) (old new : List Quer
 pub record AreSelected (texts : List (List ℕ)) (start end : ℤ)
     (queries : List QueryView) : Type 0 where
   pub selectors : List (List MatcherView)
-  pub each : AllZip IsAccepted texts selectors
+  pub each : AllZip (IsAcceptedWithin Long) texts selectors
   pub are : queries ≡ filter_map (λ matchers. query_over matchers start end) selectors
 
 -- the same, and where there is no selector the query of all series
@@ -54,8 +55,8 @@ pub record HasSelectorFault (texts : List (List ℕ)) (error : SelectorError) : 
   pub back : List (List ℕ)
   pub is : texts ≡ front ++ first ∷ back
   pub selectors : List (List MatcherView)
-  pub before : AllZip IsAccepted front selectors
-  pub fault : IsTextRefusal first error
+  pub before : AllZip (IsAcceptedWithin Long) front selectors
+  pub fault : IsRefusalWithin Long first error
 
 -- why nothing was asked, where a selector was refused
 abbrev pub selector_error : SelectorError → ReadError

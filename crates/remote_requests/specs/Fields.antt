@@ -12,6 +12,7 @@ use Rattle.remote_requests.specs.declared.path.Path.{Path}
 use Rattle.remote_requests.specs.declared.path.Path.TheVariants.{Write, Read, BuildInfo}
 use Rattle.remote_requests.specs.declared.path.Path.TheVariants.{Labels, LabelsByForm, Values}
 use Rattle.remote_requests.specs.declared.path.Path.TheVariants.{Series, SeriesByForm}
+use Rattle.remote_requests.specs.declared.path.Path.TheVariants.{Home, Page}
 use Rattle.remote_requests.specs.declared.refusal.Refusal.{Refusal}
 use Rattle.remote_requests.specs.declared.refusal.Refusal.TheVariants.{NoLength, BadLength}
 use Rattle.remote_requests.specs.declared.refusal.Refusal.TheVariants.{Encoding, Form}
@@ -55,6 +56,8 @@ is_packed_for LabelsByForm fields = not (has_field (codes "content-encoding") fi
 is_packed_for Values fields = is_packed fields
 is_packed_for Series fields = is_packed fields
 is_packed_for SeriesByForm fields = not (has_field (codes "content-encoding") fields)
+is_packed_for Home fields = is_packed fields
+is_packed_for Page fields = is_packed fields
 
 -- whether a type is that of forms, with parameters or without
 abbrev pub is_form_type : List ℕ → Bool
@@ -76,6 +79,8 @@ is_form_of LabelsByForm (Some value) = is_form_type value
 is_form_of Values (Some value) = false
 is_form_of Series (Some value) = false
 is_form_of SeriesByForm (Some value) = is_form_type value
+is_form_of Home (Some value) = false
+is_form_of Page (Some value) = false
 
 -- whether there is a version, and it begins with `0.1.`
 abbrev pub is_version : Option (List ℕ) → Bool
@@ -97,6 +102,8 @@ version_field LabelsByForm = []
 version_field Values = []
 version_field Series = []
 version_field SeriesByForm = []
+version_field Home = []
+version_field Page = []
 
 -- whether type and version are those of a path
 abbrev pub has_form : Path → List (List ℕ × List ℕ) → Bool

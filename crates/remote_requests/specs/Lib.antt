@@ -7,6 +7,7 @@ pub mod Left
 pub mod Meaning
 pub mod Names
 pub mod NoQueries
+pub mod Paging
 pub mod Parameters
 pub mod Paths
 pub mod Queries

@@ -18,12 +18,14 @@ use Rattle.remote_requests.specs.declared.path.Path.{Path}
 use Rattle.remote_requests.specs.declared.path.Path.TheVariants.{Write, Read, BuildInfo}
 use Rattle.remote_requests.specs.declared.path.Path.TheVariants.{Labels, LabelsByForm, Values}
 use Rattle.remote_requests.specs.declared.path.Path.TheVariants.{Series, SeriesByForm}
+use Rattle.remote_requests.specs.declared.path.Path.TheVariants.{Home, Page}
 use Rattle.remote_requests.specs.declared.refusal.Refusal.{Refusal}
 use Rattle.remote_requests.specs.declared.refusal.Refusal.TheVariants.{BadHead, HeadTooLong}
 use Rattle.remote_requests.specs.declared.refusal.Refusal.TheVariants.{BadLength}
 use Rattle.remote_requests.specs.Admitting.{admission}
 use Rattle.remote_requests.specs.Asking.{ListingMeans}
 use Rattle.remote_requests.specs.Fields.{form_of, length_asked}
+use Rattle.remote_requests.specs.Paging.{PageMeans}
 use Rattle.remote_requests.specs.Paths.{path_asked}
 use Rattle.remote_requests.specs.Reading.{ReadMeans}
 use Rattle.remote_requests.specs.Writing.{Meaning, WriteMeans}
@@ -38,6 +40,8 @@ BodyMeans LabelsByForm target now body meaning = ListingMeans LabelsByForm targe
 BodyMeans Values target now body meaning = ListingMeans Values target body meaning
 BodyMeans Series target now body meaning = ListingMeans Series target body meaning
 BodyMeans SeriesByForm target now body meaning = ListingMeans SeriesByForm target body meaning
+BodyMeans Home target now body meaning = meaning ≡ Ok asks.Home
+BodyMeans Page target now body meaning = PageMeans target meaning
 
 -- the same, where the body is packed and spelled as its path takes it
 abbrev pub FormMeans : Result (Unit {0}) Refusal → Path → List ℕ → ℤ → List ℕ → Meaning → Type 0
@@ -69,6 +73,8 @@ PathMeans (Ok Values) target length form now rest meaning = ListingMeans Values 
 PathMeans (Ok Series) target length form now rest meaning = ListingMeans Series target [] meaning
 PathMeans (Ok SeriesByForm) target length form now rest meaning =
     PostMeans SeriesByForm target length form now rest meaning
+PathMeans (Ok Home) target length form now rest meaning = meaning ≡ Ok asks.Home
+PathMeans (Ok Page) target length form now rest meaning = PageMeans target meaning
 
 -- what a head asks with what follows it, if it is admitted: path and method first, then the length
 -- of the body, then its form, then the body

@@ -57,6 +57,8 @@ wanted_of paths.LabelsByForm target = Ok names
 wanted_of paths.Values target = values_wanted (label_in target)
 wanted_of paths.Series target = Ok series
 wanted_of paths.SeriesByForm target = Ok series
+wanted_of paths.Home target = Err NoSuchPath
+wanted_of paths.Page target = Err NoSuchPath
 
 -- whether label sets are wanted
 abbrev pub wants_series : Wanted → Bool

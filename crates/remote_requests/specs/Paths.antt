@@ -7,6 +7,7 @@ use Rattle.remote_requests.specs.declared.path.Path.{Path}
 use Rattle.remote_requests.specs.declared.path.Path.TheVariants.{Write, Read, BuildInfo}
 use Rattle.remote_requests.specs.declared.path.Path.TheVariants.{Labels, LabelsByForm, Values}
 use Rattle.remote_requests.specs.declared.path.Path.TheVariants.{Series, SeriesByForm}
+use Rattle.remote_requests.specs.declared.path.Path.TheVariants.{Home, Page}
 use Rattle.remote_requests.specs.declared.refusal.Refusal.{Refusal}
 use Rattle.remote_requests.specs.declared.refusal.Refusal.TheVariants.{NoSuchPath, Method}
 
@@ -32,6 +33,8 @@ path_named text =
     else if bytes_eq text (codes "/api/v1/labels") then Some Labels
     else if bytes_eq text (codes "/api/v1/series") then Some Series
     else if names_values text then Some Values
+    else if bytes_eq text (codes "/") then Some Home
+    else if bytes_eq text (codes "/page") then Some Page
     else None
 
 abbrev pub method_of : Path → List ℕ
@@ -43,6 +46,8 @@ method_of LabelsByForm = codes "POST"
 method_of Values = codes "GET"
 method_of Series = codes "GET"
 method_of SeriesByForm = codes "POST"
+method_of Home = codes "GET"
+method_of Page = codes "GET"
 
 -- the path where a form is posted, if it takes one
 abbrev pub by_form : Path → Option Path
@@ -54,6 +59,8 @@ by_form LabelsByForm = None
 by_form Values = None
 by_form Series = Some SeriesByForm
 by_form SeriesByForm = None
+by_form Home = None
+by_form Page = None
 
 abbrev pub form_taken : List ℕ → Option Path → Result Path Refusal
 form_taken method None = Err Method

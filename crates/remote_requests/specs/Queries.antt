@@ -7,7 +7,8 @@ use Rattle.std.specs.Str.{bytes_eq, is_utf8}
 use Rattle.labels.specs.Names.{is_name}
 use Rattle.matchers.specs.declared.matcher.Op.{Op}
 use Rattle.matchers.specs.declared.matcher.Op.TheVariants as ops
-use Rattle.matchers.specs.Patterns.{IsPattern, IsRefusedPattern}
+use Rattle.matchers.specs.declared.limits.Limits.TheVariants.{Long}
+use Rattle.matchers.specs.Limits.{IsPatternWithin, IsTooLong, IsRefusedWithin}
 use Rattle.matchers.specs.Satisfies.{takes_pattern}
 use Rattle.matchers.specs.Views.{MatcherView, QueryView}
 use Rattle.remote_read.specs.Format.{MatcherValue, QueryValue}
@@ -35,7 +36,7 @@ pub record IsMatcherOf (sent : MatcherValue) (matcher : MatcherView) : Type 0 wh
   pub text : matcher.text ≡ sent.value
   pub texts : are_texts sent ≡ true
   pub named : is_name sent.name ≡ true
-  pub pattern : takes_pattern matcher.op ≡ true → IsPattern sent.value
+  pub pattern : takes_pattern matcher.op ≡ true → IsPatternWithin Long sent.value
 
 -- the kind is one of the four
 abbrev pub HasOp : MatcherValue → Type 0
@@ -56,8 +57,8 @@ IsMatcherFault sent faults.Kind = op_of sent.kind ≡ None
 IsMatcherFault sent faults.BadText = HasOp sent × (are_texts sent ≡ false)
 IsMatcherFault sent faults.BadName =
     HasOp sent × (are_texts sent ≡ true) × (is_name sent.name ≡ false)
-IsMatcherFault sent faults.PatternTooLong = AsksPattern sent × (256 < length sent.value)
-IsMatcherFault sent faults.PatternRefused = AsksPattern sent × IsRefusedPattern sent.value
+IsMatcherFault sent faults.PatternTooLong = AsksPattern sent × IsTooLong Long sent.value
+IsMatcherFault sent faults.PatternRefused = AsksPattern sent × IsRefusedWithin Long sent.value
 
 -- the first matcher of which none can be made, and why
 pub record HasMatcherFault (sent : List MatcherValue) (why : QueryFault) : Type 0 where
@@ -93,24 +94,24 @@ asks_names func = bytes_eq func (codes "series")
 pub record IsReadingOf (sent : QueryValue) (reading : Reading) : Type 0 where
   pub matchers : List MatcherView
   pub each : AllZip IsMatcherOf sent.matchers matchers
-  pub few : length sent.matchers ≤ 16
+  pub few : length sent.matchers ≤ 64
   pub query : reading.query ≡ query_over matchers sent.start sent.end
   pub names : reading.names_alone ≡ asks_names sent.func
 
 -- why a query is refused: it has too many matchers, or the first that cannot be made cannot for
 -- this cause
 abbrev pub IsQueryFault : QueryValue → QueryFault → Type 0
-IsQueryFault sent faults.TooMany = 16 < length sent.matchers
+IsQueryFault sent faults.TooMany = 64 < length sent.matchers
 IsQueryFault sent faults.Kind =
-    (length sent.matchers ≤ 16) × HasMatcherFault sent.matchers faults.Kind
+    (length sent.matchers ≤ 64) × HasMatcherFault sent.matchers faults.Kind
 IsQueryFault sent faults.BadName =
-    (length sent.matchers ≤ 16) × HasMatcherFault sent.matchers faults.BadName
+    (length sent.matchers ≤ 64) × HasMatcherFault sent.matchers faults.BadName
 IsQueryFault sent faults.BadText =
-    (length sent.matchers ≤ 16) × HasMatcherFault sent.matchers faults.BadText
+    (length sent.matchers ≤ 64) × HasMatcherFault sent.matchers faults.BadText
 IsQueryFault sent faults.PatternTooLong =
-    (length sent.matchers ≤ 16) × HasMatcherFault sent.matchers faults.PatternTooLong
+    (length sent.matchers ≤ 64) × HasMatcherFault sent.matchers faults.PatternTooLong
 IsQueryFault sent faults.PatternRefused =
-    (length sent.matchers ≤ 16) × HasMatcherFault sent.matchers faults.PatternRefused
+    (length sent.matchers ≤ 64) × HasMatcherFault sent.matchers faults.PatternRefused
 
 -- the first query that is refused, and why
 pub record HasQueryFault (sent : List QueryValue) (why : QueryFault) : Type 0 where

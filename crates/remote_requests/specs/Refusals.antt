@@ -1,6 +1,7 @@
 -- The numbers of refusals, their statuses and the numbers behind them.
 use Rattle.std.specs.Prelude.{ℕ, List, Option, None, Some, codes}
 use Rattle.matchers.specs.Errors.{selector_code}
+use Rattle.page_requests.specs.Refusals as page_refusals
 use Rattle.protobuf_fields.specs.Codes as protobuf_codes
 use Rattle.snappy.specs.Codes as snappy_codes
 use Rattle.remote_requests.specs.declared.status.Status.{Status}
@@ -42,6 +43,7 @@ code_of refusals.NoLabel = codes "G12"
 code_of refusals.NoMatch = codes "G13"
 code_of refusals.BadParameter = codes "G14"
 code_of (refusals.BadSelector error) = codes "G15"
+code_of (refusals.BadPage refusal) = page_refusals.code_of refusal
 code_of refusals.NoMetric = codes "G9"
 code_of refusals.ClockBehind = codes "G10"
 code_of refusals.Unavailable = codes "H10"
@@ -65,6 +67,7 @@ status_of refusals.NoLabel = status.BadRequest
 status_of refusals.NoMatch = status.BadRequest
 status_of refusals.BadParameter = status.BadRequest
 status_of (refusals.BadSelector error) = status.BadRequest
+status_of (refusals.BadPage refusal) = status.BadRequest
 status_of refusals.NoMetric = status.BadRequest
 status_of refusals.ClockBehind = status.ServiceUnavailable
 status_of refusals.Unavailable = status.ServiceUnavailable
@@ -88,6 +91,7 @@ cause_of refusals.NoLabel = None
 cause_of refusals.NoMatch = None
 cause_of refusals.BadParameter = None
 cause_of (refusals.BadSelector error) = Some (selector_code error)
+cause_of (refusals.BadPage refusal) = page_refusals.cause_of refusal
 cause_of refusals.NoMetric = None
 cause_of refusals.ClockBehind = None
 cause_of refusals.Unavailable = None
@@ -114,6 +118,7 @@ error_of refusals.BadParameter =
     (codes "G14: start and end are seconds, perhaps with a point, and limit is a whole number")
 error_of (refusals.BadSelector error) =
     Some (codes "G15: a match[] is refused for its cause")
+error_of (refusals.BadPage refusal) = None
 error_of refusals.NoMetric = None
 error_of refusals.ClockBehind = None
 error_of refusals.Unavailable = None

@@ -9,6 +9,7 @@ ghost use Rattle.remote_requests.specs.Writing.{Told};
 use crate::body::write;
 use crate::head::{Head, head_in};
 use crate::listings::listing;
+use crate::pages::page;
 use crate::reads::read;
 use crate::{Asked, Came, End, Path, ReadError, Refusal};
 use guard::{Denial, Rules};
@@ -42,6 +43,8 @@ fn body_asked(
         Path::Values => listing(alloc, Path::Values, target, body),
         Path::Series => listing(alloc, Path::Series, target, body),
         Path::SeriesByForm => listing(alloc, Path::SeriesByForm, target, body),
+        Path::Home => Ok(Asked::Home),
+        Path::Page => page(alloc, target),
     }
 }
 
@@ -83,6 +86,8 @@ fn path_asked(alloc: Global, now: i64, head: &Head<'_>, rest: &[u8]) -> Result<A
         Ok(Path::Values) => listing(alloc, Path::Values, head.target, &[]),
         Ok(Path::Series) => listing(alloc, Path::Series, head.target, &[]),
         Ok(Path::SeriesByForm) => post_asked(alloc, now, Path::SeriesByForm, head, rest),
+        Ok(Path::Home) => Ok(Asked::Home),
+        Ok(Path::Page) => page(alloc, head.target),
         Err(refusal) => Err(ReadError::Refused(refusal)),
     }
 }

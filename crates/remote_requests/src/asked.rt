@@ -6,6 +6,7 @@ ghost use Rattle.remote_requests.specs.declared.asked.ReadError.TheVariants as r
 use crate::{Left, Refusal};
 use labels::Row;
 use matchers::Query;
+use page_requests::Question;
 use std::alloc::{AllocError, AllocFailed};
 use std::error::Error;
 use std::fmt;
@@ -21,6 +22,10 @@ pub enum Asked {
     BuildInfo,
     /// Names of labels, values of a label or label sets are to be listed.
     List(Listing),
+    /// The form that asks for a page.
+    Home,
+    /// The page of an answer.
+    Page(Question),
 }
 
 /// What a listing lists.

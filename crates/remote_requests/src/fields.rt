@@ -89,8 +89,14 @@ fn is_packed_for(path: Path, buf: &[u8], headers: &[HeaderSpan]) -> bool
 {
     match path {
         Path::LabelsByForm | Path::SeriesByForm => !has_field(buf, headers, b"content-encoding"),
-        Path::Write | Path::Read | Path::BuildInfo | Path::Labels | Path::Values | Path::Series =>
-            is_packed(buf, headers),
+        Path::Write
+        | Path::Read
+        | Path::BuildInfo
+        | Path::Labels
+        | Path::Values
+        | Path::Series
+        | Path::Home
+        | Path::Page => is_packed(buf, headers),
     }
 }
 
@@ -136,7 +142,8 @@ fn is_form_of(path: Path, value: &[u8]) -> bool
         }
         Path::Read => same_text(value, b"application/x-protobuf"),
         Path::LabelsByForm | Path::SeriesByForm => is_form_type(value),
-        Path::BuildInfo | Path::Labels | Path::Values | Path::Series => false,
+        Path::BuildInfo | Path::Labels | Path::Values | Path::Series | Path::Home | Path::Page =>
+            false,
     }
 }
 
@@ -151,7 +158,9 @@ fn version_field(path: Path) -> &'static [u8]
         | Path::LabelsByForm
         | Path::Values
         | Path::Series
-        | Path::SeriesByForm => b"",
+        | Path::SeriesByForm
+        | Path::Home
+        | Path::Page => b"",
     }
 }
 

@@ -28,6 +28,7 @@ mod head;
 mod label_sets;
 mod left;
 mod listings;
+mod pages;
 mod path;
 mod reads;
 mod refusal;

@@ -3,7 +3,8 @@
 ghost use Rattle.std.specs.Prelude.{◌≡◌, ◌≤◌, ◌++◌, ◌==◌, [], option_map, map, position};
 ghost use Rattle.std.specs.Prelude.{IfOk, IfSome, MatchResult, Ok};
 ghost use Rattle.labels.specs.Pairs.{pairs_of};
-ghost use Rattle.matchers.specs.Selectors.{RefusedBy};
+ghost use Rattle.matchers.specs.declared.limits.Limits.TheVariants as Limits;
+ghost use Rattle.matchers.specs.Limits.{IsRefusalWithin};
 ghost use Rattle.requests.specs.QueryStrings.{query_pairs, values_named};
 ghost use Rattle.requests.specs.Targets.{query_text};
 ghost use Rattle.requests.specs.Fields.{is_decimal};
@@ -25,7 +26,7 @@ use crate::reads::query_over;
 use crate::{Asked, Listed, Listing, Path, ReadError, Refusal};
 use decimal_text::{DecimalError, rounded};
 use labels::{MAX_TIME, MIN_TIME, is_name};
-use matchers::{Query, Selector, SelectorError};
+use matchers::{Limits, Query, Selector, SelectorError};
 use requests::path_text;
 use std::alloc::{AllocError, Global};
 
@@ -42,7 +43,7 @@ fn mark_in(target: &[u8]) -> Option<usize>
 }
 
 /// What stands after the first `?` of a target, nothing where there is none.
-fn query_text(target: &[u8]) -> &[u8]
+pub fn query_text(target: &[u8]) -> &[u8]
     ensures { result.now ≡ query_text target.now }
 {
     match mark_in(target) {
@@ -268,9 +269,9 @@ fn add_selected(
 ) -> Result<(), SelectorError>
     ensures { MatchResult result
         (λ _. AddsSelected text.now start end queries.old.items queries.new.items)
-        (λ e. RefusedBy text.now e) }
+        (OrMemory (IsRefusalWithin Limits.Long text.now)) }
 {
-    let matchers = Selector::parse(alloc, text)?;
+    let matchers = Selector::parse_within(alloc, Limits::Long, text)?;
     if let Some(query) = query_over(matchers, start, end) {
         queries.push(query)?;
     }
@@ -395,7 +396,7 @@ fn wanted_of(alloc: Global, path: Path, target: &[u8]) -> Result<Listed, ReadErr
             Some(name) => Ok(Listed::Values(String::from_str(alloc, name)?)),
             None => Err(ReadError::Refused(Refusal::NoLabel)),
         },
-        Path::Write | Path::Read | Path::BuildInfo => {
+        Path::Write | Path::Read | Path::BuildInfo | Path::Home | Path::Page => {
             Err(ReadError::Refused(Refusal::NoSuchPath))
         }
     }

@@ -26,6 +26,10 @@ pub enum Path {
     Series,
     /// `/api/v1/series`, by `POST` of a form.
     SeriesByForm,
+    /// `/`, by `GET`.
+    Home,
+    /// `/page`, by `GET`.
+    Page,
 }
 
 /// Whether a target is that of writes.
@@ -59,6 +63,10 @@ fn path_named(text: &[u8]) -> Option<Path>
         Some(Path::Series)
     } else if names_values(text) {
         Some(Path::Values)
+    } else if text == b"/".as_slice() {
+        Some(Path::Home)
+    } else if text == b"/page".as_slice() {
+        Some(Path::Page)
     } else {
         None
     }
@@ -69,7 +77,8 @@ fn method_of(path: Path) -> &'static [u8]
 {
     match path {
         Path::Write | Path::Read | Path::LabelsByForm | Path::SeriesByForm => b"POST",
-        Path::BuildInfo | Path::Labels | Path::Values | Path::Series => b"GET",
+        Path::BuildInfo | Path::Labels | Path::Values | Path::Series | Path::Home | Path::Page =>
+            b"GET",
     }
 }
 
@@ -85,7 +94,9 @@ fn by_form(path: Path) -> Option<Path>
         | Path::BuildInfo
         | Path::LabelsByForm
         | Path::Values
-        | Path::SeriesByForm => None,
+        | Path::SeriesByForm
+        | Path::Home
+        | Path::Page => None,
     }
 }
 

@@ -13,7 +13,7 @@ ghost use Rattle.remote_requests.specs.Reading.{ReadMeans};
 use crate::body::{misspelled, unpacked};
 use crate::{Asked, QueryFault, ReadError, Reading, Refusal};
 use labels::{MAX_TIME, MIN_TIME};
-use matchers::{MAX_MATCHERS, Matcher, MatcherError, Op, Query};
+use matchers::{Limits, Matcher, MatcherError, Op, Query};
 use remote_read::read_queries;
 use std::alloc::{AllocError, AllocFailed, Global};
 
@@ -22,6 +22,9 @@ const MAX_TEXT: usize = 1_048_576;
 
 /// The most queries of a read.
 const MAX_QUERIES: usize = 64;
+
+/// The most matchers of a query.
+const MAX_MATCHERS: usize = 64;
 
 /// Why no query was made.
 pub enum NoQuery {
@@ -79,7 +82,7 @@ fn matcher_of(alloc: Global, sent: &remote_read::Matcher<'_>) -> Result<Matcher,
     };
     let name = String::from_str(alloc, name)?;
     let text = String::from_str(alloc, text)?;
-    match Matcher::new(alloc, name, op, text) {
+    match Matcher::within(alloc, Limits::Long, name, op, text) {
         Ok(matcher) => Ok(matcher),
         Err(MatcherError::BadName) => Err(NoQuery::Fault(QueryFault::BadName)),
         Err(MatcherError::PatternTooLong) => Err(NoQuery::Fault(QueryFault::PatternTooLong)),
@@ -116,7 +119,7 @@ fn to_of(end: i64) -> i64
 
 /// The query of these matchers over the times of the store in a range, if it has one.
 pub fn query_over(matchers: Vec<Matcher>, start: i64, end: i64) -> Option<Query>
-    requires { length matchers.items ≤ 16 }
+    requires { length matchers.items ≤ 64 }
     ensures { result ≡ query_over matchers.items start end }
 {
     let from = from_of(start);
@@ -124,9 +127,9 @@ pub fn query_over(matchers: Vec<Matcher>, start: i64, end: i64) -> Option<Query>
     if to < from {
         return None;
     }
-    match Query::new(matchers, from, to) {
+    match Query::within(Limits::Long, matchers, from, to) {
         Ok(query) => Some(query),
-        // The range is one, and the matchers are at most 16.
+        // The range is one, and the matchers are at most 64.
         Err(_) => None,
     }
 }

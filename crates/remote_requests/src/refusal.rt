@@ -34,7 +34,7 @@ impl BodyFault {
 /// that cannot be made.
 #[derive(Clone, Copy, Debug, PartialEq, Eq, Drop)]
 pub enum QueryFault {
-    /// `M5`: there are more than 16 matchers.
+    /// `M5`: there are more than 64 matchers.
     TooMany,
     /// `M7`: the kind of a matcher is none of 0 to 3.
     Kind,
@@ -42,7 +42,7 @@ pub enum QueryFault {
     BadText,
     /// `M1`: the name is not of the form `[a-zA-Z_][a-zA-Z0-9_]*`.
     BadName,
-    /// `M3`: the pattern has more than 256 bytes.
+    /// `M3`: the pattern has more than 65,536 bytes, or more than 256 and is no choice of texts.
     PatternTooLong,
     /// `M2`: `regex` does not build the pattern.
     PatternRefused,
@@ -104,6 +104,8 @@ pub enum Refusal {
     BadParameter,
     /// `G15`: the first `match[]` that cannot be made is refused.
     BadSelector(SelectorError),
+    /// `H5`, `H6` or `G16`: the query string of a page is refused.
+    BadPage(page_requests::Refusal),
     /// `G9`: a row of the answer has a `__name__` that names no metric.
     NoMetric,
     /// `G10`: the clock is before the day on which the program was made.
@@ -136,6 +138,7 @@ impl Refusal {
             Refusal::NoMatch => "G13",
             Refusal::BadParameter => "G14",
             Refusal::BadSelector(_) => "G15",
+            Refusal::BadPage(refusal) => refusal.code(),
             Refusal::NoMetric => "G9",
             Refusal::ClockBehind => "G10",
             Refusal::Unavailable => "H10",
@@ -157,6 +160,7 @@ impl Refusal {
             | Refusal::NoMatch
             | Refusal::BadParameter
             | Refusal::BadSelector(_)
+            | Refusal::BadPage(_)
             | Refusal::NoMetric => Status::BadRequest,
             Refusal::HeadTooLong => Status::HeadTooLarge,
             Refusal::Guarded => Status::Forbidden,
@@ -169,7 +173,7 @@ impl Refusal {
         }
     }
 
-    /// The number of the refusal behind `G6`, `G8` and `G15`.
+    /// The number of the refusal behind `G6`, `G8`, `G15` and `H6`.
     pub fn cause(&self) -> Option<&'static str>
         ensures { option_map (λ code. code.now) result ≡ cause_of self.now }
     {
@@ -177,6 +181,7 @@ impl Refusal {
             Refusal::BadBody(fault) => Some(fault.code()),
             Refusal::BadQuery(fault) => Some(fault.code()),
             Refusal::BadSelector(error) => Some(error.code()),
+            Refusal::BadPage(refusal) => refusal.cause(),
             _ => None,
         }
     }
