@@ -1,6 +1,6 @@
 -- What a sweep leaves.
 use Rattle.std.proofs.Common.{◌≡◌, ◌≢◌, ℕ, Bool, true, false, List, [], ◌∷◌, ◌++◌}
-use Rattle.std.proofs.Common.{Option, Some, length, refl, subst, ap, ◌∙◌}
+use Rattle.std.proofs.Common.{Option, None, Some, length, refl, subst, ap, ◌∙◌}
 use Rattle.std.proofs.Common.{◌⊎◌, inl, inr, ⊎_elim}
 use Rattle.std.specs.Prelude.{◌||◌}
 use Rattle.std.specs.Str.{bytes_eq}
@@ -165,6 +165,12 @@ module _ {F : Type 0} (shows : F → List ℕ → Option (List ℕ) → Type 0)
   files_rest f files there =
       started moment left_since f (HasFiles files) (λ left had. files_now f left files had there)
 
+  absent_rest : (f : F) (name : List ℕ) → shows f name None → kept f name 0
+      → LeavesOnly moment left_since f f (λ (left : Left). left name ≡ None)
+  absent_rest f name none durable =
+      started moment left_since f (λ (left : Left). left name ≡ None)
+      (λ left had. only_now f name None 0 left none durable had)
+
   -- where nothing was removed
   pub nothing_removed : (names : List (List ℕ)) (f : F)
       → KeepsStore shows kept sound moment left_since names f f
@@ -175,6 +181,7 @@ module _ {F : Type 0} (shows : F → List ℕ → Option (List ℕ) → Type 0)
     lasting = λ name x lasts shown. shown;
     durable = λ name n lasts durable. durable;
     left = λ files k there. files_rest f files there;
+    absent = λ name lasts none durable. absent_rest f name none durable;
   }
 
   -- one file was written or removed, or was not
@@ -207,6 +214,11 @@ module _ {F : Type 0} (shows : F → List ℕ → Option (List ℕ) → Type 0)
             goes_on moment left_since old old new (HasFiles files)
             (LeavesOthers shows kept name name old P) (files_rest old files there) time
             (λ left l. kept_left shows kept sound name names old P left files apart l among there);
+        absent = λ other lasts none durable.
+            let far = not_lasting names name other apart lasts in
+            goes_on moment left_since old old new (λ (left : Left). left other ≡ None)
+            (LeavesOthers shows kept name name old P) (absent_rest old other none durable) time
+            (λ left l. l.others other None 0 far far none durable);
       }
 
   all_stay : (files : List Named) (old new : F) → KeepsAll shows kept old new
@@ -261,6 +273,10 @@ module _ {F : Type 0} (shows : F → List ℕ → Option (List ℕ) → Type 0)
     left = λ files among there.
         goes_on moment left_since old old new (HasFiles files) (LeavesAll shows kept old)
         (files_rest old files there) time (λ left l. all_left files old left l there);
+    absent = λ name lasts none durable.
+        goes_on moment left_since old old new (λ (left : Left). left name ≡ None)
+        (LeavesAll shows kept old) (absent_rest old name none durable) time
+        (λ left l. l name None 0 none durable);
   }
 
   -- what keeps the files of more names keeps those of fewer
@@ -275,6 +291,7 @@ module _ {F : Type 0} (shows : F → List ℕ → Option (List ℕ) → Type 0)
     lasting = k.lasting;
     durable = k.durable;
     left = λ files among there. k.left files (kept_more names more files among) there;
+    absent = k.absent;
   }
 
   one_there : (names : List (List ℕ)) (old new : F) (file : Named)
@@ -317,4 +334,9 @@ module _ {F : Type 0} (shows : F → List ℕ → Option (List ℕ) → Type 0)
     left = λ files among there.
         joined moment left_since old mid new (HasFiles files) (first.left files among there)
         (second.left files among (kept_there names old mid first files among there));
+    absent = λ name lasts none durable.
+        joined moment left_since old mid new (λ (left : Left). left name ≡ None)
+        (first.absent name lasts none durable)
+        (second.absent name lasts (first.lasting name None lasts none)
+        (first.durable name 0 lasts durable));
   }

@@ -77,7 +77,8 @@ abbrev pub AreKept : List (List ℕ) → List Named → Type 0
 AreKept names files = AllByRecursion (λ (file : Named). is_kept names file.0 ≡ true) files
 
 -- A journal and the files of these names stay, and so does all that has a lasting name, also a
--- journal whose end is torn. A crash at any moment since old leaves them.
+-- journal whose end is torn. A crash at any moment since old leaves them, and nothing under a
+-- lasting name that has nothing.
 pub record KeepsStore {F : Type 0} (shows : F → List ℕ → Option (List ℕ) → Type 0)
     (kept : F → List ℕ → ℕ → Type 0) (sound : F → Bool) (moment : F → ℕ)
     (left_since : F → ℕ → Left → Type 0) (names : List (List ℕ)) (old new : F) : Type 0 where
@@ -95,3 +96,5 @@ pub record KeepsStore {F : Type 0} (shows : F → List ℕ → Option (List ℕ)
       → kept new name n
   pub left : (files : List Named) → AreKept names files → AreThere shows kept files old
       → LeavesOnly moment left_since old new (HasFiles files)
+  pub absent : (name : List ℕ) → is_lasting name ≡ true → shows old name None → kept old name 0
+      → LeavesOnly moment left_since old new (λ (left : Left). left name ≡ None)

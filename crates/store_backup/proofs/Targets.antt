@@ -10,9 +10,10 @@ use Rattle.data_folder.specs.JournalFile.{journal_name, next_name}
 use Rattle.data_folder.specs.Rolls as rolls
 use Rattle.data_folder.specs.States.{AreThere, HasFiles, IsApart, Named}
 use Rattle.data_folder.specs.Sweeping.{KeepsStore}
-use Rattle.data_folder.proofs.Moments.{goes_on, nothing_changed, started, untouched_on, weaker}
+use Rattle.data_folder.proofs.Foreign.{foreign_beside, foreign_kept, foreign_then}
+use Rattle.data_folder.proofs.Moments.{goes_on, joined, started, untouched_on, weaker}
 use Rattle.data_folder.proofs.Rolls.{differ, journal_whole, still_there, whole_left}
-use Rattle.data_folder.proofs.Sweeps.{none_changed, then_kept}
+use Rattle.data_folder.proofs.Sweeps.{none_changed}
 use Rattle.event_journal.specs.Holding.{contents_with}
 use Rattle.block.specs.Blocks.{Shown}
 use Rattle.head.specs.Blocks.{part_in}
@@ -115,37 +116,37 @@ module _ {F : Type 0} (shows : F → List ℕ → Option (List ℕ) → Type 0)
       (λ file away. (away.1, away.1)) first apart there)
 
   abbrev Begun : Origin → F → F → Type 0
-  Begun first old new = Begins shows kept sound moment left_since first old new
+  Begun first old new = Begins shows kept moment left_since first old new
 
   -- files were written, and the journal was not begun
 
-  pub only_written : (first : Origin) (old new : F)
+  still_none : (first : Origin) (old new : F)
       → KeepsStore shows kept sound moment left_since [] old new
-      → shows old journal_name None → kept old journal_name 0 → Begun first old new
-  only_written first old new stays none durable =
-      let there = stays.lasting journal_name None refl none in
-      let long = stays.durable journal_name 0 refl durable in
-      record {
-        written = new;
-        apart = stays;
-        none = there;
-        durable = long;
-        begun = none_yet new _ there long;
-        others = nothing_changed shows kept next_name journal_name new;
-      }
+      → shows old journal_name None → kept old journal_name 0
+      → LeavesOnly moment left_since old new (NoneOrFinds first)
+  still_none first old new stays none durable =
+      weaker moment left_since old new (λ (left : Left). left journal_name ≡ None)
+      (NoneOrFinds first) (λ left nothing. inl nothing)
+      (stays.absent journal_name refl none durable)
+
+  pub only_written : (first : Origin) (old new : F)
+      → KeepsStore shows kept sound moment left_since [] old new → Begun first old new
+  only_written first old new stays = record {
+    any_moment = λ none durable. still_none first old new stays none durable;
+    foreign = foreign_kept shows kept sound moment left_since [] old new stays;
+  }
 
   -- it began later
   pub begins_later : (first : Origin) (old mid new : F)
       → KeepsStore shows kept sound moment left_since [] old mid → Begun first mid new
       → Begun first old new
   begins_later first old mid new before b = record {
-    written = b.written;
-    apart = then_kept shows kept sound moment left_since only_now [] old mid b.written before
-        b.apart;
-    none = b.none;
-    durable = b.durable;
-    begun = b.begun;
-    others = b.others;
+    any_moment = λ none durable. joined moment left_since old mid new (NoneOrFinds first)
+        (still_none first old mid before none durable)
+        (b.any_moment (before.lasting journal_name None refl none)
+        (before.durable journal_name 0 refl durable));
+    foreign = foreign_then shows kept old mid new
+        (foreign_kept shows kept sound moment left_since [] old mid before) b.foreign;
   }
 
   pub only_read : (old new : F) → KeepsAll shows kept old new → sound new ≡ true
@@ -199,25 +200,20 @@ module _ {F : Type 0} (shows : F → List ℕ → Option (List ℕ) → Type 0)
 
   pub begins_so : (first : Origin) (old mid new : F) (saved : Saved) (made : List BlockPart)
       (text : List ℕ) → KeepsStore shows kept sound moment left_since [] old mid
-      → shows old journal_name None → kept old journal_name 0
       → Next first mid saved made → IsJournalText (contents_with (head_texts saved) []) text
       → Leaves mid new text → KeepsOthers shows kept next_name journal_name mid new
-      → Begins shows kept sound moment left_since first old new
-  begins_so first old mid new saved made text stays none durable next whole leaves others =
+      → Begins shows kept moment left_since first old new
+  begins_so first old mid new saved made text stays next whole leaves others =
       let contents = contents_with (head_texts saved) [] in
       let files = files_at shows kept saved.places made mid next.blocks in
-      record {
-        written = mid;
-        apart = stays;
-        none = stays.lasting journal_name None refl none;
-        durable = stays.durable journal_name 0 refl durable;
-        begun = weaker moment left_since mid new (NoneOrWhole files contents) (NoneOrFinds first)
-            (λ left is. whole_finds first mid saved made left next is)
+      begins_later shows kept sound moment left_since only_now first old mid new stays (record {
+        any_moment = λ none durable. weaker moment left_since mid new (NoneOrWhole files contents)
+            (NoneOrFinds first) (λ left is. whole_finds first mid saved made left next is)
             (leaves contents files whole
             (apart_both shows kept [] saved.places [] made mid tt next.blocks)
             (there_at shows kept saved.places made mid next.blocks));
-        others = others;
-      }
+        foreign = foreign_beside shows kept mid new others;
+      })
 
   -- then a start finds the store
   pub finds_so : (first : Origin) (mid new : F) (saved : Saved) (made : List BlockPart)
@@ -252,8 +248,8 @@ module _ {F : Type 0} (shows : F → List ℕ → Option (List ℕ) → Type 0)
 
   pub copied_later : (saved : Saved) (parts : List BlockPart) (events : List Event) (told : Copied)
       (old mid new : F) → KeepsStore shows kept sound moment left_since [] old mid
-      → IsCopied shows kept sound moment left_since saved parts events told mid new
-      → IsCopied shows kept sound moment left_since saved parts events told old new
+      → IsCopied shows kept moment left_since saved parts events told mid new
+      → IsCopied shows kept moment left_since saved parts events told old new
   copied_later saved parts events told old mid new before c = record {
     world = c.world;
     accepted = c.accepted;
@@ -267,8 +263,8 @@ module _ {F : Type 0} (shows : F → List ℕ → Option (List ℕ) → Type 0)
   pub may_later : (saved : Saved) (parts : List BlockPart) (events : List Event) (old mid new : F)
       → Untouched shows kept moment left_since old mid
       → KeepsStore shows kept sound moment left_since [] old mid
-      → MayBegin shows kept sound moment left_since saved parts events mid new
-      → MayBegin shows kept sound moment left_since saved parts events old new
+      → MayBegin shows kept moment left_since saved parts events mid new
+      → MayBegin shows kept moment left_since saved parts events old new
   may_later saved parts events old mid new same before m =
       ⊎_elim (λ after. inl (untouched_on shows kept moment left_since earlier old mid new same after))
       (λ b. inr (
@@ -283,10 +279,10 @@ module _ {F : Type 0} (shows : F → List ℕ → Option (List ℕ) → Type 0)
       → KeepsStore shows kept sound moment left_since [] old mid
       → Untouched shows kept moment left_since mid new
       ⊎ ((saved : Saved) × (parts : List BlockPart) × (events : List Event) × P saved parts events
-      × MayBegin shows kept sound moment left_since saved parts events mid new)
+      × MayBegin shows kept moment left_since saved parts events mid new)
       → Untouched shows kept moment left_since old new
       ⊎ ((saved : Saved) × (parts : List BlockPart) × (events : List Event) × P saved parts events
-      × MayBegin shows kept sound moment left_since saved parts events old new)
+      × MayBegin shows kept moment left_since saved parts events old new)
   later_or_not P old mid new same before (inl after) =
       inl (untouched_on shows kept moment left_since earlier old mid new same after)
   later_or_not P old mid new same before (inr b) =

@@ -1,9 +1,9 @@
 -- A store that is copied into another folder.
-use Rattle.std.specs.Prelude.{◌≡◌, ◌⊎◌, ℕ, Bool, List, [], Option, None, Ok, length}
-use Rattle.data_folder.specs.Folders.{KeepsOthers, Left, LeavesOnly, Untouched}
-use Rattle.data_folder.specs.JournalFile.{journal_name, next_name}
+use Rattle.std.specs.Prelude.{◌≡◌, ◌⊎◌, ℕ, List, Option, None, Ok, length}
+use Rattle.data_folder.specs.Folders.{Left, LeavesOnly, Untouched}
+use Rattle.data_folder.specs.JournalFile.{journal_name}
 use Rattle.data_folder.specs.States.{HasStore as HasFilesOf, Named}
-use Rattle.data_folder.specs.Sweeping.{KeepsStore}
+use Rattle.data_folder.specs.Sweeping.{KeepsForeign}
 use Rattle.head.specs.Heads.{BlockPart}
 use Rattle.head.specs.Worlds.{Event, World, replayed}
 use Rattle.head_record.specs.Saved.{Saved}
@@ -27,19 +27,14 @@ abbrev pub NoneOrFinds : Origin → Left → Type 0
 NoneOrFinds first left =
     (left journal_name ≡ None) ⊎ Finds first.values (λ (v : World). v ≡ first.world) left
 
--- From old to new the store of this world was begun in a folder without a journal. First the files
--- of blocks were written: all that is no block's stayed, and there was no journal yet. Then the
--- journal was begun: a crash at any moment since leaves none, or the store. No other name but that
--- of a journal in the making has other than what it had then.
+-- From old to new the store of this world was begun in a folder without a journal: a crash at any
+-- moment leaves none, or the store. What is none of the store's stays.
 pub record Begins {F : Type 0} (shows : F → List ℕ → Option (List ℕ) → Type 0)
-    (kept : F → List ℕ → ℕ → Type 0) (sound : F → Bool) (moment : F → ℕ)
+    (kept : F → List ℕ → ℕ → Type 0) (moment : F → ℕ)
     (left_since : F → ℕ → Left → Type 0) (first : Origin) (old new : F) : Type 0 where
-  pub written : F
-  pub apart : KeepsStore shows kept sound moment left_since [] old written
-  pub none : shows written journal_name None
-  pub durable : kept written journal_name 0
-  pub begun : LeavesOnly moment left_since written new (NoneOrFinds first)
-  pub others : KeepsOthers shows kept next_name journal_name written new
+  pub any_moment : shows old journal_name None → kept old journal_name 0
+      → LeavesOnly moment left_since old new (NoneOrFinds first)
+  pub foreign : KeepsForeign shows kept old new
 
 -- these events of a store are accepted, and this is the world that they make
 abbrev pub Make : Saved → List BlockPart → List Event → World → Type 0
@@ -53,7 +48,7 @@ copy_of saved parts w = other_of (origin_of saved parts) w
 -- accepted, and a start finds their world, in which the values mean what they meant. What is told
 -- is how many events there are, and how many blocks their world has.
 pub record IsCopied {F : Type 0} (shows : F → List ℕ → Option (List ℕ) → Type 0)
-    (kept : F → List ℕ → ℕ → Type 0) (sound : F → Bool) (moment : F → ℕ)
+    (kept : F → List ℕ → ℕ → Type 0) (moment : F → ℕ)
     (left_since : F → ℕ → Left → Type 0) (saved : Saved) (parts : List BlockPart)
     (late : List Event) (told : Copied) (old new : F) : Type 0 where
   pub world : World
@@ -61,17 +56,17 @@ pub record IsCopied {F : Type 0} (shows : F → List ℕ → Option (List ℕ) �
   pub finds : FindsNow moment left_since new (copy_of saved parts world)
   pub events : told.events ≡ length late
   pub blocks : told.blocks ≡ world.blocks
-  pub begins : Begins shows kept sound moment left_since (copy_of saved parts world) old new
+  pub begins : Begins shows kept moment left_since (copy_of saved parts world) old new
 
 -- The store was not copied: nothing was changed; or its events are accepted, and the store of their
 -- world was to be begun.
 abbrev pub MayBegin : {F : Type 0} → (F → List ℕ → Option (List ℕ) → Type 0)
-    → (F → List ℕ → ℕ → Type 0) → (F → Bool) → (F → ℕ) → (F → ℕ → Left → Type 0) → Saved
+    → (F → List ℕ → ℕ → Type 0) → (F → ℕ) → (F → ℕ → Left → Type 0) → Saved
     → List BlockPart → List Event → F → F → Type 0
-MayBegin shows kept sound moment left_since saved parts events old new =
+MayBegin shows kept moment left_since saved parts events old new =
     Untouched shows kept moment left_since old new
     ⊎ ((w : World) × Make saved parts events w
-    × Begins shows kept sound moment left_since (copy_of saved parts w) old new)
+    × Begins shows kept moment left_since (copy_of saved parts w) old new)
 
 -- the copy was not written, or the target failed
 abbrev pub IsOfTarget : CopyFault → Type 0

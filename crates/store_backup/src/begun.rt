@@ -61,9 +61,9 @@ pub(crate) fn begin_with<F: Folder + Drop>(
     ensures finds { IfOk result (λ f. FindsNow F.moment F.left_since f
         (record { world = world_of snapshot.now; values = values })) }
     ensures begins { MatchResult result
-        (λ f. Begins F.shows F.kept F.sound F.moment F.left_since
+        (λ f. Begins F.shows F.kept F.moment F.left_since
         (record { world = world_of snapshot.now; values = values }) folder f)
-        (λ e. Begins F.shows F.kept F.sound F.moment F.left_since
+        (λ e. Begins F.shows F.kept F.moment F.left_since
         (record { world = world_of snapshot.now; values = values }) folder e.1) }
     ensures refused { IfErr result (λ e. IsOfTarget e.0) }
 {

@@ -61,10 +61,10 @@ fn copy_found<G: Folder + Drop>(
 ) -> Result<(Copied, G), (CopyFault, G)>
     requires sound { G.sound target ≡ true }
     requires none { G.shows target journal_name None × G.kept target journal_name 0 }
-    ensures copied { IfOk result (λ x. IsCopied G.shows G.kept G.sound G.moment G.left_since
+    ensures copied { IfOk result (λ x. IsCopied G.shows G.kept G.moment G.left_since
         store.journal.head (map part_in store.blocks.items) store.journal.events.items
         x.0 target x.1) }
-    ensures begins { IfErr result (λ e. MayBegin G.shows G.kept G.sound G.moment G.left_since
+    ensures begins { IfErr result (λ e. MayBegin G.shows G.kept G.moment G.left_since
         store.journal.head (map part_in store.blocks.items) store.journal.events.items
         target e.1) }
     ensures refused { IfErr result (λ e. IsOfTarget e.0 ⊎ ((cause : StartError)
@@ -103,14 +103,14 @@ fn copy_into<F: Folder, G: Folder + Drop>(
     ensures copied { IfOk result (λ x. (saved : Saved) × (parts : List BlockPart)
         × (events : List Change)
         × IsRead F.shows F.kept saved parts events source.old source.new
-        × IsCopied G.shows G.kept G.sound G.moment G.left_since saved parts events
+        × IsCopied G.shows G.kept G.moment G.left_since saved parts events
         x.0 target x.1) }
     ensures settled { OnOk result (IsSettled F.shows F.kept source.new again.new) }
     ensures begins { IfErr result (λ e.
         Untouched G.shows G.kept G.moment G.left_since target e.1
         ⊎ ((saved : Saved) × (parts : List BlockPart) × (events : List Change)
         × IsRead F.shows F.kept saved parts events source.old source.new
-        × MayBegin G.shows G.kept G.sound G.moment G.left_since saved parts events
+        × MayBegin G.shows G.kept G.moment G.left_since saved parts events
         target e.1)) }
     ensures refused { IfErr result (λ e. IsOfTarget e.0
         ⊎ (DeniesSource F.shows F.kept F.failed source.new again.new e.0
@@ -146,7 +146,7 @@ pub fn copy_store<F: Folder, G: Folder + Drop>(
     ensures copied { IfOk result (λ x. (saved : Saved) × (parts : List BlockPart)
         × (events : List Change)
         × IsRead F.shows F.kept saved parts events source.old source.new
-        × IsCopied G.shows G.kept G.sound G.moment G.left_since saved parts events
+        × IsCopied G.shows G.kept G.moment G.left_since saved parts events
         x.0 target x.1) }
     // The journal that was read last begins with the one that was read first.
     ensures settled { OnOk result (IsSettled F.shows F.kept source.new again.new) }
@@ -155,7 +155,7 @@ pub fn copy_store<F: Folder, G: Folder + Drop>(
         Untouched G.shows G.kept G.moment G.left_since target e.1
         ⊎ ((saved : Saved) × (parts : List BlockPart) × (events : List Change)
         × IsRead F.shows F.kept saved parts events source.old source.new
-        × MayBegin G.shows G.kept G.sound G.moment G.left_since saved parts events
+        × MayBegin G.shows G.kept G.moment G.left_since saved parts events
         target e.1)) }
     // A target that has a journal is left as it is.
     ensures taken { IfErr result (λ e. e.0 ≡ CopyFault.Taken

@@ -26,9 +26,21 @@ pub struct StoreKeeper<N: Beginning, F: Folder + Drop> {
 
 impl<N: Beginning, F: Folder + Drop> Keeper for StoreKeeper<N, F> {
     ghost use Rattle.data_folder.specs.Folders.{Left as Files};
+    ghost use Rattle.data_folder.specs.JournalLaws.{StaysBeside};
+    ghost use Rattle.data_folder.specs.Sweeping.{KeepsForeign};
     ghost use Rattle.store_folder.specs.Holding.{BytesSince, BytesStandFor, HoldsOrLost, LastLike};
-    ghost use Rattle.std.specs.Prelude.{◌<◌, ◌^◌, false, length, map};
+    ghost use Rattle.std.specs.Prelude.{◌≡◌, ◌⊎◌, ◌<◌, ◌^◌, ◌++◌, List, [], true, false};
+    ghost use Rattle.std.specs.Prelude.{Err, IfOk, IfSome, IsErrOf, None, Ok, OnErr, OnOk, OnSome};
+    ghost use Rattle.std.specs.Prelude.{length, map};
+    ghost use Rattle.event_journal.specs.Holding.{contents_with};
     ghost use Rattle.head.specs.Blocks.{part_in};
+    ghost use Rattle.head.specs.Heads.{world_of};
+    ghost use Rattle.head.specs.Worlds.{Event as Change};
+    ghost use Rattle.head_record.specs.Saved.{save};
+    ghost use Rattle.head_record.specs.Spelling.{head_texts};
+    ghost use Rattle.journal.specs.Records.{file_of};
+    ghost use Rattle.keeper.specs.Finding.{AreAll, AreAllAndSome, IsOfAll, LeavesEvents};
+    ghost use Rattle.keeper.specs.Together.{SpellTogether};
     ghost use Rattle.store_folder.specs.Terms.{are_met};
     ghost use Rattle.event_journal.specs.KeeperLaws.{not_idle};
     ghost use Rattle.store_folder.specs.KeeperLaws.{as_store, finds_no_other, finds_world};
@@ -73,7 +85,45 @@ impl<N: Beginning, F: Folder + Drop> Keeper for StoreKeeper<N, F> {
         false
     }
 
-    fn keep(&mut self, records: &[u8]) -> Result<(), KeepError> {
+    /// What lies beside the journal stays.
+    fn keep(&mut self, records: &[u8]) -> Result<(), KeepError>
+        requires held { (events : List Change)
+            × ⟦<StoreKeeper<N, F> as Keeper>⟧.holds self.old events }
+        requires spelled { (more : List Change) × SpellTogether records.now more }
+        ensures ok { OnOk result ((events more : List Change)
+            → ⟦<StoreKeeper<N, F> as Keeper>⟧.holds self.old events
+            → SpellTogether records.now more
+            → ⟦<StoreKeeper<N, F> as Keeper>⟧.holds self.new (events ++ more)) }
+        ensures last { OnOk result ((events more : List Change)
+            → ⟦<StoreKeeper<N, F> as Keeper>⟧.holds self.old events
+            → SpellTogether records.now more
+            → ⟦<StoreKeeper<N, F> as Keeper>⟧.kept_last self.new events more) }
+        ensures err { OnErr result ((events : List Change)
+            → ⟦<StoreKeeper<N, F> as Keeper>⟧.holds self.old events
+            → ⟦<StoreKeeper<N, F> as Keeper>⟧.holds self.new events) }
+        ensures any_moment { (events more : List Change)
+            → ⟦<StoreKeeper<N, F> as Keeper>⟧.holds self.old events
+            → SpellTogether records.now more → self.old.store.events.journal.closed ≡ false
+            → LeavesEvents ⟦<StoreKeeper<N, F> as Keeper>⟧.moment
+            ⟦<StoreKeeper<N, F> as Keeper>⟧.left_since
+            ⟦<StoreKeeper<N, F> as Keeper>⟧.stands self.old self.new
+            (AreAllAndSome events more) }
+        ensures open { OnOk result (self.new.store.events.journal.closed ≡ false) }
+        ensures closed { self.old.store.events.journal.closed ≡ true
+            → (result ≡ Err KeepError.Closed) × (self.new ≡ self.old) }
+        ensures told { IsErrOf result KeepError.Closed
+            → self.old.store.events.journal.closed ≡ true }
+        ensures full { IsErrOf result KeepError.TooLong
+            → 2 ^ 62 < self.old.store.events.journal.len }
+        ensures failed { IsErrOf result KeepError.Failed
+            → F.failed self.new.store.events.journal.medium.folder ≡ true }
+        ensures lost { self.new.store.events.journal.closed ≡ true
+            → (self.old.store.events.journal.closed ≡ true)
+            ⊎ (F.failed self.new.store.events.journal.medium.folder ≡ true) }
+        ensures beside { StaysBeside F.shows F.kept F.moment F.left_since
+            self.old.store.events.journal.medium.folder
+            self.new.store.events.journal.medium.folder }
+    {
         if self.store.events.journal.closed {
             return Err(KeepError::Closed);
         }
@@ -83,15 +133,67 @@ impl<N: Beginning, F: Folder + Drop> Keeper for StoreKeeper<N, F> {
         }
     }
 
-    fn close(&mut self) {
+    /// What lies beside the journal stays.
+    fn close(&mut self)
+        requires { self.old.store.events.journal.closed ≡ false }
+        ensures held { (events more : List Change)
+            → ⟦<StoreKeeper<N, F> as Keeper>⟧.kept_last self.old events more
+            → ⟦<StoreKeeper<N, F> as Keeper>⟧.holds self.new events }
+        ensures any_moment { (events more : List Change)
+            → ⟦<StoreKeeper<N, F> as Keeper>⟧.kept_last self.old events more
+            → LeavesEvents ⟦<StoreKeeper<N, F> as Keeper>⟧.moment
+            ⟦<StoreKeeper<N, F> as Keeper>⟧.left_since
+            ⟦<StoreKeeper<N, F> as Keeper>⟧.stands self.old self.new
+            (AreAllAndSome events more) }
+        ensures closed { self.new.store.events.journal.closed ≡ true }
+        ensures beside { StaysBeside F.shows F.kept F.moment F.left_since
+            self.old.store.events.journal.medium.folder
+            self.new.store.events.journal.medium.folder }
+    {
         self.store.events.close();
     }
 
-    fn checkpoint(
-        &mut self,
-        alloc: Global,
-        snapshot: &Snapshot,
-    ) -> Result<Option<usize>, KeepError> {
+    /// What is none of the store's stays. If blocks were saved, then all of the snapshot was.
+    fn checkpoint(&mut self, alloc: Global, snapshot: &Snapshot) -> Result<Option<usize>, KeepError>
+        requires made { ⟦<StoreKeeper<N, F> as Keeper>⟧.idle ≡ false
+            → (events : List Change) × ⟦<StoreKeeper<N, F> as Keeper>⟧.holds self.old events
+            × IsOfAll N.first.world events (world_of snapshot.now) }
+        ensures held { (events : List Change)
+            → ⟦<StoreKeeper<N, F> as Keeper>⟧.holds self.old events
+            → (⟦<StoreKeeper<N, F> as Keeper>⟧.idle ≡ false
+            → IsOfAll N.first.world events (world_of snapshot.now))
+            → ⟦<StoreKeeper<N, F> as Keeper>⟧.holds self.new events }
+        ensures any_moment { (events : List Change)
+            → ⟦<StoreKeeper<N, F> as Keeper>⟧.holds self.old events
+            → (⟦<StoreKeeper<N, F> as Keeper>⟧.idle ≡ false
+            → IsOfAll N.first.world events (world_of snapshot.now))
+            → self.old.store.events.journal.closed ≡ false
+            → LeavesEvents ⟦<StoreKeeper<N, F> as Keeper>⟧.moment
+            ⟦<StoreKeeper<N, F> as Keeper>⟧.left_since
+            ⟦<StoreKeeper<N, F> as Keeper>⟧.stands self.old self.new (AreAll events) }
+        ensures rests { are_met self.old.terms self.old.store.events.journal.len
+            (length snapshot.now.blocks) ≡ false
+            → (result ≡ Ok None) × (self.new ≡ self.old) }
+        ensures saves { result ≡ Ok None
+            → (are_met self.old.terms self.old.store.events.journal.len
+            (length snapshot.now.blocks) ≡ false)
+            ⊎ (self.old.store.events.journal.closed ≡ true) }
+        ensures open { OnOk result (self.new.store.events.journal.closed
+            ≡ self.old.store.events.journal.closed) }
+        ensures closed { self.old.store.events.journal.closed ≡ true → self.new ≡ self.old }
+        ensures lost { self.new.store.events.journal.closed ≡ true
+            → (self.old.store.events.journal.closed ≡ true)
+            ⊎ (F.failed self.new.store.events.journal.medium.folder ≡ true) }
+        // Where it saves, the journal then has what is saved of the snapshot, and nothing more.
+        ensures len { IfOk result (λ saved. OnSome saved (self.new.store.events.journal.len
+            ≡ length (file_of (contents_with
+            (head_texts (save N.first.values snapshot.now self.new.places.items)) [])))) }
+        ensures counted { IfOk result (λ saved. IfSome saved (λ count.
+            count ≡ length snapshot.now.blocks)) }
+        ensures foreign { KeepsForeign F.shows F.kept
+            self.old.store.events.journal.medium.folder
+            self.new.store.events.journal.medium.folder }
+    {
         if self.store.events.journal.closed {
             return Ok(None);
         }

@@ -14,7 +14,7 @@ ghost use Rattle.head_record.specs.Saved.{Saved};
 ghost use Rattle.store_folder.specs.Faults.{TellsFiles};
 ghost use Rattle.store_folder.specs.Finding.{IsFoundStore};
 ghost use Rattle.store_folder.specs.Origins.{beginning};
-ghost use Rattle.store_folder.specs.Plain.{begins_plain};
+ghost use Rattle.store_folder.specs.Plain.{DeniesFolder, begins_plain};
 ghost use Rattle.store_folder.specs.Starting.{IsNoneOrNothing};
 ghost use Rattle.store_folder.specs.States.{IsAfter, origin_of};
 ghost use Rattle.store_folder.specs.Sweeps.{ListsNumber};
@@ -311,6 +311,9 @@ pub fn add_to_store<F: Folder + Drop>(
     ensures unchanged { IfErr result (λ e. (cause : StartError) → e.0 ≡ ChangeFault.Open cause
         → (cause ≡ StartError.Medium → ⊥)
         → Untouched F.shows F.kept F.moment F.left_since folder e.1) }
+    // A folder is refused for what is wrong with it.
+    ensures refused { IfErr result (λ e. (cause : StartError) → e.0 ≡ ChangeFault.Open cause
+        → DeniesFolder F.shows F.kept F.failed e.1 cause) }
     // That there is no store is told only of a folder that has no journal, and below whose `blocks`
     // a number is listed, or could not be looked for. Then nothing is changed.
     ensures none { IfErr result (λ e. e.0 ≡ ChangeFault.NoStore

@@ -14,7 +14,7 @@ ghost use Rattle.head_record.specs.Saved.{Saved};
 ghost use Rattle.store_folder.specs.Faults.{TellsFiles};
 ghost use Rattle.store_folder.specs.Finding.{IsFoundStore};
 ghost use Rattle.store_folder.specs.Origins.{beginning};
-ghost use Rattle.store_folder.specs.Plain.{begins_plain, may_be_plain};
+ghost use Rattle.store_folder.specs.Plain.{DeniesFolder, begins_plain, may_be_plain};
 ghost use Rattle.store_folder.specs.Starting.{StartFinds};
 ghost use Rattle.store_folder.specs.States.{origin_of};
 ghost use Rattle.store_joiner.specs.Finds.{Finds, FindsNow, other_of};
@@ -212,6 +212,9 @@ pub fn join_store<F: Folder + Drop>(
     // That is told only of a folder that has no journal.
     ensures none { IfErr result (λ e. e.0 ≡ ChangeFault.NoStore
         → F.shows e.1 journal_name None) }
+    // A folder is refused for what is wrong with it.
+    ensures refused { IfErr result (λ e. (cause : StartError) → e.0 ≡ ChangeFault.Open cause
+        → DeniesFolder F.shows F.kept F.failed e.1 cause) }
     // Whatever lies there but a journal of events alone: what is changed is a store that was there.
     // So a folder without a journal, with a damaged one, or without a file of a block that the
     // journal names, stays as it is.

@@ -12,14 +12,14 @@ returns-in-Err-clause-begins g c =
     let f = g.F.Folder in
     only_written f.shows f.kept f.sound f.moment f.left_since g.met.F.Folder.only_now
     (record { world = world_of c.args.snapshot.now; values = c.args.values }) c.args.folder
-    c.write_saved.new.folder c.write_saved.ensures.stays c.requires.none.0 c.requires.none.1
+    c.write_saved.new.folder c.write_saved.ensures.stays
 
 pub returns-in-Err-head_journal-clause-begins : goal.returns-in-Err-head_journal-clause-begins
 returns-in-Err-head_journal-clause-begins g c =
     let f = g.F.Folder in
     only_written f.shows f.kept f.sound f.moment f.left_since g.met.F.Folder.only_now
     (record { world = world_of c.args.snapshot.now; values = c.args.values }) c.args.folder
-    c.write_saved.new.folder c.write_saved.ensures.stays c.requires.none.0 c.requires.none.1
+    c.write_saved.new.folder c.write_saved.ensures.stays
 
 pub returns-in-Ok-begin_journal-clause-finds : goal.returns-in-Ok-begin_journal-clause-finds
 returns-in-Ok-begin_journal-clause-finds g c =
@@ -54,8 +54,7 @@ returns-in-Ok-begin_journal-clause-begins g c =
     c.in-Ok-head_journal.ensures.saved there.1 there.2 in
     begins_so f.shows f.kept f.sound f.moment f.left_since met.only_now met.earlier
     (record { world = world_of s; values = c.args.values }) c.args.folder mid
-    c.in-Ok-begin_journal.begun head there.0 c.deref.result.now c.write_saved.ensures.stays
-    c.requires.none.0 c.requires.none.1 next
+    c.in-Ok-begin_journal.begun head there.0 c.deref.result.now c.write_saved.ensures.stays next
     (subst (IsJournalText (contents_with (head_texts head) [])) (sym c.deref.ensures.value)
     c.in-Ok-head_journal.ensures.text)
     c.in-Ok-begin_journal.ensures.any_moment c.in-Ok-begin_journal.ensures.others
@@ -74,8 +73,7 @@ returns-clause-begins g c =
     c.in-Ok-head_journal.ensures.saved there.1 there.2 in
     begins_so f.shows f.kept f.sound f.moment f.left_since met.only_now met.earlier
     (record { world = world_of s; values = c.args.values }) c.args.folder mid
-    c.in-Err-begin_journal.folder head there.0 c.deref.result.now c.write_saved.ensures.stays
-    c.requires.none.0 c.requires.none.1 next
+    c.in-Err-begin_journal.folder head there.0 c.deref.result.now c.write_saved.ensures.stays next
     (subst (IsJournalText (contents_with (head_texts head) [])) (sym c.deref.ensures.value)
     c.in-Ok-head_journal.ensures.text)
     c.in-Err-begin_journal.ensures.any_moment c.in-Err-begin_journal.ensures.others

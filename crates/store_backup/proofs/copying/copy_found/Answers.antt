@@ -19,7 +19,7 @@ returns-in-Ok-begin_with-clause-copied g c =
           c.values.ensures c.in-Ok-begin_with.ensures.finds;
       events = search rules;
       blocks = as_many c.blocks-2.result.now s c.blocks-2.ensures;
-      begins = subst (λ (values : Values). Begins f.shows f.kept f.sound f.moment f.left_since
+      begins = subst (λ (values : Values). Begins f.shows f.kept f.moment f.left_since
           (record { world = world_of s; values = values }) c.args.target new) c.values.ensures
           c.in-Ok-begin_with.ensures.begins;
     }

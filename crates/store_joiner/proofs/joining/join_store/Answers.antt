@@ -4,6 +4,7 @@ use Rattle.data_folder.specs.Folders.{LeavesOnly}
 use Rattle.std.specs.Prelude.{List, Ok, Option, Result}
 use Rattle.store_folder.specs.Faults.{GivesStore, IsStoreOf}
 use Rattle.store_folder.specs.Origins.{Origin}
+use Rattle.store_folder.specs.Plain.{DeniesFolder}
 use Rattle.store_folder.specs.States.{origin_of}
 use Rattle.store_folder.specs.declared.error.StartError.{StartError}
 use Rattle.store_folder.specs.declared.reading.FoundStore.{FoundStore}
@@ -90,6 +91,13 @@ returns-in-Err-clause-stays g c tells saved parts events h plain unless =
     (origin_of saved parts) events old new
     (has_for f.shows f.kept saved parts events old h)
     (c.open_store.ensures.whole tells (Some h.file) h.has.shown plain))
+
+pub returns-in-Err-clause-refused : goal.returns-in-Err-clause-refused
+returns-in-Err-clause-refused g c cause is =
+    let f = g.F.Folder in
+    let same : c.in-Err.error ≡ cause = cc in
+    subst (λ (e : StartError). DeniesFolder f.shows f.kept f.failed c.open_store.new.folder e) same
+    c.in-Err.ensures.refused
 
 pub returns-in-Some-clause-foreign : goal.returns-in-Some-clause-foreign
 returns-in-Some-clause-foreign g c =

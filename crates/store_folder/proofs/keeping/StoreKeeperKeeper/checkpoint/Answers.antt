@@ -1,4 +1,5 @@
 use Rattle.std.proofs.Common.{map, refl}
+use Rattle.data_folder.proofs.Foreign.{foreign_rests}
 use Rattle.head.specs.Blocks.{part_in}
 use Rattle.keeper.specs.Finding.{AreAll}
 use Rattle.store_folder.specs.KeeperLaws.{as_store}
@@ -53,3 +54,29 @@ returns-in-Err-clause-any_moment g c events held world opened =
           c.args.self.now.store.events.journal.medium.folder c.roll.new.self.store.events.journal.medium.folder (AreAll events)
           (these_alone f.moment f.left_since g.N.Beginning.first events c.args.self.now.store.events.journal.medium.folder c.roll.new.self.store.events.journal.medium.folder found) t left le had;
     }
+
+-- what is none of the store's
+
+pub returns-then-self-clause-foreign : goal.returns-then-self-clause-foreign
+returns-then-self-clause-foreign g c =
+    let f = g.F.Folder in
+    foreign_rests f.shows f.kept c.args.self.now.store.events.journal.medium.folder
+
+pub returns-then-not-are_met-clause-foreign : goal.returns-then-not-are_met-clause-foreign
+returns-then-not-are_met-clause-foreign g c =
+    let f = g.F.Folder in
+    foreign_rests f.shows f.kept c.args.self.now.store.events.journal.medium.folder
+
+pub returns-in-Ok-clause-foreign : goal.returns-in-Ok-clause-foreign
+returns-in-Ok-clause-foreign g c = c.in-Ok.ensures.foreign
+
+pub returns-in-Err-clause-foreign : goal.returns-in-Err-clause-foreign
+returns-in-Err-clause-foreign g c = c.in-Err.ensures.foreign
+
+-- what was saved
+
+pub returns-in-Ok-clause-len : goal.returns-in-Ok-clause-len
+returns-in-Ok-clause-len g c = c.in-Ok.ensures.len
+
+pub returns-in-Ok-clause-counted : goal.returns-in-Ok-clause-counted
+returns-in-Ok-clause-counted g c = c.in-Ok.ensures.counted

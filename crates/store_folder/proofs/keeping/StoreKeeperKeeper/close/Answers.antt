@@ -34,3 +34,6 @@ returns-clause-any_moment g c events more last =
       before = λ t left le had. before_kept f.moment f.left_since g.N.Beginning.first
           old.medium.folder new.medium.folder (AreAllAndSome events more) found t left le had;
     }
+
+pub returns-clause-beside : goal.returns-clause-beside
+returns-clause-beside g c = c.close.ensures.beside

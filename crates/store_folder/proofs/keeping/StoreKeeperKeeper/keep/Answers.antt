@@ -1,4 +1,5 @@
 use Rattle.std.proofs.Common.{◌≡◌, true, false, inl, map, sym, ◌∙◌}
+use Rattle.data_folder.specs.JournalLaws.{all_stays}
 use Rattle.head.specs.Blocks.{part_in}
 use Rattle.store_folder.proofs.Fronts.{open_like}
 use Rattle.store_folder.proofs.Kept.{before_kept, each_kept, like_last, like_more, like_stays}
@@ -129,3 +130,17 @@ pub returns-in-Err-clause-failed : goal.returns-in-Err-clause-failed
 returns-in-Err-clause-failed g c said =
     told_failed c.in-Err.error c.keep_error.result c.keep_error.ensures c.in-Err.ensures.other said
     c.in-Err.ensures.medium
+
+-- what lies beside the journal
+
+pub returns-then-self-clause-beside : goal.returns-then-self-clause-beside
+returns-then-self-clause-beside g c =
+    let f = g.F.Folder in
+    all_stays f.shows f.kept f.moment f.left_since
+    c.args.self.now.store.events.journal.medium.folder
+
+pub returns-in-Ok-clause-beside : goal.returns-in-Ok-clause-beside
+returns-in-Ok-clause-beside g c = c.in-Ok.ensures.beside
+
+pub returns-in-Err-clause-beside : goal.returns-in-Err-clause-beside
+returns-in-Err-clause-beside g c = c.in-Err.ensures.beside
