@@ -15,7 +15,7 @@ TESTS_OF := kept_tests:kept_walk,kept_world,state_search,reply_state,store_audit
 	tests/serving.sh:guard \
 	tests/durable/run.py:keeper,event_journal,cut_schedule,folder_lock,data_folder,store_joiner,store_backup \
 	tests/scraping.sh:server_metrics \
-	tests/live/run.py:waiting_room \
+	tests/live/run.py:waiting_room,text_choices,page_requests,answer_pages \
 	tests/importing.sh:imported_values,kept_samples,time_cuts,block_folder,block_outputs,double_text,open_metrics,metrics_writer,exposition,blocktool \
 	tests/pages-html.py:page_layout,page_style,page_escape,page_text,page_claims,page_marks,page,asked_series,explain
 # The crate or the script with the tests of a crate, or nothing.

@@ -38,10 +38,12 @@ BESIDE = [
     ("serving", "querier", "curl awk python3", "tests/serving.sh"),
     ("nginx", "querier", "nginx openssl curl python3", "tests/nginx.sh"),
     ("browser", "querier", "chromium curl python3", "tests/browser.sh"),
+    ("port-browser", "querier", "chromium", "tests/port-browser.py"),
     (
         "live", "querier", "prometheus promtool vmagent",
         "tests/live/run.py rules hostile meanings same viewer shared vmagent",
     ),
+    ("live-pages", "querier", "", "tests/live/run.py pages"),
     ("scaling", "querier auditor", "rustc", "tests/scaling.py"),
     ("readme", ALL, "curl python3", "tests/readme.sh"),
     ("pages", ALL, "", "tests/pages.py"),

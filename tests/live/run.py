@@ -1,14 +1,15 @@
 #!/usr/bin/env python3
 """Holds the port of Prometheus against real senders and readers, and against hand-made bodies.
 
-    tests/live/run.py [PART..]   rules hostile silent meanings same viewer shared killed vmagent; all if none is
-    named
+    tests/live/run.py [PART..]   rules pages hostile silent meanings same viewer shared killed vmagent; all if
+    none is named
 
-QUERIER names the program, or PREFIX says where `make install` put it; else it is built (RT). `rules`,
+QUERIER names the program, or PREFIX says where `make install` put it; else it is built (RT). `rules`, `pages`,
 `hostile`, `silent` and `meanings` need nothing else, `same`, `viewer`, `shared` and `killed` need prometheus and
 promtool, `vmagent` needs vmagent. SECONDS is how long a Prometheus scrapes (45), KILLS how often the store is
 killed (20)."""
 import contextlib
+import hashlib
 import json
 import os
 import pathlib
@@ -28,6 +29,7 @@ import urllib.request
 HERE = pathlib.Path(__file__).resolve().parent
 sys.path[:0] = [str(HERE.parent), str(HERE)]
 import lib  # noqa: E402
+import shown  # noqa: E402
 import wire  # noqa: E402
 
 SECONDS = int(os.environ.get("SECONDS") or 45)
@@ -188,6 +190,7 @@ def rules(room):
         holds("another method", wire.ask(port, "/api/v1/write", None, {}, "GET")[0] == 405)
         holds("the version is told", wire.ask(port, "/api/v1/status/buildinfo", None, {}, "GET")[0] == 200)
         reads(store, at)
+        patterns(store, at)
         replies, connections = counted(status_port)
         wanted = {status: count for (of, status), count in wire.replies.items() if of == port}
         told_of = {status: count for status, count in replies.items() if count}
@@ -220,6 +223,46 @@ def reads(store, at):
     holds("a pattern that is none is refused", wire.read(store.port, 0, 1, [(2, "a", "(")])[0] == 400)
 
 
+def patterns(store, at):
+    """A choice of many texts, as Grafana's variables write one, and the limits of reads and of match[]."""
+    for host in ["host000", "host059", "host060"]:
+        for end in ["", "0"]:
+            labels = [("__name__", "of_host"), ("instance", f"{host}.example.org:910{end}")]
+            wire.write(store.port, [(labels, [(at, wire.bits_of(1.0))])])
+    wire.write(store.port, [([("__name__", "of_host"), ("instance", "host000é.example.org:9100")], [(at, 0)])])
+    hosts = [f"host{number:03}.example.org:9100" for number in range(60)]
+    plain = "|".join(hosts)
+    form = {"Content-Type": "application/x-www-form-urlencoded"}
+
+    def listed(selector):
+        status, _, reply = wire.ask(store.port, "/api/v1/series", urllib.parse.urlencode({"match[]": selector}), form)
+        reply = json.loads(reply)
+        return (status, len(reply["data"])) if status == 200 else (status, reply["cause"])
+
+    for pattern, count in [
+        (plain, 2), (f"({plain})", 2), (plain.replace(".", "\\."), 2), (f"({plain})".replace(".", "\\."), 2),
+        (plain.replace("000", "..."), 3), (plain.replace("000", "000."), 2), (f"|{plain}", 2), ("x" * 257, 0),
+        ("|".join(hosts * 43), 2), ("x" * 65_536, 0),
+    ]:
+        about = f"a pattern of {len(pattern)} bytes, {pattern[:26]}"
+        for kind, wanted in [(2, count), (3, 7 - count)]:
+            status, series = wire.read(store.port, 0, at, [(0, "__name__", "of_host"), (kind, "instance", pattern)])
+            holds(f"{about}: {kind} reads {wanted}", (status, len(series)) == (200, wanted))
+        text = pattern.replace("\\", "\\\\")
+        holds(f"{about} is listed", listed(f'of_host{{instance=~"{text}"}}') == (200, count))
+    for pattern, cause in [
+        ("x" * 65_537, "M3"), ("|".join(hosts * 44), "M3"), (f"{plain}.*", "M3"), (f"a({plain})", "M3"), ("a)(b", "M2"),
+    ]:
+        status, reply = wire.read(store.port, 0, at, [(2, "instance", pattern)])
+        holds(f"a read of {pattern[:9]}.. is refused", (status, json.loads(reply)["cause"]) == (400, cause))
+        holds(f"a match[] of {pattern[:9]}.. is refused", listed(f'{{instance=~"{pattern}"}}') == (400, cause))
+    for count, status, cause in [(64, 200, None), (65, 400, "M5")]:
+        matchers = [(0, "__name__", "of_host")] * count
+        holds(f"a read with {count} matchers", wire.read(store.port, 0, at, matchers)[0] == status)
+        selector = "{" + ",".join(['__name__="of_host"'] * count) + "}"
+        holds(f"a match[] with {count} matchers", listed(selector) == (status, 7 if status == 200 else cause))
+
+
 def guarded(room):
     token = pathlib.Path(room) / "token"
     token.write_text("a-long-token\n")
@@ -236,6 +279,200 @@ def guarded(room):
     with store_in(room, "--read-only", name="guarded") as store:
         holds("a store that is read only takes no write", wire.write(store.port, sample)[0] == 404)
         holds("and is read", len(wire.read(store.port, 0, 2**61, [(0, "__name__", "up")])[1]) == 1)
+
+
+def asked(store, headers=None, **words):
+    """The reply to a request for a page: its status, and the page, or the text of a refusal."""
+    path = f"/page?{urllib.parse.urlencode(words)}"
+    status, fields, body = wire.ask(store.port, path, None, headers, "GET")
+    if status != 200:
+        return status, body.decode()
+    holds("a page is HTML", fields["content-type"] == "text/html; charset=utf-8")
+    page = shown.Page(body.decode())
+    faults = page.faults(form=False)
+    holds(f"a page has no script, and fetches nothing, but {faults}", not faults)
+    return status, page
+
+
+def rows_of(store, **words):
+    """The rows of a page, as series and figures."""
+    status, page = asked(store, **words)
+    if status != 200:
+        return status, page
+    return [tuple(row[name] for name in ["series", *shown.FIGURES]) for row in page.rows]
+
+
+# A value that would be markup, the series that has it, as a selector writes it, and as a page shows it.
+MARKUP = '<script>alert("1")</script>&\'<b>'
+MARKED = 'gauge{job="<script>alert(\\"1\\")</script>&\'<b>"}'
+# What is written of each series, a second apart, and how a page shows it: how many samples, the first, the last,
+# the least and the greatest, as Prometheus prints them.
+WRITTEN = [
+    (MARKED, MARKUP, [2.0, float("nan"), float("inf")], ("3", "2", "+Inf", "2", "+Inf")),
+    ('gauge{job="a"}', "a", [0.25, 1.5, -0.1], ("3", "0.25", "-0.1", "-0.1", "1.5")),
+    ('gauge{job="b"}', "b", [3.0, 1e6, 1e-5], ("3", "3", "1e-05", "1e-05", "1e+06")),
+]
+REFUSED = [
+    ("H5", None, ["", "from=1&to=2", "selector=up&selector=up", "selector=up&limit=1", "selector=up&from=01",
+                  "selector=up&from=1e3", "selector=up&to=1.5", "selector=up&to=+1", "selector=up&from=-0",
+                  "selector=up&to=4611686018427387904", "selector=up&from=-4611686018427387905",
+                  "selector=up&from=2&to=1", "selector=up&to=1&to=1", "selector=up&about=up&about=up",
+                  "selector=up&about=&about=", "Selector=up", "selector=up%7B&about=1&x"]),
+    ("H6", "M4", ["selector", "selector=", "selector=up%7B", "selector=up%7Bjob%3Da%7D", "selector=up%7B&about=1",
+                  "selector=%3Cscript%3E"]),
+    ("H6", "M6", ["selector=%7B%7D"]),
+    ("H6", "M5", ["selector=%7B" + ",".join(["a%3D%22b%22"] * 17) + "%7D"]),
+    ("H6", "M3", [f"selector=%7Bjob%3D~%22{'a' * 257}%22%7D"]),
+    ("H6", "M2", ["selector=%7Bjob%3D~%22a%29%28b%22%7D"]),
+    ("G16", None, ["selector=up&about=up%7Bjob%21%3D%22a%22%7D", "selector=up&about=1+2",
+                   "selector=up&about=up%7Ba%3D%221%22%2Ca%3D%222%22%7D", "about=%7B&selector=up"]),
+]
+
+
+def pages(room):
+    """The form, and pages of answers: they show what was written, and text from outside as a text."""
+    at = now() - 60_000
+    with store_in(room) as store:
+        for path in ["/", "/?selector=up"]:
+            status, fields, body = wire.ask(store.port, path, None, {}, "GET")
+            form = shown.Page(body.decode())
+            holds(f"{path} is HTML", (status, fields["content-type"]) == (200, "text/html; charset=utf-8"))
+            holds(f"the form has no script, and fetches nothing, but {form.faults(form=True)}",
+                  not form.faults(form=True))
+            names = [one.get("name") for tag, one in form.elements if tag in ("input", "button", "textarea")]
+            holds(f"its fields are {names}", names == ["selector", "from", "to", "about", None])
+        empty = asked(store, selector="gauge")[1]
+        holds("an empty store has no row", empty.rows == [] and "No series is missing" in empty.text)
+        series = [(UP, [(at, wire.bits_of(1.0))])]
+        for _, job, values, _ in WRITTEN:
+            samples = [(at + 1000 * number, wire.bits_of(value)) for number, value in enumerate(values)]
+            series.append(([("__name__", "gauge"), ("job", job)], samples))
+        holds("samples are taken", wire.write(store.port, series)[0] == 200)
+        whole = [(text, *figures, "head") for text, _, _, figures in WRITTEN]
+        rows_are(store, "all that was written", whole, selector="gauge")
+        questions(store, at, whole)
+        refusals(store)
+        blocks(store, at, whole)
+        many(store, at)
+    admitted(room, at)
+
+
+def rows_are(store, name, wanted, **words):
+    found = rows_of(store, **words)
+    if found != wanted:
+        print(found, wanted)
+    holds(f"a page has {name}", found == wanted)
+
+
+def questions(store, at, whole):
+    """Selectors, ranges, and series that are asked about."""
+    middle = [(row[0], "1", *[value] * 4, "head") for row, value in zip(whole, ["NaN", "1.5", "1e+06"])]
+    rows_are(store, "one moment", middle, selector="gauge", **{"from": at + 1000, "to": at + 1000})
+    rows_are(store, "all, with empty fields", whole, **{"about": "", "to": "", "from": "", "selector": "gauge"})
+    rows_are(store, "nothing after all", [], selector="gauge", **{"from": at + 2001})
+    rows_are(store, "the series of a text that would be markup", whole[:1], selector=MARKED)
+    rows_are(store, "those of a pattern", whole[1:], selector='{job=~"a|b",__name__!="up"}')
+    page = asked(store, selector=MARKED, about=MARKED)[1]
+    holds("what is asked is shown as a text", page.text.count(MARKED) >= 3)
+    holds("what is asked about, too", f"{MARKED}It is in the answer, as row 1." in page.text)
+    for about, said in [
+        ('gauge{job="b"}', "It is in the answer, as row 3."),
+        ('up{job="a"}', 'It is not in the answer, since __name__="gauge" rejects these labels'),
+        ('gauge{job="c"}', "Every matcher accepts these labels, and it is not a row."),
+    ]:
+        page = asked(store, selector="gauge", about=about)[1]
+        holds(f"{about}: {said}", said in page.text)
+    holds("nobody judged", "No series is missing, by the certificates below. Nobody judged: head." in page.text)
+    words = urllib.parse.urlencode({"selector": "gauge", "from": -(2**62), "to": 2**62 - 1})
+    with urllib.request.urlopen(f"http://127.0.0.1:{store.running.port}/select?{words}") as reply:
+        text = reply.read()
+    holds("the reply of the first port is what a page shows",
+          f"a reply of {len(text):,} bytes; their SHA-256 is {hashlib.sha256(text).hexdigest()}" in page.text)
+
+
+def refusals(store):
+    """What is refused, and with which code."""
+    for code, cause, queries in REFUSED:
+        line = {"refused": code} if cause is None else {"cause": cause, "refused": code}
+        for query in queries:
+            status, fields, body = wire.ask(store.port, f"/page?{query}", None, {}, "GET")
+            refused = (status, fields["content-type"], json.loads(body)) == (400, "application/json", line)
+            holds(f"{query[:60]} is refused with {code}: {status} {body[:60]}", refused)
+    for method, path, wanted in [
+        ("GET", "/page", (400, "H5")), ("GET", "/page/", (404, "H3")), ("GET", "/page/x?selector=up", (404, "H3")),
+        ("GET", "//", (404, "H3")), ("GET", "/index.html", (404, "H3")), ("GET", "/favicon.ico", (404, "H3")),
+        ("HEAD", "/", (405, None)), ("HEAD", "/page?selector=up", (405, None)), ("POST", "/", (405, "H4")),
+        ("POST", "/page", (405, "H4")), ("PUT", "/page?selector=up", (405, "H4")), ("DELETE", "/", (405, "H4")),
+    ]:
+        form = {"Content-Type": "application/x-www-form-urlencoded"} if method == "POST" else {}
+        status, _, body = wire.ask(store.port, path, b"selector=up" if form else None, form, method)
+        got = (status, json.loads(body)["refused"] if body else None)
+        holds(f"{method} {path}: {got}", got == wanted)
+    long = raw(store.port, b"GET /page?selector=up&about=" + b"a" * 9000 + b" HTTP/1.1\r\nHost: a\r\n\r\n")
+    holds("a head of more than 8,192 bytes", long.startswith(b"HTTP/1.1 431 "))
+    holds("HTTP/1.0 without a Host is taken",
+          raw(store.port, b"GET /page?selector=up HTTP/1.0\r\n\r\n").startswith(b"HTTP/1.1 200 OK\r\n"))
+
+
+def blocks(store, at, whole):
+    """Pages over a block and the head, of a block that is skipped, and of samples that are deleted."""
+    first = lambda path, body: wire.ask(store.running.port, path, json.dumps(body).encode())[0]
+    holds("a block is made", first("/cut", {"at": at + 1500}) == 200)
+    both = [(*row[:6], "block 0, head") for row in whole]
+    rows_are(store, "the rows of a block and the head", both, selector="gauge")
+    late = [(row[0], "1", *[value] * 4, "head") for row, value in zip(whole, ["+Inf", "-0.1", "1e-05"])]
+    status, page = asked(store, selector="gauge", **{"from": at + 1500})
+    rows_are(store, "what the head has", late, selector="gauge", **{"from": at + 1500})
+    holds("a block is skipped", status == 200 and "1 part is told to be skipped" in page.text
+          and "Told to be skipped: block 0" in page.text and "Nobody judged: head, block 0." in page.text)
+    deletion = {"from": at, "selector": '{job="a"}', "to": at}
+    holds("samples are deleted", first("/delete", deletion) == 200)
+    fewer = [both[0], (whole[1][0], "2", "1.5", "-0.1", "-0.1", "1.5", "block 0, head"), both[2]]
+    rows_are(store, "no deleted sample", fewer, selector="gauge")
+    early = {"from": at, "to": at}
+    rows_are(store, "no row without a sample", [], selector='gauge{job="a"}', **early)
+    page = asked(store, selector="gauge", about='gauge{job="a"}', **early)[1]
+    holds("a series whose sample is deleted is no row", "or it was deleted" in page.text)
+    store.kill()
+    store.start()
+    rows_are(store, "the same after a new start", fewer, selector="gauge")
+
+
+def many(store, at):
+    """Of an answer of many rows the first 50 are shown, and all are counted."""
+    names = sorted(str(number) for number in range(120))
+    series = [([("__name__", "many"), ("n", name)], [(at + 5000, wire.bits_of(int(name) / 2))]) for name in names]
+    holds("many series are taken", wire.write(store.port, series)[0] == 200)
+    halves = [f"{int(name) // 2}.5" if int(name) % 2 else str(int(name) // 2) for name in names]
+    wanted = [(f'many{{n="{name}"}}', "1", *[half] * 4, "head") for name, half in zip(names, halves)]
+    rows_are(store, "50 rows of many", wanted[:50], selector="many")
+    page = asked(store, selector="many")[1]
+    holds("all are counted", "120 are one matching series each" in page.text)
+
+
+def admitted(room, at):
+    """Who may ask for pages, with a guard and of a store that nobody may change."""
+    token = pathlib.Path(room) / "token_of_pages"
+    token.write_text("a-long-token\n")
+    token.chmod(0o600)
+    wanted = [('up{job="a"}', "1", "0.5", "0.5", "0.5", "0.5", "head")]
+    elsewhere = {"Origin": "http://elsewhere"}
+    with store_in(room, name="open") as store:
+        holds("without a guard a page of a browser may ask", asked(store, elsewhere, selector="up")[0] == 200)
+    with store_in(room, "--guard", str(token), name="guarded") as store:
+        bearer = {"Authorization": "Bearer a-long-token"}
+        sample = [(UP, [(at, wire.bits_of(0.5))])]
+        holds("a write with the token", wire.write(store.port, sample, bearer)[0] == 200)
+        rows_are(store, "what it has, without a token", wanted, selector="up")
+        for host in ["127.0.0.1", f"127.0.0.1:{store.port}", f"localhost:{store.port}", f"[::1]:{store.port}"]:
+            holds(f"Host: {host}", asked(store, {"Host": host}, selector="up")[0] == 200)
+        for headers in [elsewhere, {"Origin": "null"}, {"Host": f"elsewhere:{store.port}"}, {"Host": ""}]:
+            for path in ["/", "/page?selector=up", "/page?selector=up%7B", "/none"]:
+                status, _, body = wire.ask(store.port, path, None, headers, "GET")
+                holds(f"{path} with {headers}: {status}", (status, json.loads(body)) == (403, {"refused": "H12"}))
+    with store_in(room, "--read-only", name="guarded") as store:
+        rows_are(store, "what a store has that is read only", wanted, selector="up")
+        holds("and there is the form", wire.ask(store.port, "/", None, {}, "GET")[0] == 200)
 
 
 def raw(port, content, wait=10):
@@ -599,7 +836,8 @@ def meanings(room):
 
 
 PARTS = {
-    "rules": (rules, []), "hostile": (hostile, []), "silent": (silent, []), "meanings": (meanings, []),
+    "rules": (rules, []), "pages": (pages, []), "hostile": (hostile, []), "silent": (silent, []),
+    "meanings": (meanings, []),
     "same": (same, ["prometheus", "promtool"]), "viewer": (viewer, ["prometheus"]),
     "shared": (shared, ["prometheus", "promtool"]), "killed": (killed, ["prometheus", "promtool"]),
     "vmagent": (vmagent, ["vmagent"]),
