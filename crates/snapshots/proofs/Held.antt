@@ -1,16 +1,11 @@
 -- What a keeper has come to hold.
-use Rattle.std.proofs.Common.{◌≡◌, ℕ, Bool, false, List, [], ◌++◌, Ok, inl, inr, sym, ap, subst, ◌∙◌}
+use Rattle.std.proofs.Common.{◌≡◌, List, [], inl, inr, sym, ap, subst, ◌∙◌}
 use Rattle.std.proofs.lemmas.List.{append-nil}
 use mathlib.Core.List.{IsPrefix}
-use Rattle.head.specs.Heads.{SnapshotParts, world_of}
-use Rattle.head.specs.Worlds.{Event, World, replayed}
+use Rattle.head.specs.Worlds.{Event}
 use Rattle.snapshots.specs.declared.entry.Entry.{Entry}
-use Rattle.snapshots.specs.declared.entry.Mark.{Mark}
-use Rattle.snapshots.specs.Keeping.{kept_of, AreHeld, IsGroup, OpensAsKept, PublishesHeld}
-use Rattle.snapshots.specs.Marks.{accepted, list_of}
-use Rattle.snapshots.specs.Replays.{events_in}
+use Rattle.snapshots.specs.Keeping.{kept_of, AreHeld, PublishesHeld}
 use Rattle.snapshots.specs.Seats.{SeatView, HasOneMoreEvent}
-use Rattle.snapshots.proofs.Keeps.{kept_more, of_all_kept}
 use Rattle.snapshots.proofs.Prefixes.{prefix_self, prefix_trans}
 
 module _ {K : Type 0} (holds : K → List Event → Type 0) (before : List Event) where
@@ -56,12 +51,3 @@ module _ {K : Type 0} (holds : K → List Event → Type 0) (before : List Event
   publishes_more old between new (inr held) (inl still) =
       inr (held_as between.seen new.seen (ap (λ (s : SeatView). s.seen) still) held)
   publishes_more old between new first (inr held) = inr held
-
--- what is kept, and the events of a group behind it, are accepted
-pub group_accepted : (idle : Bool) (first : World) (before : List Event) (opening : SnapshotParts) (group : List Mark) (s : SnapshotParts)
-    (counts bytes : List ℕ) → IsGroup opening idle group s counts bytes → (xs : List Entry) → accepted group ≡ xs
-    → (more : List Entry) → list_of group ≡ xs ++ more → OpensAsKept idle first before opening → idle ≡ false
-    → replayed first (kept_of before xs ++ events_in more) ≡ Ok (world_of s)
-group_accepted idle first before opening group s counts bytes is_group xs follows more is opens keeps =
-    ap (replayed first) (sym (ap (kept_of before) is ∙ kept_more before xs more))
-    ∙ of_all_kept idle first before opening (list_of group) s opens is_group.stands.after keeps

@@ -1,6 +1,6 @@
 -- Events are kept, and then published.
-use Rattle.std.proofs.Common.{◌≡◌, ◌⊎◌, ℕ, zero, suc, Result, Ok, Err, OnOk, is_ok, if◌then◌else◌, Bool, true, false, List, [], ◌∷◌, ◌++◌, take, drop, inl, inr, refl, sym, ap, subst, ◌∙◌, append_assoc}
-use Rattle.std.proofs.lemmas.List.{map-append, map_push, take-append-drop}
+use Rattle.std.proofs.Common.{◌≡◌, ◌⊎◌, ℕ, zero, suc, Result, Ok, Err, OnOk, is_ok, if◌then◌else◌, Bool, true, false, List, [], ◌∷◌, ◌++◌, take, inl, inr, refl, sym, ap, subst, ◌∙◌, append_assoc}
+use Rattle.std.proofs.lemmas.List.{map-append, map_push}
 use Rattle.std.specs.List.{AllByRecursion}
 use Rattle.head.specs.Heads.{SnapshotParts, world_of}
 use Rattle.head.specs.Refusals.{Refusal}
@@ -12,13 +12,13 @@ use Rattle.journal.proofs.Keeping.{record_more}
 use Rattle.journal.proofs.Loops.{records_one}
 use Rattle.journal.specs.Group.{AreRecords}
 use Rattle.journal.specs.Records.{records_of}
-use Rattle.keeper.specs.Finding.{AreAllAndSome, FindsWorld, IsOfAll, LeavesEvents, StandsForSome}
+use Rattle.keeper.specs.Finding.{AreAllAndSome, LeavesEvents}
 use Rattle.keeper.specs.Together.{IsKept, SpellTogether, texts_of}
 use Rattle.keeper.specs.declared.error.KeepError.{KeepError}
 use Rattle.keeper.specs.declared.error.KeepError.TheVariants as keep
 use Rattle.keeper.proofs.Finds.{wider}
 use Rattle.snapshots.specs.declared.entry.Entry.{Entry}
-use Rattle.snapshots.specs.Keeping.{keep_refusal, kept_of, AreAllOrNone, IsOfAllKept, IsOfKeeping, IsOfKeptAndSome, IsRecordFor, OpensAsKept, SpellAll}
+use Rattle.snapshots.specs.Keeping.{keep_refusal, kept_of, AreAllOrNone, IsOfAllKept, IsOfKeeping, IsRecordFor, OpensAsKept, SpellAll}
 use Rattle.snapshots.specs.Replays.{events_in, IsAfter, IsOfStore}
 
 -- events more are to be kept
@@ -153,25 +153,3 @@ module _ {K L : Type 0} (moment : K → ℕ) (left_since : K → ℕ → L → T
       let s = spelled_by idle more bytes all in
       wider moment left_since stands old new (AreAllAndSome events s.0) (AreAllAndSome events more) (λ found some. at_most events more s.0 found s.1 some)
       (leaves s.0 s.2)
-
--- what begins events that are accepted is accepted
-front_accepted : (r : Result World Refusal) (xs ys : List Event) (w : World) → replayed_from r (xs ++ ys) ≡ Ok w
-    → (u : World) × (replayed_from r xs ≡ Ok u)
-front_accepted (Ok v) [] ys w is = (v, refl)
-front_accepted (Err x) [] [] w is = absurd (cc is)
-front_accepted (Err x) [] (e ∷ es) w is = absurd (cc is)
-front_accepted (Err x) (e ∷ es) ys w is = absurd (cc is)
-front_accepted (Ok v) (e ∷ es) ys w is = front_accepted (stepped v e) es ys w is
-
--- a start that finds what is left finds a world, if the events that it stands for are accepted
-module _ {L : Type 0} (stands : L → List Event → Type 0) (makes : L → World → Type 0) (first : World)
-    (finds : (left : L) (events : List Event) (w : World) → stands left events → IsOfAll first events w → makes left w) where
-  pub finds_some : (events more : List Event) (w : World) → replayed first (events ++ more) ≡ Ok w
-      → (left : L) → StandsForSome stands (AreAllAndSome events more) left
-      → FindsWorld makes (IsOfKeptAndSome first events more) left
-  finds_some events more w is left s =
-      let few = s.2.0 in
-      let parts : (events ++ take few more) ++ drop few more ≡ events ++ more =
-      append_assoc events (take few more) (drop few more) ∙ ap (λ (z : List Event). events ++ z) (take-append-drop few more) in
-      let front = front_accepted (Ok first) (events ++ take few more) (drop few more) w (ap (replayed first) parts ∙ is) in
-      (front.0, finds left s.0 front.0 s.1 (ap (replayed first) s.2.1 ∙ front.1), (few, front.1))

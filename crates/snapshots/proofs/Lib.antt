@@ -7,4 +7,5 @@ pub mod Replaying
 pub mod Keeps
 pub mod Tips
 pub mod Held
+pub mod Between
 pub mod Sifts

@@ -1,5 +1,5 @@
 -- How the events of a store are kept.
-use Rattle.std.specs.Prelude.{◌≡◌, ◌⊎◌, ℕ, Bool, true, false, List, [], ◌∷◌, ◌++◌, take, Ok}
+use Rattle.std.specs.Prelude.{◌≡◌, ◌⊎◌, ℕ, Bool, true, false, List, [], ◌∷◌, ◌++◌, Ok}
 use Rattle.std.specs.Prelude.{MatchBool}
 use mathlib.Core.List.{IsPrefix}
 use Rattle.head.specs.Heads.{SnapshotParts, world_of}
@@ -8,6 +8,7 @@ use Rattle.head.specs.declared.error.CommitError.{CommitError}
 use Rattle.head.specs.declared.error.CommitError.TheVariants.{OutOfBounds, OutOfOrder, Duplicate}
 use Rattle.head.specs.declared.error.CommitError.TheVariants.{Limit, CutTooLow, TooManyParts, Seat}
 use Rattle.head.specs.declared.error.CommitError.TheVariants.{Journal, Memory}
+use Rattle.keeper.specs.Finding.{IsOfAll}
 use Rattle.keeper.specs.Together.{SpellTogether}
 use Rattle.keeper.specs.declared.error.KeepError.{KeepError}
 use Rattle.keeper.specs.declared.error.KeepError.TheVariants as keep
@@ -76,10 +77,20 @@ abbrev pub IsOfAllKept : Bool → World → List Event → List Entry → Snapsh
 IsOfAllKept idle first before entries s =
     idle ≡ false → replayed first (kept_of before entries) ≡ Ok (world_of s)
 
--- the world of events that are kept, and of the first few of some more
-abbrev pub IsOfKeptAndSome : World → List Event → List Event → World → Type 0
-IsOfKeptAndSome first events more w =
-    (few : ℕ) × (replayed first (events ++ take few more) ≡ Ok w)
+-- a list on the way from one to another: the first one, or one that begins with it and with which
+-- the second one begins
+abbrev pub IsBetween : List Entry → List Entry → List Entry → Type 0
+IsBetween from to entries = (entries ≡ from) ⊎ (IsPrefix from entries × IsPrefix entries to)
+
+-- these are what is kept of such a list
+abbrev pub AreKeptBetween : List Event → List Entry → List Entry → List Event → Type 0
+AreKeptBetween before from to events =
+    (entries : List Entry) × IsBetween from to entries × (events ≡ kept_of before entries)
+
+-- the world of what is kept of such a list
+abbrev pub IsOfKeptBetween : World → List Event → List Entry → List Entry → World → Type 0
+IsOfKeptBetween first before from to w =
+    (events : List Event) × AreKeptBetween before from to events × IsOfAll first events w
 
 -- the refusal of a store whose keeper refuses so
 abbrev pub keep_refusal : KeepError → CommitError

@@ -19,10 +19,11 @@ pub record Ledger : Type 0 where
   pub counts : List ℕ
   pub parts : SnapshotParts
 
--- what a book has published
-pub record Published : Type 0 where
+-- what a book has published, and its keeper
+pub record Published (K : Type 0) : Type 0 where
   pub entries : List Entry
   pub parts : SnapshotParts
+  pub keeper : K
 
 -- what a pass has seen at its last entry, and what receipts told it
 pub record Known : Type 0 where

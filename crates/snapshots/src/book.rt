@@ -1,12 +1,14 @@
 //! What keeps the events of a store and publishes them.
 
-ghost use Rattle.std.specs.Prelude.{◌≡◌, [], false, true, IfErr, None, OnErr, OnOk, Ok};
+ghost use Rattle.std.specs.Prelude.{◌≡◌, ◌⊎◌, [], false, true, IfErr, None, OnErr, OnOk, Ok};
 ghost use Rattle.std.specs.Arc.{arc_value};
 ghost use mathlib.Core.List.{IsPrefix};
+ghost use Rattle.head.specs.Heads.{world_of};
+ghost use Rattle.keeper.specs.Finding.{AreAll, FindsWorld, LeavesEvents};
 ghost use Rattle.snapshots.specs.Marks.{accepted, list_of};
 ghost use Rattle.snapshots.specs.Grows.{Shows};
-ghost use Rattle.snapshots.specs.Keeping.{AreHeld, IsGroup, IsOfAllKept, IsOfKeeping};
-ghost use Rattle.snapshots.specs.Keeping.{OpensAsKept};
+ghost use Rattle.snapshots.specs.Keeping.{kept_of, AreKeptBetween, IsGroup, IsHindered};
+ghost use Rattle.snapshots.specs.Keeping.{IsOfAllKept, IsOfKeeping, IsOfKeptBetween, OpensAsKept};
 ghost use Rattle.snapshots.specs.Replays.{IsAfter};
 
 use crate::group::Group;
@@ -21,9 +23,9 @@ use std::marker::Model;
 use std::sync::{Mutex, MutexGuard, Wait};
 
 /// What keeps the events of a store and publishes them: the list of the published events, the
-/// writer of the versions, and where the events are kept. Contracts see it as that list and the
-/// published snapshot; what is kept are exactly the events of that list, after those that were kept
-/// before the store was opened.
+/// writer of the versions, and where the events are kept. Contracts see it as that list, the
+/// published snapshot and the keeper; what is kept are exactly the events of that list, after those
+/// that were kept before the store was opened.
 pub struct Book<J: Naming, R: Wait + Drop, K: Keeper + Drop = NoKeeper> {
     log: LogPrefix<J>,
     press: Press<J>,
@@ -37,11 +39,12 @@ impl<J: Naming, R: Wait + Drop, K: Keeper + Drop> Model for Book<J, R, K> {
     ghost use Rattle.snapshots.specs.Keeping.{kept_of, OpensAsKept};
     ghost use Rattle.snapshots.specs.Views.{Published};
 
-    ghost Value = { Published };
+    ghost Value = { Published K };
 
     ghost view = { λ b. record {
       entries = accepted b.log;
       parts = b.press.desk.shown.value.parts;
+      keeper = b.keeper;
     } };
 
     ghost invariant = { λ b.
@@ -60,6 +63,7 @@ impl<J: Naming, R: Wait + Drop, K: Keeper + Drop> Book<J, R, K> {
         ensures { result ≡ record {
           entries = accepted log;
           parts = press.desk.shown.value.parts;
+          keeper = keeper;
         } }
     {
         Book {
@@ -87,14 +91,32 @@ impl<J: Naming, R: Wait + Drop, K: Keeper + Drop> Book<J, R, K> {
         ensures list { OnOk result.1 (self.new.entries ≡ list_of group.log) }
         // What was published stays, and what is new comes behind it.
         ensures begins { IsPrefix self.old.entries self.new.entries }
-        ensures held { AreHeld K.holds J.before self.new.entries }
         ensures parts { OnOk result.1 (self.new.parts ≡ arc_value group.shown) }
-        ensures kept { OnErr result.1 (self.new ≡ self.old) }
+        ensures kept { OnErr result.1 ((self.new.entries ≡ self.old.entries)
+            × (self.new.parts ≡ self.old.parts)) }
         ensures refused { IfErr result.1 (λ e. IsOfKeeping e) }
         ensures journal { IfErr result.1 (λ e. e ≡ CommitError.Journal → K.idle ≡ false) }
+        // `E8` has a cause.
+        ensures cause { IfErr result.1 (λ e. e ≡ CommitError.Journal
+            → IsHindered K.closed K.full K.failed self.old.keeper self.new.keeper) }
         ensures world { IsAfter J.opening self.new.entries self.new.parts }
-        // What is kept makes the world that is published, whatever was kept before the start.
+        // What is kept is what is published, after what was kept before the start.
+        ensures held { K.holds self.new.keeper (kept_of J.before self.new.entries) }
+        // It makes the world that is published.
         ensures durable { IsOfAllKept K.idle K.first J.before self.new.entries self.new.parts }
+        // A closed keeper stays as it is, and nothing is published.
+        ensures closed { K.closed self.old.keeper ≡ true → self.new.keeper ≡ self.old.keeper }
+        ensures open { OnOk result.1 (K.closed self.new.keeper ≡ false) }
+        // Of an open one a crash at any moment of the call leaves what was published before it, and
+        // at most the first few events of the group.
+        ensures in_flight { K.closed self.old.keeper ≡ false
+            → LeavesEvents K.moment K.left_since K.stands self.old.keeper self.new.keeper
+            (AreKeptBetween J.before self.old.entries (list_of group.log)) }
+        // So a start then finds the world of these.
+        ensures finds { K.closed self.old.keeper ≡ false → K.idle ≡ false
+            → (left : K.Left) → K.left_since self.new.keeper (K.moment self.old.keeper) left
+            → FindsWorld K.makes
+            (IsOfKeptBetween K.first J.before self.old.entries (list_of group.log)) left }
     {
         if !group.log.accepts_as(&self.log) {
             let mut tip = taken(&self.rt, tip, held);
@@ -117,7 +139,20 @@ impl<J: Naming, R: Wait + Drop, K: Keeper + Drop> Book<J, R, K> {
     /// Saves what is published in the place of the events that made it, if its keeper finds that
     /// worth it. What is kept and what is published stays the same, whatever is answered.
     pub fn checkpoint(&mut self, alloc: Global) -> Result<Option<usize>, KeepError>
-        ensures same { self.new ≡ self.old }
+        ensures same { (self.new.entries ≡ self.old.entries) × (self.new.parts ≡ self.old.parts) }
+        ensures held { K.holds self.new.keeper (kept_of J.before self.new.entries) }
+        // A closed keeper stays as it is. An open one closes for no cause but that writing failed.
+        ensures closed { K.closed self.old.keeper ≡ true → self.new.keeper ≡ self.old.keeper }
+        ensures lost { K.closed self.new.keeper ≡ true
+            → (K.closed self.old.keeper ≡ true) ⊎ (K.failed self.new.keeper ≡ true) }
+        // Of an open one a crash at any moment of the call leaves exactly what is kept.
+        ensures any_moment { K.closed self.old.keeper ≡ false
+            → LeavesEvents K.moment K.left_since K.stands self.old.keeper self.new.keeper
+            (AreAll (kept_of J.before self.old.entries)) }
+        // So a start then finds the world that is published.
+        ensures finds { K.closed self.old.keeper ≡ false → K.idle ≡ false
+            → (left : K.Left) → K.left_since self.new.keeper (K.moment self.old.keeper) left
+            → K.makes left (world_of self.old.parts) }
         ensures needed { K.idle ≡ true → result ≡ Ok None }
     {
         checkpoint(alloc, &self.press, &mut self.keeper)

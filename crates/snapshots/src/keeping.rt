@@ -1,8 +1,9 @@
 //! How events are kept before they are published.
 
-ghost use Rattle.std.specs.Prelude.{◌≡◌, ◌++◌, ◌∷◌, [], List, false, IfOk, IfErr, OnOk, OnErr};
+ghost use Rattle.std.specs.Prelude.{◌≡◌, ◌++◌, ◌∷◌, [], List, false, true, IfOk, IfErr, OnOk};
+ghost use Rattle.std.specs.Prelude.{OnErr};
 ghost use Rattle.head.specs.Worlds.{Event};
-ghost use Rattle.keeper.specs.Finding.{AreAllAndMore, AreAllAndSome, LeavesEvents};
+ghost use Rattle.keeper.specs.Finding.{AreAllAndSome, LeavesEvents};
 ghost use Rattle.snapshots.specs.Keeping.{keep_refusal, AreAllOrNone, IsHindered, IsOfKeeping};
 ghost use Rattle.snapshots.specs.Keeping.{IsRecordFor, SpellAll};
 
@@ -66,13 +67,10 @@ pub fn keep<K: Keeper>(keeper: &mut K, bytes: &[u8]) -> Result<(), CommitError>
     ensures open { OnOk result (K.closed keeper.new ≡ false) }
     ensures err { OnErr result ((events : List Event) → K.holds keeper.old events
         → K.holds keeper.new events) }
-    // A crash at any moment of the call leaves all that was kept.
-    ensures any_moment { (events more : List Event) → K.holds keeper.old events
-        → SpellAll K.idle more bytes.now
-        → LeavesEvents K.moment K.left_since K.stands keeper.old keeper.new
-        (AreAllAndMore events) }
-    // Beyond that at most the first few of these events are in it, unless the keeper was closed
-    // before.
+    // A closed keeper stays as it is.
+    ensures closed { K.closed keeper.old ≡ true → keeper.new ≡ keeper.old }
+    // Of an open one a crash at any moment of the call leaves all that was kept, and at most the
+    // first few of these events.
     ensures in_flight { (events more : List Event) → K.holds keeper.old events
         → SpellAll K.idle more bytes.now → K.closed keeper.old ≡ false
         → LeavesEvents K.moment K.left_since K.stands keeper.old keeper.new

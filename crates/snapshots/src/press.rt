@@ -1,16 +1,14 @@
 //! What publishes versions.
 
-ghost use Rattle.std.specs.Prelude.{◌≡◌, ◌++◌, List, MatchBool, false, IfErr, MatchResult};
-ghost use Rattle.std.specs.Prelude.{None, Ok, true};
+ghost use Rattle.std.specs.Prelude.{◌≡◌, ◌⊎◌, ◌++◌, List, MatchBool, false, IfErr, MatchResult};
+ghost use Rattle.std.specs.Prelude.{None, Ok, OnOk, true};
 ghost use Rattle.std.specs.Arc.{arc_value};
 ghost use mathlib.Core.List.{IsPrefix};
-ghost use Rattle.head.specs.Heads.{world_of};
-ghost use Rattle.keeper.specs.Finding.{AreAll, AreAllAndMore, AreAllAndSome, FindsWorld};
-ghost use Rattle.keeper.specs.Finding.{LeavesEvents};
+ghost use Rattle.keeper.specs.Finding.{AreAll, AreAllAndSome, LeavesEvents};
 ghost use Rattle.snapshots.specs.Marks.{accepted, list_of};
 ghost use Rattle.snapshots.specs.Grows.{Shows, MayFollow};
 ghost use Rattle.snapshots.specs.Keeping.{kept_of, IsGroup, IsHindered, IsOfAllKept};
-ghost use Rattle.snapshots.specs.Keeping.{IsOfKeeping, IsOfKeptAndSome, OpensAsKept};
+ghost use Rattle.snapshots.specs.Keeping.{IsOfKeeping};
 ghost use Rattle.snapshots.specs.Replays.{events_in};
 ghost use Rattle.snapshots.specs.declared.entry.Entry.{Entry as Listed};
 
@@ -59,18 +57,17 @@ pub fn checkpoint<J: Naming, K: Keeper>(
     ensures held { (entries : List Listed) → K.holds keeper.old (kept_of J.before entries)
         → IsOfAllKept K.idle K.first J.before entries press.now.desk.shown.value.parts
         → K.holds keeper.new (kept_of J.before entries) }
-    // A crash at any moment of the call leaves all that was published, and nothing else.
+    // A closed keeper stays as it is.
+    ensures closed { K.closed keeper.old ≡ true → keeper.new ≡ keeper.old }
+    // It closes for no cause but that writing failed.
+    ensures lost { K.closed keeper.new ≡ true
+        → (K.closed keeper.old ≡ true) ⊎ (K.failed keeper.new ≡ true) }
+    // Of an open one a crash at any moment of the call leaves exactly what is kept.
     ensures any_moment { (entries : List Listed) → K.holds keeper.old (kept_of J.before entries)
         → IsOfAllKept K.idle K.first J.before entries press.now.desk.shown.value.parts
         → K.closed keeper.old ≡ false
         → LeavesEvents K.moment K.left_since K.stands keeper.old keeper.new
         (AreAll (kept_of J.before entries)) }
-    // So a start then finds the world that is published.
-    ensures finds { (entries : List Listed) → K.holds keeper.old (kept_of J.before entries)
-        → IsOfAllKept K.idle K.first J.before entries press.now.desk.shown.value.parts
-        → K.closed keeper.old ≡ false → K.idle ≡ false
-        → (left : K.Left) → K.left_since keeper.new (K.moment keeper.old) left
-        → K.makes left (world_of press.now.desk.shown.value.parts) }
     ensures needed { K.idle ≡ true → result ≡ Ok None }
 {
     keeper.checkpoint(alloc, press.published().snapshot())
@@ -109,22 +106,15 @@ pub fn publish_group<'a, J: Naming, R: Wait, K: Keeper>(
     requires shown { Shows J.book J.opening press.old.desk.shown.value (accepted log.old) }
     // What is kept is what is published.
     ensures held { K.holds keeper.new (kept_of J.before (accepted log.new)) }
-    // A crash at any moment of the call leaves all that was published before it.
-    ensures any_moment { LeavesEvents K.moment K.left_since K.stands keeper.old keeper.new
-        (AreAllAndMore (kept_of J.before (accepted log.old))) }
-    // Beyond that at most the first few events of the group are left, unless the keeper was closed
-    // before.
+    // A closed keeper stays as it is, and nothing is published.
+    ensures closed { K.closed keeper.old ≡ true → keeper.new ≡ keeper.old }
+    ensures open { OnOk result.1 (K.closed keeper.new ≡ false) }
+    // Of an open one a crash at any moment of the call leaves all that was published before it, and
+    // at most the first few events of the group.
     ensures in_flight { (more : List Listed) → list_of group.log ≡ accepted log.old ++ more
         → K.closed keeper.old ≡ false
         → LeavesEvents K.moment K.left_since K.stands keeper.old keeper.new
         (AreAllAndSome (kept_of J.before (accepted log.old)) (events_in more)) }
-    // So a start then finds a world, which is that of these.
-    ensures finds { (more : List Listed) → list_of group.log ≡ accepted log.old ++ more
-        → OpensAsKept K.idle K.first J.before J.opening
-        → K.closed keeper.old ≡ false → K.idle ≡ false
-        → (left : K.Left) → K.left_since keeper.new (K.moment keeper.old) left
-        → FindsWorld K.makes (IsOfKeptAndSome K.first
-        (kept_of J.before (accepted log.old)) (events_in more)) left }
     ensures list { MatchResult result.1
         (λ _. accepted log.new ≡ list_of group.log)
         (λ _. accepted log.new ≡ accepted log.old) }

@@ -1,5 +1,3 @@
-use Rattle.keeper.specs.Finding.{AreAllAndMore, AreAllAndSome}
-use Rattle.keeper.proofs.Finds.{by_was, some_is_more}
 use Rattle.snapshots.specs.Keeping.{IsOfKeeping}
 use Rattle.snapshots.proofs.Keeps.{held_more, hindered, in_flight, last_more, of_keeping, spelled_some}
 use Rattle.std.proofs.Common.{sym, subst}
@@ -20,33 +18,11 @@ returns-in-Ok-clause-last g c events more held spelled =
     last_more g.K.Keeper.idle g.K.Keeper.kept_last c.keep.new.self c.args.bytes.now events more
     (λ few spells. c.in-Ok.ensures.last events few held spells) spelled
 
-pub returns-in-Ok-clause-any_moment : goal.returns-in-Ok-clause-any_moment
-returns-in-Ok-clause-any_moment g c events more held spelled =
-    let k = g.K.Keeper in
-    let old = c.args.keeper.now in
-    let some = spelled_some k.idle more c.args.bytes.now spelled in
-    by_was k.moment k.left_since k.stands old c.keep.new.self (k.closed old) (AreAllAndSome events some.0) (AreAllAndMore events)
-    (λ left had. g.met.K.Keeper.now old events left held had)
-    (λ found few. some_is_more events some.0 found few)
-    (λ t. (c.keep.ensures.closed t).1)
-    (λ opened. c.keep.ensures.any_moment events some.0 held some.1 opened)
-
 pub returns-in-Ok-clause-in_flight : goal.returns-in-Ok-clause-in_flight
 returns-in-Ok-clause-in_flight g c events more held spelled opened =
     let k = g.K.Keeper in
     in_flight k.moment k.left_since k.stands c.args.keeper.now c.keep.new.self k.idle c.args.bytes.now events more
     (λ few spells. c.keep.ensures.any_moment events few held spells opened) spelled
-
-pub returns-in-Err-clause-any_moment : goal.returns-in-Err-clause-any_moment
-returns-in-Err-clause-any_moment g c events more held spelled =
-    let k = g.K.Keeper in
-    let old = c.args.keeper.now in
-    let some = spelled_some k.idle more c.args.bytes.now spelled in
-    by_was k.moment k.left_since k.stands old c.keep.new.self (k.closed old) (AreAllAndSome events some.0) (AreAllAndMore events)
-    (λ left had. g.met.K.Keeper.now old events left held had)
-    (λ found few. some_is_more events some.0 found few)
-    (λ t. (c.keep.ensures.closed t).1)
-    (λ opened. c.keep.ensures.any_moment events some.0 held some.1 opened)
 
 pub returns-in-Err-clause-in_flight : goal.returns-in-Err-clause-in_flight
 returns-in-Err-clause-in_flight g c events more held spelled opened =

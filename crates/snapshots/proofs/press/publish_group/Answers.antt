@@ -1,14 +1,13 @@
-use Rattle.std.proofs.Common.{◌≡◌, ◌∙◌, List, refl, rules, sym, subst}
+use Rattle.std.proofs.Common.{◌≡◌, ◌∙◌, List, true, false, refl, rules, sym, ap, subst}
 use Rattle.std.specs.Arc.{arc_value}
-use Rattle.head.specs.Heads.{world_of}
 use Rattle.head.specs.Worlds.{Event}
-use Rattle.keeper.specs.Finding.{AreAllAndMore, AreAllAndSome}
-use Rattle.keeper.proofs.Finds.{joined, some_is_more, wider}
+use Rattle.keeper.specs.Finding.{AreAllAndSome}
+use Rattle.keeper.proofs.Finds.{joined, wider}
 use Rattle.snapshots.specs.Keeping.{kept_of}
 use Rattle.snapshots.specs.Marks.{accepted, list_of}
 use Rattle.snapshots.specs.Replays.{events_in}
-use Rattle.snapshots.proofs.Held.{group_accepted, held_by}
-use Rattle.snapshots.proofs.Keeps.{at_most, finds_some}
+use Rattle.snapshots.proofs.Held.{held_by}
+use Rattle.snapshots.proofs.Keeps.{at_most}
 use Rattle.snapshots.proofs.Prefixes.{prefix_self}
 use Rattle.snapshots.proofs.Tips.{group_as, group_kept, group_parts, group_spelled}
 use Rattle.snapshots.proofs.press.publish_group.Goals as goal
@@ -24,16 +23,6 @@ returns-in-Err-clause-in_flight g c more is opened =
     c.keep.ensures.in_flight (kept_of g.J.Naming.before (accepted c.args.log.now)) (events_in more) c.requires.held
     (group_spelled g.J.Naming.opening g.K.Keeper.idle group.log (arc_value group.standing.snapshot) group.standing.counts.items c.deref.result.now
     is_group (accepted c.args.log.now) c.requires.follows more is) opened
-
-pub returns-in-Err-clause-finds : goal.returns-in-Err-clause-finds
-returns-in-Err-clause-finds g c more is opens opened keeps left had =
-    let k = g.K.Keeper in
-    let group = c.args.group in
-    let s = arc_value group.standing.snapshot in
-    finds_some k.stands k.makes k.first g.met.K.Keeper.finds (kept_of g.J.Naming.before (accepted c.args.log.now)) (events_in more) (world_of s)
-    (group_accepted k.idle k.first g.J.Naming.before g.J.Naming.opening group.log s group.standing.counts.items group.records.items
-    c.requires.group (accepted c.args.log.now) c.requires.follows more is opens keeps)
-    left ((returns-in-Err-clause-in_flight g c more is opened).each left had)
 
 pub returns-in-Err-clause-begins : goal.returns-in-Err-clause-begins
 returns-in-Err-clause-begins g c = prefix_self (accepted c.args.log.now)
@@ -85,16 +74,6 @@ returns-in-Some-clause-in_flight g c more is opened =
     (group_spelled g.J.Naming.opening g.K.Keeper.idle group.log (arc_value group.standing.snapshot) group.standing.counts.items c.deref.result.now
     is_group (accepted c.args.log.now) c.requires.follows more is) opened
 
-pub returns-in-Some-clause-finds : goal.returns-in-Some-clause-finds
-returns-in-Some-clause-finds g c more is opens opened keeps left had =
-    let k = g.K.Keeper in
-    let group = c.args.group in
-    let s = arc_value group.standing.snapshot in
-    finds_some k.stands k.makes k.first g.met.K.Keeper.finds (kept_of g.J.Naming.before (accepted c.args.log.now)) (events_in more) (world_of s)
-    (group_accepted k.idle k.first g.J.Naming.before g.J.Naming.opening group.log s group.standing.counts.items group.records.items
-    c.requires.group (accepted c.args.log.now) c.requires.follows more is opens keeps)
-    left ((returns-in-Some-clause-in_flight g c more is opened).each left had)
-
 -- and not published
 
 pub returns-in-None-clause-begins : goal.returns-in-None-clause-begins
@@ -110,20 +89,9 @@ returns-in-None-clause-held g c =
     let last = c.in-Ok.ensures.last events (events_in waiting.more) c.requires.held waiting.spelled in
     c.close.ensures.held events last.0 last.2
 
-pub returns-in-None-clause-any_moment : goal.returns-in-None-clause-any_moment
-returns-in-None-clause-any_moment g c =
-    let bytes : c.deref.result.now ≡ c.args.group.records.items = search rules in
-    let is_group = group_as g.J.Naming.opening g.K.Keeper.idle c.args.group.log c.args.group.log (arc_value c.args.group.standing.snapshot) (arc_value c.args.group.standing.snapshot)
-    c.args.group.standing.counts.items c.args.group.standing.counts.items c.args.group.records.items c.deref.result.now refl refl refl bytes c.requires.group in
-    let k = g.K.Keeper in
-    let events : List Event = kept_of g.J.Naming.before (accepted c.args.log.now) in
-    let waiting = is_group.waiting in
-    let last = c.in-Ok.ensures.last events (events_in waiting.more) c.requires.held waiting.spelled in
-    joined k.moment k.left_since k.stands c.args.keeper.now c.keep.new.keeper c.close.new.self (AreAllAndMore events)
-    (c.keep.ensures.any_moment events (events_in waiting.more) c.requires.held waiting.spelled)
-    (wider k.moment k.left_since k.stands c.keep.new.keeper c.close.new.self (AreAllAndSome events last.0) (AreAllAndMore events)
-    (λ found some. some_is_more events last.0 found some)
-    (c.close.ensures.any_moment events last.0 last.2))
+pub returns-in-None-clause-closed : goal.returns-in-None-clause-closed
+returns-in-None-clause-closed g c shut =
+    absurd (let wrong : false ≡ true = sym c.in-Ok.ensures.open ∙ (ap g.K.Keeper.closed (c.keep.ensures.closed shut) ∙ shut) in cc)
 
 pub returns-in-None-clause-in_flight : goal.returns-in-None-clause-in_flight
 returns-in-None-clause-in_flight g c more is opened =
@@ -141,13 +109,3 @@ returns-in-None-clause-in_flight g c more is opened =
     (wider k.moment k.left_since k.stands c.keep.new.keeper c.close.new.self (AreAllAndSome events last.0) (AreAllAndSome events (events_in more))
     (λ found some. at_most events (events_in more) last.0 found last.1 some)
     (c.close.ensures.any_moment events last.0 last.2))
-
-pub returns-in-None-clause-finds : goal.returns-in-None-clause-finds
-returns-in-None-clause-finds g c more is opens opened keeps left had =
-    let k = g.K.Keeper in
-    let group = c.args.group in
-    let s = arc_value group.standing.snapshot in
-    finds_some k.stands k.makes k.first g.met.K.Keeper.finds (kept_of g.J.Naming.before (accepted c.args.log.now)) (events_in more) (world_of s)
-    (group_accepted k.idle k.first g.J.Naming.before g.J.Naming.opening group.log s group.standing.counts.items group.records.items
-    c.requires.group (accepted c.args.log.now) c.requires.follows more is opens keeps)
-    left ((returns-in-None-clause-in_flight g c more is opened).each left had)
