@@ -10,6 +10,9 @@ use Rattle.page_claims.specs.Judging.{unjudged_of}
 use Rattle.page_claims.specs.declared.claim.Claim.{Claim}
 use Rattle.page_marks.specs.Pages.{page_marks, text_marks}
 use Rattle.page_marks.specs.Values.{AreValuesOf}
+use Rattle.page_pins.specs.Boxes.{HasNoBox}
+use Rattle.page_pins.specs.Replies.{reply_text}
+use Rattle.page_pins.specs.Selectors.{ShowsFirst}
 use Rattle.page_style.specs.declared.front.TheConstants.{FRONT}
 use Rattle.page_text.specs.Marks.{marks_in, values_in}
 use Rattle.page_text.specs.Nesting.{IsContent}
@@ -63,34 +66,49 @@ unfoldable pub page_top : Claim → List Piece → List ℕ
 page_top claim heading =
     page_front ++ page_text heading ++ claim_text claim.completeness claim.unjudged.items
 
--- the details, the end of the box, the sections, and a constant end
+-- the details, the end of the box, and the sections
 unfoldable pub page_rest : List Piece → List Piece → List ℕ
-page_rest details sections =
-    page_text details ++ codes "</div>\n" ++ page_text sections ++ codes "</body>\n</html>\n"
+page_rest details sections = page_text details ++ codes "</div>\n" ++ page_text sections
 
-unfoldable pub page_bytes : Claim → List Piece → List Piece → List Piece → List ℕ
-page_bytes claim heading details sections = page_top claim heading ++ page_rest details sections
+-- which reply is shown, and a constant end
+unfoldable pub page_end : Shown → List ℕ
+page_end s = reply_text s.length s.digest ++ codes "</body>\n</html>\n"
 
--- the print of trees, and the claim between them; below it the counts and the tiles of the reply,
--- and the values of its rows by what they mean
+unfoldable pub page_bytes : Shown → Claim → List Piece → List Piece → List Piece → List ℕ
+page_bytes s claim heading details sections =
+    page_top claim heading ++ page_rest details sections ++ page_end s
+
+-- the trees draw no box as that of the claim: the page has one
+pub record HasOneBox (page : Page) : Type 0 where
+  pub heading : HasNoBox page.heading.items
+  pub details : HasNoBox page.details.items
+  pub sections : HasNoBox page.sections.items
+
+-- The print of trees, with the claim between them, and which reply is shown. The texts from outside
+-- above the claim are the selector; below it stand the counts and the tiles of the reply, and the
+-- values of its rows by what they mean.
 pub record IsPageOf (s : Shown) (page : Page) : Type 0 where
   pub heading : IsContent page.heading.items
   pub details : IsContent page.details.items
   pub sections : IsContent page.sections.items
   pub claim : IsClaimOf s page.claim
   pub asked : IsSaidOf s page.asked
+  pub one_box : HasOneBox page
+  pub selector : ShowsFirst 4096 s.selector.now page.heading.items
   pub marks : marks_in page.sections.items ≡ wanted_marks s
   pub values : AreShownValues s (values_in page.sections.items)
   pub bytes : page.bytes.items
-      ≡ page_bytes page.claim page.heading.items page.details.items page.sections.items
+      ≡ page_bytes s page.claim page.heading.items page.details.items page.sections.items
   pub few : length page.bytes.items ≤ 268435456
 
--- the claim, and the texts and numbers of a tree
+-- the claim, and the texts and numbers of trees: of the first, which has the selector, and the rest
 pub record IsTextOf (s : Shown) (page : Page) : Type 0 where
+  pub heading : IsContent page.heading.items
   pub sections : IsContent page.sections.items
   pub claim : IsClaimOf s page.claim
   pub asked : IsSaidOf s page.asked
+  pub selector : ShowsFirst 4180 s.selector.now page.heading.items
   pub marks : marks_in page.sections.items ≡ wanted_counts s
-  pub bytes : page.bytes.items
-      ≡ plain_claim page.claim.completeness ++ plain_text page.sections.items
+  pub bytes : page.bytes.items ≡ plain_claim page.claim.completeness
+      ++ plain_text page.heading.items ++ plain_text page.sections.items
   pub few : length page.bytes.items ≤ 268435456

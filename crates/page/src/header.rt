@@ -353,13 +353,16 @@ fn numbers(pen: &mut Pen, view: &View<'_>) {
     pen.line();
 }
 
+/// Most characters of a selector that are shown.
+pub(crate) const MOST_SHOWN: usize = 4096;
+
 /// The head of a page: what was asked.
 pub(crate) fn heading(pen: &mut Pen, view: &View<'_>) {
     pen.open(Tag::Header);
     classed(pen, Tag::P, "kicker", "Audited answer");
     pen.open(Tag::H1);
     pen.open(Tag::Code);
-    long_text(pen, view.shown.selector, 4096);
+    long_text(pen, view.shown.selector, MOST_SHOWN as u64);
     pen.close();
     pen.close();
     pen.line();

@@ -6,7 +6,6 @@ use crate::shown::View;
 use crate::words::{classed, open_section, word};
 use page_claims::{Checks, checks_of};
 use page_text::Tag;
-use std::alloc::{AllocError, Global};
 
 const CERTIFICATE: &str =
     "Every series of a part has a number, its reference. A certificate cuts the numbers, from the \
@@ -120,35 +119,6 @@ fn right(pen: &mut Pen, view: &View<'_>) {
     pen.close();
 }
 
-/// The hexadecimal digits of bytes.
-fn digits_of(alloc: Global, bytes: [u8; 32]) -> Result<Vec<char>, AllocError> {
-    let mut digits = Vec::new(alloc);
-    for byte in bytes {
-        for digit in [byte / 16, byte % 16] {
-            let code = if digit < 10 { 48 + digit } else { 87 + digit };
-            digits.push(char::from(code))?;
-        }
-    }
-    Ok(digits)
-}
-
-/// Which reply the page shows: its length and its SHA-256.
-fn reply(pen: &mut Pen, view: &View<'_>) {
-    let Ok(digits) = digits_of(view.alloc, view.shown.digest) else {
-        return pen.fail();
-    };
-    pen.begin(Tag::P, "note");
-    pen.word("This page shows a reply of ");
-    pen.counted(view.shown.length);
-    pen.word(" bytes; their SHA-256 is ");
-    pen.open(Tag::Code);
-    pen.text(digits);
-    pen.close();
-    pen.word(".");
-    pen.close();
-    pen.line();
-}
-
 /// The last section.
 pub(crate) fn help(pen: &mut Pen, view: &View<'_>) {
     open_section(pen, "help", "What this page shows, and what it does not");
@@ -156,7 +126,6 @@ pub(crate) fn help(pen: &mut Pen, view: &View<'_>) {
     left(pen);
     right(pen, view);
     pen.close();
-    reply(pen, view);
     pen.close();
     pen.line();
 }

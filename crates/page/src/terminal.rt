@@ -19,8 +19,11 @@ use postings::PartName;
 /// Most letters of a line.
 const WIDTH: usize = 76;
 
-/// Most lines of a selector.
+/// Most lines of a selector before its last.
 const MOST_LINES: u64 = 54;
+
+/// Most characters of a selector that are shown.
+pub(crate) const MOST_SHOWN: usize = 4180;
 
 fn matcher_text(pen: &mut Pen, matcher: &Matcher) {
     long_text(pen, matcher.name(), 24);
@@ -260,9 +263,13 @@ fn broken_text(pen: &mut Pen, text: &str) {
     pen.line();
 }
 
-/// The question, the key, a strip of letters for each part, and the sentence about a series.
-pub(crate) fn terminal(pen: &mut Pen, view: &View<'_>, asked: Option<&Asked>) {
+/// The question.
+pub(crate) fn question(pen: &mut Pen, view: &View<'_>) {
     broken_text(pen, view.shown.selector);
+}
+
+/// The key, a strip of letters for each part, and the sentence about a series.
+pub(crate) fn terminal(pen: &mut Pen, view: &View<'_>, asked: Option<&Asked>) {
     faults(pen, view);
     pen.line();
     key(pen, view);

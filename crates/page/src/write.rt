@@ -1,27 +1,30 @@
 //! Pages.
 
 ghost use Rattle.std.specs.Prelude.{◌≡◌, ◌≤◌, ◌++◌, length, IfOk, OnOk};
+ghost use Rattle.page_pins.specs.Boxes.{HasNoBox};
+ghost use Rattle.page_pins.specs.Selectors.{ShowsFirst};
 ghost use Rattle.page_text.specs.Marks.{marks_in, values_in};
 ghost use Rattle.page_text.specs.Nesting.{IsContent};
 ghost use Rattle.page_text.specs.Plain.{plain_text};
 ghost use Rattle.page.specs.Pages.{IsClaimOf, IsSaidOf, IsPageOf, IsTextOf};
-ghost use Rattle.page.specs.Pages.{page_front, page_top, page_rest, page_bytes};
+ghost use Rattle.page.specs.Pages.{page_front, page_top, page_rest, page_end, page_bytes};
 ghost use Rattle.page.specs.Pages.{wanted_marks, wanted_counts, AreShownValues};
 ghost use Rattle.page.specs.Saying.{plain_claim};
 
 use crate::asked::{Asked, ask};
 use crate::claim_text::{append_claim, append_claim_end, append_plain_claim};
-use crate::header::{details, heading, summary};
+use crate::header::{self, details, heading, summary};
 use crate::help::help;
 use crate::key::key;
 use crate::parts::certificates;
 use crate::pen::Pen;
 use crate::rows::rows;
 use crate::shown::{Shown, View, axis_of, samples_in};
-use crate::terminal::terminal;
+use crate::terminal::{self, question, terminal};
 use crate::time::time;
 use page_claims::{Claim, Completeness, find_claim};
 use page_marks::{FEW_PARTS, MOST_ROWS, page_marks, row_values, text_marks};
+use page_pins::{append_reply, check_boxes, check_selector};
 use page_style::{append_back, append_front};
 use page_text::{
     Mark, Piece, Tag, Value, marks_of, print, print_plain, same_marks, same_values, values_of,
@@ -62,21 +65,29 @@ fn asked_of(alloc: Global, shown: &Shown<'_>) -> Result<Option<Asked>, AllocErro
 }
 
 /// What stands above the claim.
-fn heading_of(alloc: Global, view: &View<'_>) -> Result<Vec<Piece>, AllocError>
-    ensures { IfOk result (λ pieces. IsContent pieces.items) }
+fn heading_of(alloc: Global, view: &View<'_>, selector: &str) -> Result<Vec<Piece>, AllocError>
+    ensures content { IfOk result (λ pieces. IsContent pieces.items) }
+    ensures boxes { IfOk result (λ pieces. HasNoBox pieces.items) }
+    ensures selector { IfOk result (λ pieces. ShowsFirst 4096 selector.now pieces.items) }
 {
     let mut pen = Pen::new(alloc);
     heading(&mut pen, view);
-    pen.finish()
+    let pieces = pen.finish()?;
+    check_boxes(pieces.as_slice())?;
+    check_selector(alloc, pieces.as_slice(), selector, header::MOST_SHOWN)?;
+    Ok(pieces)
 }
 
 /// What stands with the claim.
 fn details_of(alloc: Global, view: &View<'_>) -> Result<Vec<Piece>, AllocError>
-    ensures { IfOk result (λ pieces. IsContent pieces.items) }
+    ensures content { IfOk result (λ pieces. IsContent pieces.items) }
+    ensures boxes { IfOk result (λ pieces. HasNoBox pieces.items) }
 {
     let mut pen = Pen::new(alloc);
     details(&mut pen, view);
-    pen.finish()
+    let pieces = pen.finish()?;
+    check_boxes(pieces.as_slice())?;
+    Ok(pieces)
 }
 
 /// What stands below the claim.
@@ -85,7 +96,8 @@ fn sections_of(
     view: &View<'_>,
     asked: Option<&Asked>,
 ) -> Result<Vec<Piece>, AllocError>
-    ensures { IfOk result (λ pieces. IsContent pieces.items) }
+    ensures content { IfOk result (λ pieces. IsContent pieces.items) }
+    ensures boxes { IfOk result (λ pieces. HasNoBox pieces.items) }
 {
     let mut pen = Pen::new(alloc);
     summary(&mut pen, view, asked);
@@ -96,7 +108,9 @@ fn sections_of(
     time(&mut pen, view);
     rows(&mut pen, view);
     help(&mut pen, view);
-    pen.finish()
+    let pieces = pen.finish()?;
+    check_boxes(pieces.as_slice())?;
+    Ok(pieces)
 }
 
 /// The counts and the tiles that what is shown has below the claim.
@@ -154,7 +168,7 @@ pub const MOST_BYTES: usize = 268_435_456;
 
 /// A page: what it claims; what it says of the label set that somebody asks about; and its bytes.
 /// Above the claim, with it and below it stand pieces that are trees, in which texts from outside
-/// are texts alone; a text for a terminal has those below it alone.
+/// are texts alone; a text for a terminal has the selector for a heading, below the claim.
 #[derive(Drop)]
 pub struct Page {
     pub heading: Vec<Piece>,
@@ -188,14 +202,22 @@ fn append_top(
     append_claim(alloc, out, claim.completeness, claim.unjudged.as_slice())
 }
 
-/// Appends what stands with the claim and below it, and what ends each page.
+/// Appends what stands with the claim and below it.
 #[tactic(auto, unfolding(crate::specs::Pages::page_rest))]
 fn append_rest(out: &mut Vec<u8>, details: &[Piece], sections: &[Piece]) -> Result<(), AllocError>
     ensures { OnOk result (out.new.items ≡ out.old.items ++ page_rest details.now sections.now) }
 {
     print(out, details)?;
     append_claim_end(out)?;
-    print(out, sections)?;
+    print(out, sections)
+}
+
+/// Appends which reply is shown, and what ends each page.
+#[tactic(auto, unfolding(crate::specs::Pages::page_end))]
+fn append_end(alloc: Global, out: &mut Vec<u8>, shown: &Shown<'_>) -> Result<(), AllocError>
+    ensures { OnOk result (out.new.items ≡ out.old.items ++ page_end shown.now) }
+{
+    append_reply(alloc, out, shown.length, shown.digest)?;
     append_back(out)
 }
 
@@ -203,18 +225,20 @@ fn append_rest(out: &mut Vec<u8>, details: &[Piece], sections: &[Piece]) -> Resu
 #[tactic(auto, unfolding(crate::specs::Pages::page_bytes))]
 fn bytes_of(
     alloc: Global,
+    shown: &Shown<'_>,
     claim: &Claim,
     heading: &[Piece],
     details: &[Piece],
     sections: &[Piece],
 ) -> Result<Vec<u8>, AllocError>
     ensures text { IfOk result (λ bytes. bytes.items
-        ≡ page_bytes claim.now heading.now details.now sections.now) }
+        ≡ page_bytes shown.now claim.now heading.now details.now sections.now) }
     ensures few { IfOk result (λ bytes. length bytes.items ≤ 268435456) }
 {
     let mut bytes = Vec::new(alloc);
     append_top(alloc, &mut bytes, claim, heading)?;
     append_rest(&mut bytes, details, sections)?;
+    append_end(alloc, &mut bytes, shown)?;
     if bytes.len() > MOST_BYTES {
         return Err(AllocError);
     }
@@ -228,9 +252,10 @@ fn bytes_of(
 /// the rows are the merged rows of the parts, and no line of the auditor names a flaw. The box of
 /// the claim is green only if a judge found no flaw in each part, or in each but a head that is
 /// told to have no series, which the box then says. Else it is plain, and names the parts that
-/// nobody judged. Below the claim its marks, the counts and tiles that it tells of, are exactly
-/// those of the reply (`page_marks`), and so are the first, last, least and greatest values of the
-/// rows in the table, by what they mean.
+/// nobody judged. No other box is of its class. Above it stands the selector. Below it the marks,
+/// the counts and tiles that the page tells of, are exactly those of the reply (`page_marks`), and
+/// so are the first, last, least and greatest values of the rows in the table, by what they mean.
+/// Last stand the length and the SHA-256 of the reply.
 ///
 /// It has at most 268,435,456 bytes, and at most 4,000,000 pieces each above the claim, with it and
 /// below it, however many intervals, rows and samples there are. It takes time in proportion to the
@@ -240,7 +265,7 @@ pub fn write_page(alloc: Global, shown: &Shown<'_>) -> Result<Page, AllocError>
 {
     let view = view_of(alloc, shown)?;
     let asked = asked_of(alloc, shown)?;
-    let heading = heading_of(alloc, &view)?;
+    let heading = heading_of(alloc, &view, shown.selector)?;
     let details = details_of(alloc, &view)?;
     let sections = sections_of(alloc, &view, asked.as_ref())?;
     let wanted = wanted_marks(alloc, shown)?;
@@ -249,6 +274,7 @@ pub fn write_page(alloc: Global, shown: &Shown<'_>) -> Result<Page, AllocError>
     check_values(alloc, sections.as_slice(), values.as_slice())?;
     let bytes = bytes_of(
         alloc,
+        shown,
         &view.claim,
         heading.as_slice(),
         details.as_slice(),
@@ -264,7 +290,19 @@ pub fn write_page(alloc: Global, shown: &Shown<'_>) -> Result<Page, AllocError>
     })
 }
 
-/// What stands on the lines.
+/// The lines of the selector.
+fn question_of(alloc: Global, view: &View<'_>, selector: &str) -> Result<Vec<Piece>, AllocError>
+    ensures content { IfOk result (λ pieces. IsContent pieces.items) }
+    ensures selector { IfOk result (λ pieces. ShowsFirst 4180 selector.now pieces.items) }
+{
+    let mut pen = Pen::new(alloc);
+    question(&mut pen, view);
+    let pieces = pen.finish()?;
+    check_selector(alloc, pieces.as_slice(), selector, terminal::MOST_SHOWN)?;
+    Ok(pieces)
+}
+
+/// What stands on the lines below.
 fn lines_of(alloc: Global, view: &View<'_>, asked: Option<&Asked>) -> Result<Vec<Piece>, AllocError>
     ensures { IfOk result (λ pieces. IsContent pieces.items) }
 {
@@ -277,14 +315,16 @@ fn lines_of(alloc: Global, view: &View<'_>, asked: Option<&Asked>) -> Result<Vec
 fn plain_of(
     alloc: Global,
     completeness: Completeness,
+    question: &[Piece],
     lines: &[Piece],
 ) -> Result<Vec<u8>, AllocError>
     ensures text { IfOk result (λ bytes. bytes.items
-        ≡ plain_claim completeness ++ plain_text lines.now) }
+        ≡ plain_claim completeness ++ plain_text question.now ++ plain_text lines.now) }
     ensures few { IfOk result (λ bytes. length bytes.items ≤ 268435456) }
 {
     let mut bytes = Vec::new(alloc);
     append_plain_claim(&mut bytes, completeness)?;
+    print_plain(&mut bytes, question)?;
     print_plain(&mut bytes, lines)?;
     if bytes.len() > MOST_BYTES {
         return Err(AllocError);
@@ -300,12 +340,18 @@ pub fn write_text(alloc: Global, shown: &Shown<'_>) -> Result<Page, AllocError>
 {
     let view = view_of(alloc, shown)?;
     let asked = asked_of(alloc, shown)?;
+    let question = question_of(alloc, &view, shown.selector)?;
     let lines = lines_of(alloc, &view, asked.as_ref())?;
     let wanted = wanted_counts(alloc, shown)?;
     check_marks(alloc, lines.as_slice(), wanted.as_slice())?;
-    let bytes = plain_of(alloc, view.claim.completeness, lines.as_slice())?;
+    let bytes = plain_of(
+        alloc,
+        view.claim.completeness,
+        question.as_slice(),
+        lines.as_slice(),
+    )?;
     Ok(Page {
-        heading: Vec::new(alloc),
+        heading: question,
         claim: view.claim,
         details: Vec::new(alloc),
         asked,
