@@ -1,6 +1,6 @@
 -- What the bytes of a request ask for.
-use Rattle.std.proofs.Common.{◌≡◌, ◌<◌, ◌≤◌, ◌+◌, ◌++◌, ◌==◌, ℕ, suc, Bool, true, false, List, [], ◌∷◌}
-use Rattle.std.proofs.Common.{None, Some, length, take, drop, codes, refl, ap, sym, subst, ◌∙◌}
+use Rattle.std.proofs.Common.{◌≡◌, ◌<◌, ◌≤◌, ◌+◌, ◌++◌, ◌==◌, ℕ, suc, Bool, true, false, List, []}
+use Rattle.std.proofs.Common.{◌∷◌, None, Some, length, take, drop, codes, refl, ap, sym, subst, ◌∙◌}
 use Rattle.std.proofs.Common.{arith, get_or, inl, inr, lt-ltb, le-ltb}
 use Rattle.std.specs.Prelude.{◌≢◌, ◌⊎◌, ◌↔◌, ◌-◌, nat_eq, nat_lt, not, position, if◌then◌else◌}
 use Rattle.std.specs.List.{position_or_len, starts_with}
@@ -13,11 +13,11 @@ use Rattle.std.proofs.lemmas.Slice.Eq.{starts_is}
 use Rattle.server.specs.Status.{Lacks, IsParted, HasEnd, IsLine, IsRequest}
 
 -- a text that begins so
-pub begun : (text start : List ℕ) → starts_with nat_eq text start ≡ true
+begun : (text start : List ℕ) → starts_with nat_eq text start ≡ true
     → text ≡ start ++ drop (length start) text
 begun text start = (starts_is Decides-eqb text start (starts_with nat_eq text start) refl).0
 
-pub not_begun : (text start rest : List ℕ) → starts_with nat_eq text start ≡ false
+not_begun : (text start rest : List ℕ) → starts_with nat_eq text start ≡ false
     → text ≡ start ++ rest → ⊥
 not_begun text start rest unlike e =
     let yes : starts_with nat_eq text start ≡ true =
@@ -67,7 +67,7 @@ no_end [] none h = end_nowhere h.0 h.1 h.2
 no_end (x ∷ text) none h = absurd (omega arith)
 
 -- a text that lacks a byte does not have it
-pub lacks_none : (byte : ℕ) (before behind : List ℕ) → Lacks byte (before ++ byte ∷ behind) → ⊥
+lacks_none : (byte : ℕ) (before behind : List ℕ) → Lacks byte (before ++ byte ∷ behind) → ⊥
 lacks_none byte [] behind h = h.0 refl
 lacks_none byte (x ∷ before) behind h = lacks_none byte before behind h.1
 
@@ -218,7 +218,8 @@ pub is_line : (line method rest target version : List ℕ) → IsParted 32 line 
     → IsParted 32 rest target version → length method ≢ 0 → length target ≢ 0
     → starts_with nat_eq version (codes "HTTP/1.") ≡ true → IsLine line method target
 is_line line method rest target version first second some_method some_target known =
-    let tail : version ≡ codes "HTTP/1." ++ drop 7 version = begun version (codes "HTTP/1.") known in
+    let tail : version ≡ codes "HTTP/1." ++ drop 7 version =
+    begun version (codes "HTTP/1.") known in
     record {
       minor = drop 7 version;
       spelled =
@@ -236,10 +237,16 @@ empty : (text : List ℕ) → length text ≡ 0 → text ≡ []
 empty [] none = refl
 empty (x ∷ text) none = absurd (omega arith)
 
--- a line without a method, without a target, or of another version
-pub bare_line : (method target version m t : List ℕ) → AreWords method target version m t
+-- no method, no target, or another version
+abbrev IsWrong : List ℕ → List ℕ → List ℕ → Type 0
+IsWrong method target version =
+    (length method ≡ 0) ⊎ (length target ≡ 0)
+    ⊎ (starts_with nat_eq version (codes "HTTP/1.") ≡ false)
+
+-- a line with wrong words
+bare_line : (method target version m t : List ℕ) → AreWords method target version m t
     → (m ≢ []) × (t ≢ [])
-    → (length method ≡ 0) ⊎ (length target ≡ 0) ⊎ (starts_with nat_eq version (codes "HTTP/1.") ≡ false)
+    → IsWrong method target version
     → ⊥
 bare_line method target version m t words some (inl none) =
     some.0 (sym words.method_is ∙ empty method none)
@@ -250,7 +257,7 @@ bare_line method target version m t words some (inr (inr other)) =
 
 pub not_line : (line method rest target version : List ℕ) → IsParted 32 line method rest
     → IsParted 32 rest target version
-    → (length method ≡ 0) ⊎ (length target ≡ 0) ⊎ (starts_with nat_eq version (codes "HTTP/1.") ≡ false)
+    → IsWrong method target version
     → (m t : List ℕ) → IsLine line m t → ⊥
 not_line line method rest target version first second wrong m t is =
     bare_line method target version m t

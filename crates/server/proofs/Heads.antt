@@ -116,14 +116,16 @@ whole rest = refl
 
 -- the reply to `HEAD` is the head of one to `GET`
 pub head_replied : (rest reply : List ℕ) (ready : Bool)
-    → IsReplyTo (codes "HEAD " ++ rest) ready reply → IsHeadOfReply (codes "GET " ++ rest) ready reply
+    → IsReplyTo (codes "HEAD " ++ rest) ready reply
+    → IsHeadOfReply (codes "GET " ++ rest) ready reply
 head_replied rest reply ready r =
     let asked : Asked = r.0 in
     let line : List ℕ = r.2.0 in
     let body : List ℕ = r.2.1 in
     let head : reply ≡ head_text line (allow_of asked) (length body) =
     r.2.3 ∙ ap (λ (b : Bool). reply_text b line (allow_of asked) body) (bare rest) in
-    let all : reply ++ body ≡ reply_text (is_bare (codes "GET " ++ rest)) line (allow_of asked) body =
+    let all : reply ++ body
+    ≡ reply_text (is_bare (codes "GET " ++ rest)) line (allow_of asked) body =
     ap (λ (t : List ℕ). t ++ body) head
     ∙ sym (ap (λ (b : Bool). reply_text b line (allow_of asked) body) (whole rest)) in (
       line,

@@ -64,7 +64,8 @@ Asks bytes NoRequest = (method target : List ℕ) → IsRequest bytes method tar
 
 -- no bytes ask for two things
 abbrev pub AreAskedOnce : Type 0
-AreAskedOnce = (bytes : List ℕ) (one other : Asked) → Asks bytes one → Asks bytes other → one ≡ other
+AreAskedOnce =
+    (bytes : List ℕ) (one other : Asked) → Asks bytes one → Asks bytes other → one ≡ other
 
 -- the status of a reply that tells no counts
 abbrev pub plain_line : Asked → Bool → List ℕ

@@ -20,24 +20,31 @@ returns-in_err-target c =
 
 pub returns-then-is_empty : goal.returns-then-is_empty
 returns-then-is_empty c =
+    let method = c.in_ok-method.method.now in
+    let target = c.in_ok-target.target.now in
     let none =
     not_line c.args.line.now c.in_ok-method.method.now c.in_ok-method.rest.now
     c.in_ok-target.target.now c.in_ok-target.version.now c.in_ok-method.ensures
     c.in_ok-target.ensures in
     elim c.then-is_empty.branch [
       | then-is_empty-via-then-is_empty w ↦
-          none (inl (eqb-true (length c.in_ok-method.method.now) 0 (sym c.is_empty.ensures ∙ w.if-is_empty.true)))
+          let empty = sym c.is_empty.ensures ∙ w.if-is_empty.true in
+          none (inl (eqb-true (length method) 0 empty))
       | then-is_empty-via-else-is_empty+then-is_empty-2 w ↦
-          none (inr (inl (eqb-true (length c.in_ok-target.target.now) 0 (sym w.is_empty-else-is_empty.ensures ∙ w.if-is_empty-2.true))))
+          let empty = sym w.is_empty-else-is_empty.ensures ∙ w.if-is_empty-2.true in
+          none (inr (inl (eqb-true (length target) 0 empty)))
       | then-is_empty-via-else-is_empty+else-is_empty-2+then-not-starts_with w ↦
           none (inr (inr (sym w.starts_with.ensures.value ∙ w.if-not-starts_with.true)))
     ]
 
 pub returns : goal.returns
 returns c =
+    let method = c.in_ok-method.method.now in
+    let target = c.in_ok-target.target.now in
     is_line c.args.line.now c.in_ok-method.method.now c.in_ok-method.rest.now
     c.in_ok-target.target.now c.in_ok-target.version.now c.in_ok-method.ensures
     c.in_ok-target.ensures
-    (eqb-false (length c.in_ok-method.method.now) 0 (sym c.is_empty.ensures ∙ c.if-is_empty.false))
-    (eqb-false (length c.in_ok-target.target.now) 0 (sym c.is_empty-else-is_empty.ensures ∙ c.if-is_empty-2.false))
+    (eqb-false (length method) 0 (sym c.is_empty.ensures ∙ c.if-is_empty.false))
+    (eqb-false (length target) 0
+    (sym c.is_empty-else-is_empty.ensures ∙ c.if-is_empty-2.false))
     (sym c.starts_with.ensures.value ∙ c.if-not-starts_with.false)
