@@ -1,137 +1,112 @@
 -- What a request of `HEAD` asks for, and what one of `GET` does.
-use Rattle.std.proofs.Common.{◌≡◌, ◌<◌, ◌≤◌, ◌+◌, ◌++◌, ◌==◌, ℕ, suc, Bool, true, false, List, [], ◌∷◌}
-use Rattle.std.proofs.Common.{Option, None, Some, length, take, drop, codes, inl, inr, refl, ap}
-use Rattle.std.proofs.Common.{sym, subst, ◌∙◌, arith, le-ltb, lt-ltb}
-use Rattle.std.specs.Prelude.{nat_lt, not, if◌then◌else◌}
-use Rattle.std.specs.List.{position_or_len}
-use Rattle.std.proofs.lemmas.Bool.{cases_lt}
-use Rattle.server.specs.Status.{parted, parted_at, asked_behind, asked_in_line, asked_in_head}
-use Rattle.server.specs.Status.{asked_by, asked_in, has_end, is_bare}
-use Rattle.server.specs.Status.{allow_of, head_text, reply_text, IsAnswer, IsReplyTo, IsHeadOfReply}
+use Rattle.std.proofs.Common.{◌≡◌, ◌++◌, ℕ, Bool, true, false, List, [], ◌∷◌, length, codes, inl}
+use Rattle.std.proofs.Common.{refl, ap, sym, subst, ◌∙◌, append_assoc}
+use Rattle.std.specs.Prelude.{◌≢◌}
+use Rattle.server.proofs.Asking.{end_past, lacking, lacks_behind, lacks_both, one_way}
+use Rattle.server.specs.Status.{Lacks, IsParted, HasEnd, IsLine, IsFirstLine, IsRequest, AsksAt}
+use Rattle.server.specs.Status.{Asks, is_bare, allow_of, head_text, reply_text, IsReplyTo}
+use Rattle.server.specs.Status.{IsHeadOfReply}
 use Rattle.server.specs.declared.status.Asked.{Asked}
-use Rattle.server.specs.declared.status.Asked.TheVariants.{NoRequest}
+use Rattle.server.specs.declared.status.Asked.TheVariants.{Metrics, Healthy, Ready, NoPath}
+use Rattle.server.specs.declared.status.Asked.TheVariants.{NoMethod, NoRequest}
 
--- the place of the first of a byte, or the length
-abbrev place : ℕ → List ℕ → ℕ
-place byte text = position_or_len (λ one. one == byte) text
+-- a word that a method may be
+record IsWord (word : List ℕ) : Type 0 where
+  whole : Lacks 32 word
+  plain : Lacks 13 word
+  some : word ≢ []
 
-parted_when : (byte : ℕ) (text : List ℕ) (at : ℕ) → place byte text ≡ at
-    → parted byte text ≡ parted_at text (if nat_lt at (length text) then Some at else None)
-parted_when byte text at e =
-    ap (λ (n : ℕ). parted_at text (if nat_lt n (length text) then Some n else None)) e
+ended_behind : (word rest : List ℕ) → Lacks 13 word → HasEnd (word ++ rest) → HasEnd rest
+ended_behind [] rest plain h = h
+ended_behind (x ∷ word) rest plain h =
+    ended_behind word rest plain.1 (end_past x (word ++ rest) plain.0 h)
 
-found : (byte : ℕ) (text : List ℕ) (at : ℕ) → place byte text ≡ at → at < length text
-    → parted byte text ≡ Some (take at text, drop (at + 1) text)
-found byte text at e h =
-    parted_when byte text at e
-    ∙ ap (λ (b : Bool). parted_at text (if b then Some at else None)) (lt-ltb at (length text) h)
+ended_before : (word rest : List ℕ) → HasEnd rest → HasEnd (word ++ rest)
+ended_before word rest h = (
+  word ++ h.0,
+  h.1,
+  ap (λ (t : List ℕ). word ++ t) h.2
+      ∙ sym (append_assoc word h.0 (codes "\r\n\r\n" ++ h.1)),
+)
 
-missing : (byte : ℕ) (text : List ℕ) (at : ℕ) → place byte text ≡ at → length text ≤ at
-    → parted byte text ≡ None
-missing byte text at e h =
-    parted_when byte text at e
-    ∙ ap (λ (b : Bool). parted_at text (if b then Some at else None)) (le-ltb at (length text) h)
+-- the same line with another method
+other_line : (a b rest m t line tail : List ℕ) → IsWord a → IsWord b
+    → IsParted 13 (a ++ 32 ∷ rest) line tail → IsLine line m t
+    → (m ≡ a) × IsFirstLine (b ++ 32 ∷ rest) b t
+other_line a b rest m t line tail is_a is_b parts is =
+    let behind : List ℕ = t ++ 32 ∷ (codes "HTTP/1." ++ is.minor) in
+    let text : a ++ 32 ∷ rest ≡ m ++ 32 ∷ (behind ++ 13 ∷ tail) =
+    parts.1 ∙ ap (λ (l : List ℕ). l ++ 13 ∷ tail) is.spelled
+    ∙ append_assoc m (32 ∷ behind) (13 ∷ tail) in
+    let same : (a ≡ m) × (rest ≡ behind ++ 13 ∷ tail) =
+    one_way 32 a rest m (behind ++ 13 ∷ tail) is_a.whole is.words.0 text in
+    let plain : Lacks 13 (32 ∷ behind) =
+    lacks_behind 13 m (32 ∷ behind) (subst (Lacks 13) is.spelled parts.0) in
+    let again : b ++ 32 ∷ rest ≡ (b ++ 32 ∷ behind) ++ 13 ∷ tail =
+    ap (λ (r : List ℕ). b ++ 32 ∷ r) same.1 ∙ sym (append_assoc b (32 ∷ behind) (13 ∷ tail)) in
+    let turned : IsLine (b ++ 32 ∷ behind) b t =
+    record {
+      minor = is.minor;
+      spelled = refl;
+      words = (is_b.whole, is.words.1);
+      some = (is_b.some, is.some.1);
+    } in (
+      sym same.0,
+      (
+        b ++ 32 ∷ behind,
+        tail,
+        (lacks_both 13 b (32 ∷ behind) is_b.plain plain, again),
+        turned,
+      ),
+    )
 
--- the same with a byte before the first part
-abbrev after : ℕ → Option (List ℕ × List ℕ) → Option (List ℕ × List ℕ)
-after c None = None
-after c (Some parts) = Some (c ∷ parts.0, parts.1)
+-- the same request with another method
+other_method : (a b rest m t : List ℕ) → IsWord a → IsWord b
+    → IsRequest (a ++ 32 ∷ rest) m t → (m ≡ a) × IsRequest (b ++ 32 ∷ rest) b t
+other_method a b rest m t is_a is_b r =
+    let one : (m ≡ a) × IsFirstLine (b ++ 32 ∷ rest) b t =
+    other_line a b rest m t r.1.0 r.1.1 is_a is_b r.1.2 r.1.3 in
+    let ended : HasEnd (b ++ 32 ∷ rest) =
+    ended_before b (32 ∷ rest) (ended_behind a (32 ∷ rest) is_a.plain r.0) in
+    (one.0, (ended, one.1))
 
-next_place : (byte c : ℕ) (text : List ℕ) → (c == byte) ≡ false
-    → place byte (c ∷ text) ≡ suc (place byte text)
-next_place byte c text other =
-    let e : 1 + place byte text ≡ suc (place byte text) = omega arith in
-    ap (λ (b : Bool). if not b then 1 + place byte text else 0) other ∙ e
+is_head : IsWord (codes "HEAD")
+is_head =
+    record {
+      whole = lacking 32 (codes "HEAD") refl;
+      plain = lacking 13 (codes "HEAD") refl;
+      some = λ (e : codes "HEAD" ≡ []). cc;
+    }
 
-less : (at count : ℕ) → at < count → suc at < suc count
-less at count h = omega arith
+is_get : IsWord (codes "GET")
+is_get =
+    record {
+      whole = lacking 32 (codes "GET") refl;
+      plain = lacking 13 (codes "GET") refl;
+      some = λ (e : codes "GET" ≡ []). cc;
+    }
 
-most : (at count : ℕ) → count ≤ at → suc count ≤ suc at
-most at count h = omega arith
+by_get : (rest path : List ℕ) → AsksAt (codes "HEAD " ++ rest) path
+    → AsksAt (codes "GET " ++ rest) path
+by_get rest path r = (
+  codes "GET",
+  r.1,
+  (other_method (codes "HEAD") (codes "GET") rest r.0 r.1 is_head is_get r.2).1,
+  inl refl,
+  r.4,
+)
 
-pub parted_more : (byte c : ℕ) (text : List ℕ) → (c == byte) ≡ false
-    → parted byte (c ∷ text) ≡ after c (parted byte text)
-parted_more byte c text other =
-    let at : ℕ = place byte text in
-    let next : place byte (c ∷ text) ≡ suc at = next_place byte c text other in
-    elim (cases_lt at (length text)) [
-      | inl h ↦
-          let one : suc at + 1 ≡ suc (at + 1) = omega arith in
-          found byte (c ∷ text) (suc at) next (less at (length text) h)
-          ∙ ap (λ (n : ℕ). Some (c ∷ take at text, drop n (c ∷ text))) one
-          ∙ sym (ap (after c) (found byte text at refl h))
-      | inr h ↦
-          missing byte (c ∷ text) (suc at) next (most at (length text) h)
-          ∙ sym (ap (after c) (missing byte text at refl h))
-    ]
-
--- the method ends at the first space
-pub parted_now : (byte : ℕ) (text : List ℕ) → (byte == byte) ≡ true
-    → parted byte (byte ∷ text) ≡ Some ([], text)
-parted_now byte text same =
-    found byte (byte ∷ text) 0 (ap (λ (b : Bool). if not b then 1 + place byte text else 0) same)
-    (omega arith)
-
--- what is asked for by the line behind the method `GET`
-abbrev asked_behind_get : Option (List ℕ × List ℕ) → Asked
-asked_behind_get None = NoRequest
-asked_behind_get (Some parts) = asked_behind (codes "GET") (parted 32 parts.0)
-
-head_text_parted : (rest : List ℕ) → parted 13 (codes "HEAD " ++ rest)
-    ≡ after 72 (after 69 (after 65 (after 68 (after 32 (parted 13 rest)))))
-head_text_parted rest =
-    parted_more 13 72 (codes "EAD " ++ rest) refl
-    ∙ ap (after 72) (parted_more 13 69 (codes "AD " ++ rest) refl
-    ∙ ap (after 69) (parted_more 13 65 (codes "D " ++ rest) refl
-    ∙ ap (after 65) (parted_more 13 68 (codes " " ++ rest) refl
-    ∙ ap (after 68) (parted_more 13 32 rest refl))))
-
-get_text_parted : (rest : List ℕ)
-    → parted 13 (codes "GET " ++ rest) ≡ after 71 (after 69 (after 84 (after 32 (parted 13 rest))))
-get_text_parted rest =
-    parted_more 13 71 (codes "ET " ++ rest) refl
-    ∙ ap (after 71) (parted_more 13 69 (codes "T " ++ rest) refl
-    ∙ ap (after 69) (parted_more 13 84 (codes " " ++ rest) refl
-    ∙ ap (after 84) (parted_more 13 32 rest refl)))
-
-head_method : (line : List ℕ) → parted 32 (codes "HEAD " ++ line) ≡ Some (codes "HEAD", line)
-head_method line =
-    parted_more 32 72 (codes "EAD " ++ line) refl
-    ∙ ap (after 72) (parted_more 32 69 (codes "AD " ++ line) refl
-    ∙ ap (after 69) (parted_more 32 65 (codes "D " ++ line) refl
-    ∙ ap (after 65) (parted_more 32 68 (codes " " ++ line) refl
-    ∙ ap (after 68) (parted_now 32 line refl))))
-
-get_method : (line : List ℕ) → parted 32 (codes "GET " ++ line) ≡ Some (codes "GET", line)
-get_method line =
-    parted_more 32 71 (codes "ET " ++ line) refl
-    ∙ ap (after 71) (parted_more 32 69 (codes "T " ++ line) refl
-    ∙ ap (after 69) (parted_more 32 84 (codes " " ++ line) refl
-    ∙ ap (after 84) (parted_now 32 line refl)))
-
-both_taken : (parts : Option (List ℕ × List ℕ))
-    → asked_behind (codes "HEAD") parts ≡ asked_behind (codes "GET") parts
-both_taken None = refl
-both_taken (Some parts) = refl
-
-head_line : (parts : Option (List ℕ × List ℕ))
-    → asked_in_head (after 72 (after 69 (after 65 (after 68 (after 32 parts)))))
-    ≡ asked_behind_get parts
-head_line None = refl
-head_line (Some parts) = ap asked_in_line (head_method parts.0) ∙ both_taken (parted 32 parts.0)
-
-get_line : (parts : Option (List ℕ × List ℕ))
-    → asked_in_head (after 71 (after 69 (after 84 (after 32 parts)))) ≡ asked_behind_get parts
-get_line None = refl
-get_line (Some parts) = ap asked_in_line (get_method parts.0)
-
-asked_alike : (rest : List ℕ) → asked_in (codes "HEAD " ++ rest) ≡ asked_in (codes "GET " ++ rest)
-asked_alike rest =
-    let head : asked_by (codes "HEAD " ++ rest) ≡ asked_behind_get (parted 13 rest) =
-    ap asked_in_head (head_text_parted rest) ∙ head_line (parted 13 rest) in
-    let get : asked_by (codes "GET " ++ rest) ≡ asked_behind_get (parted 13 rest) =
-    ap asked_in_head (get_text_parted rest) ∙ get_line (parted 13 rest) in
-    ap (λ (a : Asked). if has_end rest then a else NoRequest) (head ∙ sym get)
+asked_alike : (rest : List ℕ) (asked : Asked) → Asks (codes "HEAD " ++ rest) asked
+    → Asks (codes "GET " ++ rest) asked
+asked_alike rest Metrics r = by_get rest (codes "/metrics") r
+asked_alike rest Healthy r = by_get rest (codes "/healthy") r
+asked_alike rest Ready r = by_get rest (codes "/ready") r
+asked_alike rest NoPath r = (r.0, by_get rest r.0 r.1, r.2, r.3, r.4)
+asked_alike rest NoMethod r =
+    absurd (r.4 (other_method (codes "HEAD") (codes "GET") rest r.0 r.1 is_head is_get r.2).0)
+asked_alike rest NoRequest r =
+    λ m t q. r (codes "HEAD") t
+    (other_method (codes "GET") (codes "HEAD") rest m t is_get is_head q).1
 
 bare : (rest : List ℕ) → is_bare (codes "HEAD " ++ rest) ≡ true
 bare rest = refl
@@ -141,22 +116,21 @@ whole rest = refl
 
 -- the reply to `HEAD` is the head of one to `GET`
 pub head_replied : (rest reply : List ℕ) (ready : Bool)
-    → IsReplyTo (codes "HEAD " ++ rest) ready reply → IsHeadOfReply (codes "GET " ++ rest) ready reply
+    → IsReplyTo (codes "HEAD " ++ rest) ready reply
+    → IsHeadOfReply (codes "GET " ++ rest) ready reply
 head_replied rest reply ready r =
-    let line : List ℕ = r.0 in
-    let body : List ℕ = r.1 in
-    let asked : Asked = asked_in (codes "HEAD " ++ rest) in
+    let asked : Asked = r.0 in
+    let line : List ℕ = r.2.0 in
+    let body : List ℕ = r.2.1 in
     let head : reply ≡ head_text line (allow_of asked) (length body) =
-    r.3 ∙ ap (λ (b : Bool). reply_text b line (allow_of asked) body) (bare rest) in
-    let all : reply ++ body ≡ reply_text (is_bare (codes "GET " ++ rest)) line
-    (allow_of (asked_in (codes "GET " ++ rest))) body =
+    r.2.3 ∙ ap (λ (b : Bool). reply_text b line (allow_of asked) body) (bare rest) in
+    let all : reply ++ body
+    ≡ reply_text (is_bare (codes "GET " ++ rest)) line (allow_of asked) body =
     ap (λ (t : List ℕ). t ++ body) head
-    ∙ ap (λ (a : Asked). head_text line (allow_of a) (length body) ++ body) (asked_alike rest)
-    ∙ sym (ap (λ (b : Bool). reply_text b line (allow_of (asked_in (codes "GET " ++ rest))) body)
-    (whole rest)) in (
+    ∙ sym (ap (λ (b : Bool). reply_text b line (allow_of asked) body) (whole rest)) in (
       line,
       allow_of asked,
       body,
       head,
-      (line, body, subst (λ (a : Asked). IsAnswer a ready line body) (asked_alike rest) r.2, all),
+      (asked, asked_alike rest asked r.1, (line, body, r.2.2, all)),
     )

@@ -1,4 +1,6 @@
+pub mod Asking
 pub mod Farther
 pub mod Heads
+pub mod Once
 pub mod Replies
 pub mod Sequences

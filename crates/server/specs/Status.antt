@@ -1,10 +1,8 @@
 -- What the status port is asked, and what it replies.
-use Rattle.std.specs.Prelude.{◌≡◌, ◌⊎◌, ℕ, ◌+◌, Bool, true, false, not, ◌&&◌, ◌||◌, ◌==◌, List}
-use Rattle.std.specs.Prelude.{[], ◌∷◌, ◌++◌, length, take, drop, Option, None, Some, position, codes}
-use Rattle.std.specs.Prelude.{decimal, nat_eq, if◌then◌else◌}
+use Rattle.std.specs.Prelude.{◌≡◌, ◌≢◌, ◌⊎◌, ℕ, Bool, true, false, List, [], ◌∷◌, ◌++◌, length}
+use Rattle.std.specs.Prelude.{Option, codes, decimal, nat_eq}
 use Rattle.std.specs.Io.KnownBytes.{Appends}
-use Rattle.std.specs.List.{starts_with}
-use Rattle.std.specs.Str.{bytes_eq}
+use Rattle.std.specs.List.{AllByRecursion, starts_with}
 use Rattle.server_metrics.specs.Families.{server_metrics}
 use Rattle.server_metrics.specs.declared.counts.Counts.{Counts}
 use Rattle.server_metrics.specs.declared.counts.State.{State}
@@ -12,74 +10,62 @@ use Rattle.server.specs.declared.status.Asked.{Asked}
 use Rattle.server.specs.declared.status.Asked.TheVariants.{Metrics, Healthy, Ready, NoPath}
 use Rattle.server.specs.declared.status.Asked.TheVariants.{NoMethod, NoRequest}
 
--- what stands before a place of a text, and what stands behind it
-abbrev pub parted_at : List ℕ → Option ℕ → Option (List ℕ × List ℕ)
-parted_at text None = None
-parted_at text (Some at) = Some (take at text, drop (at + 1) text)
+-- no byte of a text is this one
+abbrev pub Lacks : ℕ → List ℕ → Type 0
+Lacks byte text = AllByRecursion (λ (one : ℕ). one ≢ byte) text
 
--- what stands before the first of a byte, and what stands behind it
-abbrev pub parted : ℕ → List ℕ → Option (List ℕ × List ℕ)
-parted byte text = parted_at text (position (λ one. one == byte) text)
+-- a text has such a byte, the first of them between these two parts
+abbrev pub IsParted : ℕ → List ℕ → List ℕ → List ℕ → Type 0
+IsParted byte text before behind = Lacks byte before × (text ≡ before ++ byte ∷ behind)
 
--- the first part, or all where there are none
-abbrev pub first_of : Option (List ℕ × List ℕ) → List ℕ → List ℕ
-first_of None text = text
-first_of (Some parts) text = parts.0
+-- the head of a request has ended: an empty line stands somewhere in the bytes
+abbrev pub HasEnd : List ℕ → Type 0
+HasEnd bytes = (front rest : List ℕ) × (bytes ≡ front ++ (codes "\r\n\r\n" ++ rest))
 
--- a target without its query
-abbrev pub path_in : List ℕ → List ℕ
-path_in target = first_of (parted 63 target) target
+-- a line is a method, a target and a version, with a space between them
+pub record IsLine (line method target : List ℕ) : Type 0 where
+  pub minor : List ℕ
+  pub spelled : line ≡ method ++ 32 ∷ (target ++ 32 ∷ (codes "HTTP/1." ++ minor))
+  pub words : Lacks 32 method × Lacks 32 target
+  pub some : (method ≢ []) × (target ≢ [])
 
--- what a path of `GET` or `HEAD` asks for
-abbrev pub asked_at : List ℕ → Asked
-asked_at path =
-    if bytes_eq path (codes "/metrics") then Metrics
-    else if bytes_eq path (codes "/healthy") then Healthy
-    else if bytes_eq path (codes "/ready") then Ready
-    else NoPath
+-- the first line of the bytes, up to a carriage return, has this method and this target
+abbrev pub IsFirstLine : List ℕ → List ℕ → List ℕ → Type 0
+IsFirstLine bytes method target =
+    (line rest : List ℕ) × IsParted 13 bytes line rest × IsLine line method target
 
--- whether these are the parts of the first line of a request
-abbrev pub is_line : List ℕ → List ℕ → List ℕ → Bool
-is_line method target version =
-    not (length method == 0) && (not (length target == 0)
-    && starts_with nat_eq version (codes "HTTP/1."))
+-- the bytes are a request: its head has ended, and has such a first line
+abbrev pub IsRequest : List ℕ → List ℕ → List ℕ → Type 0
+IsRequest bytes method target = HasEnd bytes × IsFirstLine bytes method target
 
--- whether a path takes this method
-abbrev pub is_taken : List ℕ → Bool
-is_taken method = bytes_eq method (codes "GET") || bytes_eq method (codes "HEAD")
+-- the path of a target: all before its query, which begins at a question mark
+abbrev pub IsPath : List ℕ → List ℕ → Type 0
+IsPath target path =
+    Lacks 63 path × ((target ≡ path) ⊎ ((query : List ℕ) × (target ≡ path ++ 63 ∷ query)))
 
--- what a line asks for
-abbrev pub asked_of : List ℕ → List ℕ → List ℕ → Asked
-asked_of method target version =
-    if not (is_line method target version) then NoRequest
-    else if is_taken method then asked_at (path_in target)
-    else NoMethod
+-- the bytes ask for a path, by one of the methods that paths take
+abbrev pub AsksAt : List ℕ → List ℕ → Type 0
+AsksAt bytes path =
+    (method target : List ℕ) × IsRequest bytes method target
+    × ((method ≡ codes "GET") ⊎ (method ≡ codes "HEAD")) × IsPath target path
 
-abbrev pub asked_behind : List ℕ → Option (List ℕ × List ℕ) → Asked
-asked_behind method None = NoRequest
-asked_behind method (Some parts) = asked_of method parts.0 parts.1
+-- what the bytes that came ask for
+abbrev pub Asks : List ℕ → Asked → Type 0
+Asks bytes Metrics = AsksAt bytes (codes "/metrics")
+Asks bytes Healthy = AsksAt bytes (codes "/healthy")
+Asks bytes Ready = AsksAt bytes (codes "/ready")
+Asks bytes NoPath =
+    (path : List ℕ) × AsksAt bytes path
+    × (path ≢ codes "/metrics") × (path ≢ codes "/healthy") × (path ≢ codes "/ready")
+Asks bytes NoMethod =
+    (method target : List ℕ) × IsRequest bytes method target
+    × (method ≢ codes "GET") × (method ≢ codes "HEAD")
+Asks bytes NoRequest = (method target : List ℕ) → IsRequest bytes method target → ⊥
 
-abbrev pub asked_in_line : Option (List ℕ × List ℕ) → Asked
-asked_in_line None = NoRequest
-asked_in_line (Some parts) = asked_behind parts.0 (parted 32 parts.1)
-
-abbrev pub asked_in_head : Option (List ℕ × List ℕ) → Asked
-asked_in_head None = NoRequest
-asked_in_head (Some parts) = asked_in_line (parted 32 parts.0)
-
--- what a head asks for: by its first line, which ends before the first carriage return
-abbrev pub asked_by : List ℕ → Asked
-asked_by head = asked_in_head (parted 13 head)
-
--- whether an empty line stands somewhere in the bytes
-abbrev pub has_end : List ℕ → Bool
-has_end [] = false
-has_end (byte ∷ bytes) =
-    if starts_with nat_eq (byte ∷ bytes) (codes "\r\n\r\n") then true else has_end bytes
-
--- what is asked for by what came
-abbrev pub asked_in : List ℕ → Asked
-asked_in bytes = if has_end bytes then asked_by bytes else NoRequest
+-- no bytes ask for two things
+abbrev pub AreAskedOnce : Type 0
+AreAskedOnce =
+    (bytes : List ℕ) (one other : Asked) → Asks bytes one → Asks bytes other → one ≡ other
 
 -- the status of a reply that tells no counts
 abbrev pub plain_line : Asked → Bool → List ℕ
@@ -153,7 +139,8 @@ is_bare bytes = starts_with nat_eq bytes (codes "HEAD ")
 
 -- the reply to what came, by whether the blocks are open
 abbrev pub IsReplyTo : List ℕ → Bool → List ℕ → Type 0
-IsReplyTo bytes ready reply = IsReply (asked_in bytes) (is_bare bytes) ready reply
+IsReplyTo bytes ready reply =
+    (asked : Asked) × Asks bytes asked × IsReply asked (is_bare bytes) ready reply
 
 -- a reply to what came without its body, whose length it tells
 abbrev pub IsHeadOfReply : List ℕ → Bool → List ℕ → Type 0

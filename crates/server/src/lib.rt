@@ -48,6 +48,6 @@ pub use pool::{Listeners, Terms, serve, serve_watched};
 pub use socket::{SocketReader, SocketWriter};
 pub use sockets::Sockets;
 pub use standing::{Memory, Watch, report_opening};
-pub use status::{Report, answer_client, head_law};
+pub use status::{Report, answer_client, asked_law, head_law};
 pub use tally::Tally;
 pub use worker::{Shift, work};

@@ -1,12 +1,12 @@
 //! The status port: what the server tells of itself.
 
-ghost use Rattle.std.specs.Prelude.{◌≡◌, ◌==◌, ◌++◌, ℕ, Bool, List, IfOk, IfSome, option_map};
-ghost use Rattle.std.specs.Prelude.{codes, position, string_bytes};
+ghost use Rattle.std.specs.Prelude.{◌≡◌, ◌==◌, ◌++◌, ℕ, Bool, List, Decides, MatchOption, IfOk};
+ghost use Rattle.std.specs.Prelude.{IfSome, codes, position, string_bytes};
 ghost use Rattle.std.specs.Io.KnownBytes.{Consumes};
-ghost use Rattle.server.specs.Status.{parted, path_in, asked_at, is_line, is_taken, asked_of};
-ghost use Rattle.server.specs.Status.{asked_by, plain_line, plain_body, TellsCounts, IsPlain};
-ghost use Rattle.server.specs.Status.{IsAnswer, allow_of, asked_in, has_end, head_text, is_bare};
-ghost use Rattle.server.specs.Status.{IsReply, IsReplyTo, IsHeadOfReply, IsReplied};
+ghost use Rattle.server.specs.Status.{Lacks, IsParted, HasEnd, IsLine, IsRequest, IsPath, AsksAt};
+ghost use Rattle.server.specs.Status.{Asks, plain_line, plain_body, TellsCounts, IsPlain, IsAnswer};
+ghost use Rattle.server.specs.Status.{allow_of, head_text, is_bare, IsReply, IsReplyTo};
+ghost use Rattle.server.specs.Status.{IsHeadOfReply, IsReplied, AreAskedOnce};
 
 use crate::ending::end;
 use server_metrics::{Counts, State, metrics};
@@ -61,7 +61,7 @@ enum Asked {
 
 /// Whether the end of a head has come.
 fn has_end(head: &[u8]) -> bool
-    ensures { result ≡ has_end head.now }
+    ensures { Decides result (HasEnd head.now) }
 {
     let mut left = head;
     'tails: while let Some((_byte, rest)) = left.split_first() {
@@ -82,7 +82,8 @@ fn place_of(text: &[u8], byte: u8) -> Option<usize>
 
 /// What stands before the first of these bytes, and what stands behind it.
 fn parted(text: &[u8], byte: u8) -> Option<(&[u8], &[u8])>
-    ensures { option_map (λ parts. (parts.0.now, parts.1.now)) result ≡ parted byte text.now }
+    ensures { MatchOption result (Lacks byte text.now)
+        (λ parts. IsParted byte text.now parts.0.now parts.1.now) }
 {
     match place_of(text, byte) {
         Some(place) => Some((&text[..place], &text[place + 1..])),
@@ -92,7 +93,7 @@ fn parted(text: &[u8], byte: u8) -> Option<(&[u8], &[u8])>
 
 /// The path of a target: what stands before its query.
 fn path_in(target: &[u8]) -> &[u8]
-    ensures { result.now ≡ path_in target.now }
+    ensures { IsPath target.now result.now }
 {
     match parted(target, b'?') {
         Some((path, _query)) => path,
@@ -100,9 +101,9 @@ fn path_in(target: &[u8]) -> &[u8]
     }
 }
 
-/// What is asked for by `GET` or `HEAD`.
+/// What is asked for at this path, by a method that paths take.
 fn asked_at(path: &[u8]) -> Asked
-    ensures { result ≡ asked_at path.now }
+    ensures { (bytes : List ℕ) → AsksAt bytes path.now → Asks bytes result }
 {
     if path == b"/metrics".as_slice() {
         Asked::Metrics
@@ -122,57 +123,44 @@ fn is_bare(head: &[u8]) -> bool
     head.starts_with(b"HEAD ")
 }
 
-/// Whether these are the parts of the first line of a request.
-fn is_line(method: &[u8], target: &[u8], version: &[u8]) -> bool
-    ensures { result ≡ is_line method.now target.now version.now }
+/// The method and the target of a line, if it is the first line of a request.
+fn words_of(line: &[u8]) -> Option<(&[u8], &[u8])>
+    ensures { MatchOption result ((method target : List ℕ) → IsLine line.now method target → ⊥)
+        (λ words. IsLine line.now words.0.now words.1.now) }
 {
-    !method.is_empty() && !target.is_empty() && version.starts_with(b"HTTP/1.")
+    let (method, rest) = parted(line, b' ')?;
+    let (target, version) = parted(rest, b' ')?;
+    if method.is_empty() || target.is_empty() || !version.starts_with(b"HTTP/1.") {
+        return None;
+    }
+    Some((method, target))
 }
 
-/// Whether a path takes this method.
-fn is_taken(method: &[u8]) -> bool
-    ensures { result ≡ is_taken method.now }
+/// What a request with this method and this target asks for.
+fn asked_of(method: &[u8], target: &[u8]) -> Asked
+    ensures { (bytes : List ℕ) → IsRequest bytes method.now target.now → Asks bytes result }
 {
-    method == b"GET".as_slice() || method == b"HEAD".as_slice()
-}
-
-fn asked_of(method: &[u8], target: &[u8], version: &[u8]) -> Asked
-    ensures { result ≡ asked_of method.now target.now version.now }
-{
-    if !is_line(method, target, version) {
-        Asked::NoRequest
-    } else if is_taken(method) {
+    if method == b"GET".as_slice() || method == b"HEAD".as_slice() {
         asked_at(path_in(target))
     } else {
         Asked::NoMethod
     }
 }
 
-/// What the first line of a head asks for.
-fn asked_by(head: &[u8]) -> Asked
-    ensures { result ≡ asked_by head.now }
+/// What is asked for by what came.
+fn asked_in(head: &[u8]) -> Asked
+    ensures { Asks head.now result }
 {
+    if !has_end(head) {
+        return Asked::NoRequest;
+    }
     let Some((line, _fields)) = parted(head, b'\r') else {
         return Asked::NoRequest;
     };
-    let Some((method, rest)) = parted(line, b' ') else {
+    let Some((method, target)) = words_of(line) else {
         return Asked::NoRequest;
     };
-    let Some((target, version)) = parted(rest, b' ') else {
-        return Asked::NoRequest;
-    };
-    asked_of(method, target, version)
-}
-
-/// What is asked for by what came.
-fn asked_in(head: &[u8]) -> Asked
-    ensures { result ≡ asked_in head.now }
-{
-    if has_end(head) {
-        asked_by(head)
-    } else {
-        Asked::NoRequest
-    }
+    asked_of(method, target)
 }
 
 /// The status line and the body of a reply without counts.
@@ -279,6 +267,11 @@ fn reply_to<S: Report>(alloc: Global, head: &[u8], report: &mut S) -> Result<Vec
 {
     reply_of(alloc, asked_in(head), is_bare(head), report)
 }
+
+/// The law of what is asked: bytes ask for one thing, and so get one reply.
+pub fn asked_law()
+    ensures { AreAskedOnce }
+{}
 
 /// The law of `HEAD`: its reply is the head of a reply that `GET` gets.
 pub fn head_law()

@@ -1,5 +1,8 @@
+use Rattle.std.proofs.lemmas.Result.{IfOk-weaker}
 use Rattle.server.proofs.status.reply_to.Goals as goal
 
 pub returns : goal.returns
 returns g c =
-    let asked = rw c.asked_in.ensures at c.reply_of.ensures in rw c.is_bare.ensures at asked
+    let told = rw c.is_bare.ensures at c.reply_of.ensures in
+    IfOk-weaker c.reply_of.result _ _
+    (λ reply is. (c.asked_in.result, c.asked_in.ensures, is)) told
