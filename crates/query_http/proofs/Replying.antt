@@ -12,7 +12,8 @@ use Rattle.head.specs.declared.error.CommitError.{CommitError}
 use Rattle.head.specs.declared.error.CommitError.TheVariants.{OutOfBounds, OutOfOrder, Duplicate}
 use Rattle.head.specs.declared.error.CommitError.TheVariants.{Limit, CutTooLow, TooManyParts, Seat}
 use Rattle.head.specs.declared.error.CommitError.TheVariants.{Journal, Memory}
-use Rattle.snapshots.specs.Replays.{IsRefusedAfter, IsOfStore}
+use Rattle.snapshots.specs.declared.entry.Entry.{Entry}
+use Rattle.snapshots.specs.Replays.{IsRefusedBy, IsOfStore}
 use Rattle.snapshots.specs.Seats.{SeatView}
 use Rattle.snapshots.specs.Views.{Known}
 use Rattle.snapshots.proofs.Prefixes.{prefix_self}
@@ -36,6 +37,7 @@ use Rattle.query_http.specs.Reply.{text_of}
 use Rattle.answers.specs.Body.{body_text}
 use Rattle.query_http.specs.Serving.{Worker, IsIdle, IsReplyOfRefusal, IsQueryReply, IsEventReply}
 use Rattle.query_http.specs.Serving.{IsSilent, IsReply, Serves, refused_at, conflict_body}
+use Rattle.query_http.specs.Serving.{IsRefusedAfterHeld}
 use Rattle.query_http.specs.declared.engine.Served.{Served}
 use Rattle.query_http.specs.declared.engine.Served.TheVariants as served
 
@@ -60,25 +62,34 @@ answer_replied opening query before after answer (Ok r) h number spelled =
 answer_replied opening query before after answer (Err e) h number spelled = tt
 
 -- of a refusal that is the store's own no more is said
-pub store_refused : (opening : SnapshotParts) (seat : SeatView) (event : Event)
-    (error : CommitError) → IsOfStore error → IsRefusedAfter opening seat error event
-store_refused opening seat event error own other = absurd (other own)
+pub store_refused : (opening : SnapshotParts) (held : List Entry → Type 0) (seat : SeatView)
+    (event : Event) (error : CommitError) → IsOfStore error
+    → IsRefusedAfterHeld opening held seat error event
+store_refused opening held seat event error own other = absurd (other own)
+
+-- any other comes with the receipt of a list that is held
+pub receipt_refused : (opening : SnapshotParts) (held : List Entry → Type 0) (seat : SeatView)
+    (event : Event) (error : CommitError) (met : Option (List Entry))
+    → IsRefusedBy opening seat error event met → IfSome met held
+    → IsRefusedAfterHeld opening held seat error event
+receipt_refused opening held seat event error None by known other = absurd (by other)
+receipt_refused opening held seat event error (Some list) by known other = (list, by other, known)
 
 -- the reply to an event that was refused, by whether it was not kept
-refused_or_unkept : (opening : SnapshotParts) (idle : Bool) (event : Event)
-    (before after : Worker) (error : CommitError) (status : Status) (text : List ℕ)
-    → after ≡ before → IsRefusedAfter opening before.seat error event
+refused_or_unkept : (opening : SnapshotParts) (idle : Bool) (held : List Entry → Type 0)
+    (event : Event) (before after : Worker) (error : CommitError) (status : Status) (text : List ℕ)
+    → after ≡ before → IsRefusedAfterHeld opening held before.seat error event
     → (error ≡ Journal → idle ≡ false) → error ≢ Memory
     → (error ≡ Journal → IsReplyOfRefusal NotKept status text)
     → (error ≢ Journal → status ≡ Conflict)
     → (error ≢ Journal → text ≡ reply_text Conflict (conflict_body error))
     → (error ≡ Journal) ⊎ (error ≢ Journal)
-    → IsEventReply opening idle event before after status text
-refused_or_unkept opening idle event before after error status text same found keeps no_memory
-    unkept number spelled (inl is) =
+    → IsEventReply opening idle held event before after status text
+refused_or_unkept opening idle held event before after error status text same found keeps
+    no_memory unkept number spelled (inl is) =
     inr (inr (record { keeps = keeps is; refused = unkept is; same = same }))
-refused_or_unkept opening idle event before after error status text same found keeps no_memory
-    unkept number spelled (inr other) =
+refused_or_unkept opening idle held event before after error status text same found keeps
+    no_memory unkept number spelled (inr other) =
     inr (inl (record {
       error = error;
       found = found;
@@ -101,38 +112,41 @@ is_journal Seat = inr (λ e. cc)
 is_journal Journal = inl refl
 is_journal Memory = inr (λ e. cc)
 
-pub event_refused : {E : Type 0} (opening : SnapshotParts) (idle : Bool) (event : Event)
-    (before after : Worker) (error : CommitError) (result : Result Reply E)
-    → after ≡ before → IsRefusedAfter opening before.seat error event
+pub event_refused : {E : Type 0} (opening : SnapshotParts) (idle : Bool)
+    (held : List Entry → Type 0) (event : Event) (before after : Worker) (error : CommitError)
+    (result : Result Reply E)
+    → after ≡ before → IsRefusedAfterHeld opening held before.seat error event
     → (error ≡ Journal → idle ≡ false) → IfOk result (λ _. error ≢ Memory)
     → (error ≡ Journal → IfOk result (λ r. IsReplyOfRefusal NotKept r.status (text_of r)))
     → (error ≢ Journal → IfOk result (λ r. r.status ≡ Conflict))
     → (error ≢ Journal → IfOk result (λ r. text_of r ≡ reply_text Conflict (conflict_body error)))
-    → IfOk result (λ r. IsEventReply opening idle event before after r.status (text_of r))
-event_refused opening idle event before after error (Ok r) same found keeps no_memory unkept number
-    spelled =
-    refused_or_unkept opening idle event before after error r.status (text_of r) same found keeps
-    no_memory unkept number spelled (is_journal error)
-event_refused opening idle event before after error (Err e) same found keeps no_memory unkept number
-    spelled = tt
+    → IfOk result (λ r. IsEventReply opening idle held event before after r.status (text_of r))
+event_refused opening idle held event before after error (Ok r) same found keeps no_memory unkept
+    number spelled =
+    refused_or_unkept opening idle held event before after error r.status (text_of r) same found
+    keeps no_memory unkept number spelled (is_journal error)
+event_refused opening idle held event before after error (Err e) same found keeps no_memory unkept
+    number spelled = tt
 
 -- a connection that got no reply
 pub silent_served : (Asks : List ℕ → Meaning → Type 0) (opening : SnapshotParts) (idle : Bool)
+    (held : List Entry → Type 0)
     (input : Option (List ℕ)) (before after : Worker)
     (old new : Option (List ℕ)) (how : Served) → IsSilent how
     → (how ≡ served.Closed → IfSome input (λ bytes. bytes ≡ []))
     → (how ≡ served.Closed → after ≡ before) → (how ≡ served.ReadFault → after ≡ before)
-    → IsIdle before after → Serves Asks opening idle input before after old new how
-silent_served Asks opening idle input before after old new (served.Replied status) p closed unasked
+    → IsIdle before after → Serves Asks opening idle held input before after old new how
+silent_served Asks opening idle held input before after old new (served.Replied status) p closed
+    unasked unread still = absurd p
+silent_served Asks opening idle held input before after old new served.WriteFault p closed unasked
     unread still = absurd p
-silent_served Asks opening idle input before after old new served.WriteFault p closed unasked unread
-    still = absurd p
-silent_served Asks opening idle input before after old new served.Closed p closed unasked unread still =
+silent_served Asks opening idle held input before after old new served.Closed p closed unasked
+    unread still =
     (closed refl, unasked refl)
-silent_served Asks opening idle input before after old new served.ReadFault p closed unasked unread
-    still = unread refl
-silent_served Asks opening idle input before after old new served.NoMemory p closed unasked unread
-    still = still
+silent_served Asks opening idle held input before after old new served.ReadFault p closed unasked
+    unread still = unread refl
+silent_served Asks opening idle held input before after old new served.NoMemory p closed unasked
+    unread still = still
 
 same_idle : (before after : Worker) → after ≡ before → IsIdle before after
 same_idle before after e = subst (λ (w : Worker). IsIdle before w) (sym e) (record {
@@ -141,92 +155,99 @@ same_idle before after e = subst (λ (w : Worker). IsIdle before w) (sym e) (rec
   seen = prefix_self before.known.seen;
 })
 
-reply_idle : (rules : Rules) (opening : SnapshotParts) (idle : Bool) (bytes : List ℕ) (before after : Worker)
-    (status : Status) (text : List ℕ) → IsBarred rules bytes
-    → IsReply (MeansUnder rules) opening idle (Some bytes) before after status text
+reply_idle : (rules : Rules) (opening : SnapshotParts) (idle : Bool) (held : List Entry → Type 0)
+    (bytes : List ℕ) (before after : Worker) (status : Status) (text : List ℕ)
+    → IsBarred rules bytes
+    → IsReply (MeansUnder rules) opening idle held (Some bytes) before after status text
     → IsIdle before after
-reply_idle rules opening idle bytes before after status text b (inl h) = same_idle before after h.same
-reply_idle rules opening idle bytes before after status text b (inr h) =
+reply_idle rules opening idle held bytes before after status text b (inl h) =
+    same_idle before after h.same
+reply_idle rules opening idle held bytes before after status text b (inr h) =
     absurd (asks_nothing rules bytes h.request b h.means)
 
-barred_bytes : (rules : Rules) (opening : SnapshotParts) (idle : Bool) (bytes : List ℕ) (before after : Worker)
+barred_bytes : (rules : Rules) (opening : SnapshotParts) (idle : Bool)
+    (held : List Entry → Type 0) (bytes : List ℕ) (before after : Worker)
     (old new : Option (List ℕ)) (how : Served) → IsBarred rules bytes
-    → Serves (MeansUnder rules) opening idle (Some bytes) before after old new how
+    → Serves (MeansUnder rules) opening idle held (Some bytes) before after old new how
     → IsIdle before after
-barred_bytes rules opening idle bytes before after old new (served.Replied status) b h =
-    reply_idle rules opening idle bytes before after status h.text b h.reply
-barred_bytes rules opening idle bytes before after old new served.WriteFault b h =
-    reply_idle rules opening idle bytes before after h.status h.text b h.reply
-barred_bytes rules opening idle bytes before after old new served.Closed b h =
+barred_bytes rules opening idle held bytes before after old new (served.Replied status) b h =
+    reply_idle rules opening idle held bytes before after status h.text b h.reply
+barred_bytes rules opening idle held bytes before after old new served.WriteFault b h =
+    reply_idle rules opening idle held bytes before after h.status h.text b h.reply
+barred_bytes rules opening idle held bytes before after old new served.Closed b h =
     same_idle before after h.1
-barred_bytes rules opening idle bytes before after old new served.ReadFault b h =
+barred_bytes rules opening idle held bytes before after old new served.ReadFault b h =
     same_idle before after h
-barred_bytes rules opening idle bytes before after old new served.NoMemory b h = h
+barred_bytes rules opening idle held bytes before after old new served.NoMemory b h = h
 
 -- what is not admitted changes nothing
-pub barred_idle : (rules : Rules) (opening : SnapshotParts) (idle : Bool) (input : Option (List ℕ))
+pub barred_idle : (rules : Rules) (opening : SnapshotParts) (idle : Bool)
+    (held : List Entry → Type 0) (input : Option (List ℕ))
     (before after : Worker) (old new : Option (List ℕ)) (how : Served)
-    → Serves (MeansUnder rules) opening idle input before after old new how
+    → Serves (MeansUnder rules) opening idle held input before after old new how
     → IfSome input (λ bytes. IsBarred rules bytes → IsIdle before after)
-barred_idle rules opening idle None before after old new how h = tt
-barred_idle rules opening idle (Some bytes) before after old new how h =
-    λ b. barred_bytes rules opening idle bytes before after old new how b h
+barred_idle rules opening idle held None before after old new how h = tt
+barred_idle rules opening idle held (Some bytes) before after old new how h =
+    λ b. barred_bytes rules opening idle held bytes before after old new how b h
 
 -- The same replies, where what bytes mean under no rules is what they mean.
-reply_unruled : (opening : SnapshotParts) (idle : Bool) (input : Option (List ℕ)) (before after : Worker)
-    (status : Status) (text : List ℕ)
-    → IsReply (MeansUnder no_rules) opening idle input before after status text
-    → IsReply Means opening idle input before after status text
-reply_unruled opening idle None before after status text (inl h) = inl (record {
+reply_unruled : (opening : SnapshotParts) (idle : Bool) (held : List Entry → Type 0)
+    (input : Option (List ℕ)) (before after : Worker) (status : Status) (text : List ℕ)
+    → IsReply (MeansUnder no_rules) opening idle held input before after status text
+    → IsReply Means opening idle held input before after status text
+reply_unruled opening idle held None before after status text (inl h) = inl (record {
   refusal = h.refusal;
   of_bytes = h.of_bytes;
   means = tt;
   refused = h.refused;
   same = h.same;
 })
-reply_unruled opening idle (Some bytes) before after status text (inl h) = inl (record {
+reply_unruled opening idle held (Some bytes) before after status text (inl h) = inl (record {
   refusal = h.refusal;
   of_bytes = h.of_bytes;
   means = means_unruled bytes (Err h.refusal) h.means;
   refused = h.refused;
   same = h.same;
 })
-reply_unruled opening idle None before after status text (inr h) = inr (record {
+reply_unruled opening idle held None before after status text (inr h) = inr (record {
   request = h.request;
   means = tt;
   fits = h.fits;
   done = h.done;
 })
-reply_unruled opening idle (Some bytes) before after status text (inr h) = inr (record {
+reply_unruled opening idle held (Some bytes) before after status text (inr h) = inr (record {
   request = h.request;
   means = means_unruled bytes (Ok h.request) h.means;
   fits = h.fits;
   done = h.done;
 })
 
-served_plain : (opening : SnapshotParts) (idle : Bool) (input : Option (List ℕ)) (before after : Worker)
+served_plain : (opening : SnapshotParts) (idle : Bool) (held : List Entry → Type 0)
+    (input : Option (List ℕ)) (before after : Worker)
     (old new : Option (List ℕ)) (how : Served)
-    → Serves (MeansUnder no_rules) opening idle input before after old new how
-    → Serves Means opening idle input before after old new how
-served_plain opening idle input before after old new (served.Replied status) h = record {
+    → Serves (MeansUnder no_rules) opening idle held input before after old new how
+    → Serves Means opening idle held input before after old new how
+served_plain opening idle held input before after old new (served.Replied status) h = record {
   text = h.text;
-  reply = reply_unruled opening idle input before after status h.text h.reply;
+  reply = reply_unruled opening idle held input before after status h.text h.reply;
   written = h.written;
 }
-served_plain opening idle input before after old new served.WriteFault h = record {
+served_plain opening idle held input before after old new served.WriteFault h = record {
   status = h.status;
   text = h.text;
-  reply = reply_unruled opening idle input before after h.status h.text h.reply;
+  reply = reply_unruled opening idle held input before after h.status h.text h.reply;
   written = h.written;
 }
-served_plain opening idle input before after old new served.Closed h = h
-served_plain opening idle input before after old new served.ReadFault h = h
-served_plain opening idle input before after old new served.NoMemory h = h
+served_plain opening idle held input before after old new served.Closed h = h
+served_plain opening idle held input before after old new served.ReadFault h = h
+served_plain opening idle held input before after old new served.NoMemory h = h
 
-pub served_unruled : (rules : Rules) (opening : SnapshotParts) (idle : Bool) (input : Option (List ℕ))
+pub served_unruled : (rules : Rules) (opening : SnapshotParts) (idle : Bool)
+    (held : List Entry → Type 0) (input : Option (List ℕ))
     (before after : Worker) (old new : Option (List ℕ)) (how : Served) → rules ≡ no_rules
-    → Serves (MeansUnder rules) opening idle input before after old new how
-    → Serves Means opening idle input before after old new how
-served_unruled rules opening idle input before after old new how is h =
-    served_plain opening idle input before after old new how
-    (subst (λ (r : Rules). Serves (MeansUnder r) opening idle input before after old new how) is h)
+    → Serves (MeansUnder rules) opening idle held input before after old new how
+    → Serves Means opening idle held input before after old new how
+served_unruled rules opening idle held input before after old new how is h =
+    served_plain opening idle held input before after old new how
+    (subst (λ (r : Rules).
+    Serves (MeansUnder r) opening idle held input before after old new how) is h)

@@ -12,7 +12,7 @@ use Rattle.head.specs.Worlds.{Event, batch, deletion, cut}
 use Rattle.head.specs.declared.error.CommitError.{CommitError}
 use Rattle.head.specs.declared.error.CommitError.TheVariants as commit_error
 use Rattle.snapshots.specs.declared.entry.Entry.{Entry}
-use Rattle.snapshots.specs.Replays.{EndsWith, AreAccepted, IsRefusedAfter}
+use Rattle.snapshots.specs.Replays.{EndsWith, AreAccepted, IsOfStore, IsRefusedAt}
 use Rattle.snapshots.specs.Seats.{SeatView, HasOneMoreEvent}
 use Rattle.snapshots.specs.Views.{Known}
 use Rattle.requests.specs.declared.refusal.Refusal.{Refusal}
@@ -98,13 +98,21 @@ pub record IsAcceptedReply (opening : SnapshotParts) (event : Event) (before aft
   pub number : status ≡ Done
   pub spelled : text ≡ done_text
 
--- The event was refused for the seat, or by its step after a list of accepted events that begins
--- with the list of the seat's last receipt and has no event more under the seat's number; and
+-- The refusal is the store's own, or the event's step is refused so after a list of accepted events
+-- that is held: what others have published, and no list that never was. It begins with the list of
+-- the seat's last receipt and has no event more under the seat's number.
+abbrev pub IsRefusedAfterHeld : SnapshotParts → (List Entry → Type 0) → SeatView → CommitError
+    → Event → Type 0
+IsRefusedAfterHeld opening held seat error event =
+    ¬ IsOfStore error
+    → (list : List Entry) × IsRefusedAt opening seat error event list × held list
+
+-- The event was refused for the seat, or by its step after a list of events that is held; and
 -- nothing changed.
-pub record IsRefusedReply (opening : SnapshotParts) (event : Event) (before after : Worker)
-    (status : Status) (text : List ℕ) : Type 0 where
+pub record IsRefusedReply (opening : SnapshotParts) (held : List Entry → Type 0) (event : Event)
+    (before after : Worker) (status : Status) (text : List ℕ) : Type 0 where
   pub error : CommitError
-  pub found : IsRefusedAfter opening before.seat error event
+  pub found : IsRefusedAfterHeld opening held before.seat error event
   pub no_memory : error ≢ commit_error.Memory
   pub no_journal : error ≢ commit_error.Journal
   pub same : after ≡ before
@@ -118,24 +126,26 @@ pub record IsUnkeptReply (idle : Bool) (before after : Worker)
   pub refused : IsReplyOfRefusal NotKept status text
   pub same : after ≡ before
 
--- the reply to an event, by whether the store keeps nothing (`idle`)
-abbrev pub IsEventReply : SnapshotParts → Bool → Event → Worker → Worker → Status → List ℕ → Type 0
-IsEventReply opening idle event before after status text =
+-- the reply to an event, by whether the store keeps nothing (`idle`), and by which lists of events
+-- a keeper of its kind has come to hold (`held`)
+abbrev pub IsEventReply : SnapshotParts → Bool → (List Entry → Type 0) → Event → Worker → Worker
+    → Status → List ℕ → Type 0
+IsEventReply opening idle held event before after status text =
     IsAcceptedReply opening event before after status text
-    ⊎ (IsRefusedReply opening event before after status text
+    ⊎ (IsRefusedReply opening held event before after status text
     ⊎ IsUnkeptReply idle before after status text)
 
 -- the reply to a request: to its query, or to the one event that it spells
-abbrev pub IsRequestReply : SnapshotParts → Bool → Request → Worker → Worker → Status → List ℕ
-    → Type 0
-IsRequestReply opening idle (asks.Select query) before after status text =
+abbrev pub IsRequestReply : SnapshotParts → Bool → (List Entry → Type 0) → Request → Worker
+    → Worker → Status → List ℕ → Type 0
+IsRequestReply opening idle held (asks.Select query) before after status text =
     IsQueryReply opening query before.known after.known status text × IsIdle before after
-IsRequestReply opening idle (asks.Write rows) before after status text =
-    IsEventReply opening idle (batch (batch_of_rows rows.items)) before after status text
-IsRequestReply opening idle (asks.Delete matchers from to) before after status text =
-    IsEventReply opening idle (deletion matchers.items from to) before after status text
-IsRequestReply opening idle (asks.Cut t) before after status text =
-    IsEventReply opening idle (cut t) before after status text
+IsRequestReply opening idle held (asks.Write rows) before after status text =
+    IsEventReply opening idle held (batch (batch_of_rows rows.items)) before after status text
+IsRequestReply opening idle held (asks.Delete matchers from to) before after status text =
+    IsEventReply opening idle held (deletion matchers.items from to) before after status text
+IsRequestReply opening idle held (asks.Cut t) before after status text =
+    IsEventReply opening idle held (cut t) before after status text
 
 -- What bytes mean is a parameter of what follows: `Means`, or under rules `MeansUnder`.
 
@@ -151,48 +161,48 @@ pub record TurnsAway (Asks : List ℕ → Meaning → Type 0) (input : Option (L
 
 -- the bytes that came ask a request, which is fit for a store, and this is the reply to it
 pub record DoesAsked (Asks : List ℕ → Meaning → Type 0) (opening : SnapshotParts)
-    (idle : Bool) (input : Option (List ℕ)) (before after : Worker) (status : Status)
-    (text : List ℕ) : Type 0 where
+    (idle : Bool) (held : List Entry → Type 0) (input : Option (List ℕ)) (before after : Worker)
+    (status : Status) (text : List ℕ) : Type 0 where
   pub request : Request
   pub means : IfSome input (λ bytes. Asks bytes (Ok request))
   pub fits : IsFit request
-  pub done : IsRequestReply opening idle request before after status text
+  pub done : IsRequestReply opening idle held request before after status text
 
 -- the reply to the bytes that came
-abbrev pub IsReply : (List ℕ → Meaning → Type 0) → SnapshotParts → Bool → Option (List ℕ)
-    → Worker → Worker → Status → List ℕ → Type 0
-IsReply Asks opening idle input before after status text =
+abbrev pub IsReply : (List ℕ → Meaning → Type 0) → SnapshotParts → Bool → (List Entry → Type 0)
+    → Option (List ℕ) → Worker → Worker → Status → List ℕ → Type 0
+IsReply Asks opening idle held input before after status text =
     TurnsAway Asks input before after status text
-    ⊎ DoesAsked Asks opening idle input before after status text
+    ⊎ DoesAsked Asks opening idle held input before after status text
 
 -- the whole reply was written, and nothing else
 pub record Replies (Asks : List ℕ → Meaning → Type 0) (opening : SnapshotParts)
-    (idle : Bool) (input : Option (List ℕ)) (before after : Worker) (old new : Option (List ℕ))
-    (status : Status) : Type 0 where
+    (idle : Bool) (held : List Entry → Type 0) (input : Option (List ℕ)) (before after : Worker)
+    (old new : Option (List ℕ)) (status : Status) : Type 0 where
   pub text : List ℕ
-  pub reply : IsReply Asks opening idle input before after status text
+  pub reply : IsReply Asks opening idle held input before after status text
   pub written : Appends old new text
 
 -- less than the whole reply was written, a prefix of it, and nothing else
 pub record BeginsToReply (Asks : List ℕ → Meaning → Type 0) (opening : SnapshotParts)
-    (idle : Bool) (input : Option (List ℕ)) (before after : Worker)
+    (idle : Bool) (held : List Entry → Type 0) (input : Option (List ℕ)) (before after : Worker)
     (old new : Option (List ℕ)) : Type 0 where
   pub status : Status
   pub text : List ℕ
-  pub reply : IsReply Asks opening idle input before after status text
+  pub reply : IsReply Asks opening idle held input before after status text
   pub written : AppendsFront old new text
 
 -- how a connection was served, by what came and what was written
-abbrev pub Serves : (List ℕ → Meaning → Type 0) → SnapshotParts → Bool → Option (List ℕ)
-    → Worker → Worker → Option (List ℕ) → Option (List ℕ) → Served → Type 0
-Serves Asks opening idle input before after old new (served.Replied status) =
-    Replies Asks opening idle input before after old new status
-Serves Asks opening idle input before after old new served.WriteFault =
-    BeginsToReply Asks opening idle input before after old new
-Serves Asks opening idle input before after old new served.Closed =
+abbrev pub Serves : (List ℕ → Meaning → Type 0) → SnapshotParts → Bool → (List Entry → Type 0)
+    → Option (List ℕ) → Worker → Worker → Option (List ℕ) → Option (List ℕ) → Served → Type 0
+Serves Asks opening idle held input before after old new (served.Replied status) =
+    Replies Asks opening idle held input before after old new status
+Serves Asks opening idle held input before after old new served.WriteFault =
+    BeginsToReply Asks opening idle held input before after old new
+Serves Asks opening idle held input before after old new served.Closed =
     IfSome input (λ bytes. bytes ≡ []) × (after ≡ before)
-Serves Asks opening idle input before after old new served.ReadFault = after ≡ before
-Serves Asks opening idle input before after old new served.NoMemory = IsIdle before after
+Serves Asks opening idle held input before after old new served.ReadFault = after ≡ before
+Serves Asks opening idle held input before after old new served.NoMemory = IsIdle before after
 
 -- nothing was replied
 abbrev pub IsSilent : Served → Type 0

@@ -15,7 +15,7 @@ ghost use Rattle.query_http.specs.Reply.{text_of};
 ghost use Rattle.answers.specs.Body.{body_text};
 ghost use Rattle.answers.specs.Kept.{whole_of};
 ghost use Rattle.answers.specs.MergedRows.{rows_of};
-ghost use Rattle.snapshots.specs.Keeping.{PublishesHeld};
+ghost use Rattle.snapshots.specs.Keeping.{AreHeld, PublishesHeld};
 ghost use Rattle.query_http.specs.Serving.{worker, IsIdle, IsReplyOfRefusal, conflict_body};
 ghost use Rattle.query_http.specs.Serving.{IsQueryReply, IsEventReply, IsRequestReply};
 ghost use Rattle.query_http.specs.Serving.{refused_at as place_refused};
@@ -167,7 +167,7 @@ fn write<J: Naming, C: Wait + Drop, K: Keeper + Drop>(
     committer: &Committer<J, C, K>,
 ) -> Result<Reply, AllocError>
     requires { IsTrue (is_batch (batch_of_rows rows.items)) }
-    ensures reply { IfOk result (λ r. IsEventReply J.opening K.idle
+    ensures reply { IfOk result (λ r. IsEventReply J.opening K.idle (AreHeld K.holds J.before)
         (batch (batch_of_rows rows.items))
         (worker pass.old seat.old) (worker pass.new seat.new) r.status (text_of r)) }
     ensures held { PublishesHeld K.holds J.before seat.old seat.new }
@@ -193,7 +193,7 @@ fn delete<J: Naming, C: Wait + Drop, K: Keeper + Drop>(
     committer: &Committer<J, C, K>,
 ) -> Result<Reply, AllocError>
     requires { IsTrue (is_deletion asked.0.items asked.1 asked.2) }
-    ensures reply { IfOk result (λ r. IsEventReply J.opening K.idle
+    ensures reply { IfOk result (λ r. IsEventReply J.opening K.idle (AreHeld K.holds J.before)
         (deletion asked.0.items asked.1 asked.2)
         (worker pass.old seat.old) (worker pass.new seat.new) r.status (text_of r)) }
     ensures held { PublishesHeld K.holds J.before seat.old seat.new }
@@ -220,7 +220,8 @@ fn cut_at<J: Naming, C: Wait + Drop, K: Keeper + Drop>(
     committer: &Committer<J, C, K>,
 ) -> Result<Reply, AllocError>
     requires { IsTrue (is_time at) }
-    ensures reply { IfOk result (λ r. IsEventReply J.opening K.idle (cut at)
+    ensures reply { IfOk result (λ r. IsEventReply J.opening K.idle (AreHeld K.holds J.before)
+        (cut at)
         (worker pass.old seat.old) (worker pass.new seat.new) r.status (text_of r)) }
     ensures held { PublishesHeld K.holds J.before seat.old seat.new }
     ensures kept { OnErr result ((pass.new ≡ pass.old) × (seat.new ≡ seat.old)) }
@@ -247,8 +248,8 @@ pub(crate) fn act<J: Naming, C: Wait + Drop, K: Keeper + Drop>(
     committer: &Committer<J, C, K>,
 ) -> Result<Reply, AllocError>
     requires { IsFit request }
-    ensures reply { IfOk result (λ r. IsRequestReply J.opening K.idle request
-        (worker pass.old seat.old) (worker pass.new seat.new) r.status (text_of r)) }
+    ensures reply { IfOk result (λ r. IsRequestReply J.opening K.idle (AreHeld K.holds J.before)
+        request (worker pass.old seat.old) (worker pass.new seat.new) r.status (text_of r)) }
     ensures held { PublishesHeld K.holds J.before seat.old seat.new }
     ensures idle { OnErr result (IsIdle (worker pass.old seat.old) (worker pass.new seat.new)) }
 {

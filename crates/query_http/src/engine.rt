@@ -6,7 +6,7 @@ ghost use Rattle.requests.specs.Admitting.{MeansUnder, IsBarred};
 ghost use Rattle.requests.specs.Fitting.{IsFit};
 ghost use Rattle.requests.specs.Reading.{Means};
 ghost use Rattle.requests.specs.declared.status.Status.{Status};
-ghost use Rattle.snapshots.specs.Keeping.{PublishesHeld};
+ghost use Rattle.snapshots.specs.Keeping.{AreHeld, PublishesHeld};
 ghost use Rattle.query_http.specs.Bounds.{IsBounded};
 ghost use Rattle.query_http.specs.Reply.{text_of};
 ghost use Rattle.query_http.specs.Serving.{worker, IsIdle, IsReplyOfRefusal, IsSilent, Serves};
@@ -62,8 +62,8 @@ fn do_asked<J: Naming, C: Wait + Drop, K: Keeper + Drop>(
     committer: &Committer<J, C, K>,
 ) -> Result<Reply, Served>
     requires { IsFit request }
-    ensures reply { IfOk result (λ r. IsRequestReply J.opening K.idle request
-        (worker pass.old seat.old) (worker pass.new seat.new) r.status (text_of r)) }
+    ensures reply { IfOk result (λ r. IsRequestReply J.opening K.idle (AreHeld K.holds J.before)
+        request (worker pass.old seat.old) (worker pass.new seat.new) r.status (text_of r)) }
     ensures held { PublishesHeld K.holds J.before seat.old seat.new }
     ensures memory { IfErr result (λ s. s ≡ Served.NoMemory) }
     ensures idle { OnErr result (IsIdle (worker pass.old seat.old) (worker pass.new seat.new)) }
@@ -86,7 +86,7 @@ fn reply_to<J: Naming, C: Wait + Drop, K: Keeper + Drop, R: Inlet>(
     committer: &Committer<J, C, K>,
 ) -> Result<Reply, Served>
     ensures reply { IfOk result (λ r. IsReply (MeansUnder rules.now) J.opening K.idle
-        (R.input reader.old)
+        (AreHeld K.holds J.before) (R.input reader.old)
         (worker pass.old seat.old) (worker pass.new seat.new) r.status (text_of r)) }
     ensures held { PublishesHeld K.holds J.before seat.old seat.new }
     ensures silent { IfErr result IsSilent }
@@ -135,8 +135,8 @@ fn serve_next<J: Naming, C: Wait + Drop, K: Keeper + Drop, R: Inlet, W: Outlet>(
     seat: &mut Seat<J>,
     committer: &Committer<J, C, K>,
 ) -> Served
-    ensures serves { Serves (MeansUnder rules.now) J.opening K.idle (R.input reader.old)
-        (worker pass.old seat.old) (worker pass.new seat.new)
+    ensures serves { Serves (MeansUnder rules.now) J.opening K.idle (AreHeld K.holds J.before)
+        (R.input reader.old) (worker pass.old seat.old) (worker pass.new seat.new)
         (W.output writer.old) (W.output writer.new) result }
     ensures held { PublishesHeld K.holds J.before seat.old seat.new }
     ensures silent { IsSilent result → writer.new ≡ writer.old }
@@ -188,8 +188,8 @@ pub fn serve_one_with<J: Naming, C: Wait + Drop, K: Keeper + Drop, R: Inlet, W: 
     seat: &mut Seat<J>,
     committer: &Committer<J, C, K>,
 ) -> Served
-    ensures serves { Serves (MeansUnder rules.now) J.opening K.idle (R.input reader.old)
-        (worker pass.old seat.old) (worker pass.new seat.new)
+    ensures serves { Serves (MeansUnder rules.now) J.opening K.idle (AreHeld K.holds J.before)
+        (R.input reader.old) (worker pass.old seat.old) (worker pass.new seat.new)
         (W.output writer.old) (W.output writer.new) result }
     ensures held { PublishesHeld K.holds J.before seat.old seat.new }
     ensures silent { IsSilent result → writer.new ≡ writer.old }
@@ -220,8 +220,8 @@ pub fn serve_one<J: Naming, C: Wait + Drop, K: Keeper + Drop, R: Inlet, W: Outle
     seat: &mut Seat<J>,
     committer: &Committer<J, C, K>,
 ) -> Served
-    ensures serves { Serves Means J.opening K.idle (R.input reader.old)
-        (worker pass.old seat.old) (worker pass.new seat.new)
+    ensures serves { Serves Means J.opening K.idle (AreHeld K.holds J.before)
+        (R.input reader.old) (worker pass.old seat.old) (worker pass.new seat.new)
         (W.output writer.old) (W.output writer.new) result }
     ensures held { PublishesHeld K.holds J.before seat.old seat.new }
     ensures silent { IsSilent result → writer.new ≡ writer.old }

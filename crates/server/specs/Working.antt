@@ -2,18 +2,20 @@
 use Rattle.std.specs.Prelude.{◌≡◌, ◌≤◌, ℕ, Bool, ◌+◌, List, Option, length, map}
 use mathlib.Core.List.{IsPrefix}
 use Rattle.head.specs.Heads.{SnapshotParts}
+use Rattle.snapshots.specs.declared.entry.Entry.{Entry}
 use Rattle.guard.specs.declared.rules.Rules.{Rules}
 use Rattle.query_http.specs.Serving.{Worker}
 use Rattle.server.specs.Sessions.{Session, Ending, AreServed, AreFirstToCome, AreAdded}
 
 -- The worker served so many connections, one after another, the first of those that were to come,
 -- and each ended as its connection was served.
-pub record Works (rules : Rules) (opening : SnapshotParts) (idle : Bool) (before after : Worker)
+pub record Works (rules : Rules) (opening : SnapshotParts) (idle : Bool)
+    (held : List Entry → Type 0) (before after : Worker)
     (coming left : Option (List (List ℕ))) (past ended : Option (List Ending))
     (count : ℕ) : Type 0 where
   pub sessions : List Session
   pub counted : length sessions ≡ count
-  pub served : AreServed rules opening idle before sessions after
+  pub served : AreServed rules opening idle held before sessions after
   pub first : AreFirstToCome coming left sessions
   pub told : AreAdded past ended (map (λ s. s.ending) sessions)
 

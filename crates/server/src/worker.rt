@@ -1,7 +1,7 @@
 //! One worker: it serves one connection after another.
 
 ghost use Rattle.std.specs.Prelude.{◌≡◌, ◌<◌, ◌≤◌};
-ghost use Rattle.snapshots.specs.Keeping.{PublishesHeld};
+ghost use Rattle.snapshots.specs.Keeping.{AreHeld, PublishesHeld};
 ghost use Rattle.query_http.specs.Serving.{worker};
 ghost use Rattle.server.specs.Sessions.{IsOver};
 ghost use Rattle.server.specs.Working.{Works, IsFarther};
@@ -52,7 +52,7 @@ pub fn work<'a, J: Naming, C: Wait + Drop, K: Keeper + Drop, A: Connections>(
     committer: &Committer<J, C, K>,
     most: u64,
 ) -> Shift<'a>
-    ensures works { Works rules.now J.opening K.idle
+    ensures works { Works rules.now J.opening K.idle (AreHeld K.holds J.before)
         (worker pass.old seat.old) (worker pass.new seat.new)
         (A.coming connections.old) (A.coming connections.new)
         (A.past connections.old) (A.past connections.new) result.served }

@@ -5,7 +5,7 @@ ghost use Rattle.std.specs.Prelude.{◌≡◌, []};
 ghost use Rattle.head.specs.Blocks.{opening_of};
 
 use crate::changes::rows::empty;
-use crate::serving::store::{EmptyStore, open_empty};
+use crate::serving::store::{EmptyStore, last, open_empty};
 use head::{Event, HeadView, Snapshot, apply};
 use history::{Reply, Step, run};
 use labels::{LabelSet, Row, Sample, SeriesRef};
@@ -140,5 +140,31 @@ fn commit_and_look<J: Naming, R: Wait>(rt: &R, alloc: Global, store: Store) -> O
 #[test]
 fn the_example_of_the_first_page_of_snapshots(rt: HostRuntime) {
     let has_looked = commit_and_look::<Brand, _>(&rt, rt.alloc(), Store::new());
+    assert!(rt; has_looked == Some(true));
+}
+
+/// Whether the second of two passes sees a commit, of which only the first learns the receipt. No
+/// clause says that a snapshot is the newest one.
+fn commit_and_look_untold<J: Naming, R: Wait>(rt: &R, alloc: Global, store: Store) -> Option<bool>
+    requires book { store.seen.book ≡ J.book }
+    requires opening { opening_of [] ≡ J.opening }
+{
+    let opened = store.open::<J, &R>(rt, alloc, Vec::new(alloc), 2, 1);
+    let (committer, mut passes, seats) = opened.ok()?;
+    let mut second = passes.pop()?;
+    let (pass, seat) = last(passes).zip(last(seats))?;
+    let mut store = EmptyStore {
+        committer,
+        pass,
+        seat,
+    };
+    commit_and_learn(rt, alloc, &mut store)?;
+    let snapshot = second.snapshot().ok()?;
+    Some(second.events() == 1 && has(alloc, snapshot.head(), 1))
+}
+
+#[test]
+fn a_commit_is_seen_by_a_pass_that_learnt_no_receipt(rt: HostRuntime) {
+    let has_looked = commit_and_look_untold::<Brand, _>(&rt, rt.alloc(), Store::new());
     assert!(rt; has_looked == Some(true));
 }

@@ -1,17 +1,21 @@
 use Rattle.std.proofs.Common.{ap}
 use Rattle.head.specs.BatchRows.{batch_of_rows}
 use Rattle.head.specs.Worlds.{batch}
+use Rattle.snapshots.specs.Keeping.{AreHeld}
 use Rattle.query_http.specs.Serving.{worker}
 use Rattle.snapshots.proofs.Held.{seat_held}
-use Rattle.query_http.proofs.Replying.{event_refused}
+use Rattle.query_http.proofs.Replying.{receipt_refused, event_refused}
 use Rattle.query_http.proofs.actions.write.Goals as goal
 
 pub returns-in-Err-clause-reply : goal.returns-in-Err-clause-reply
 returns-in-Err-clause-reply g c =
-    event_refused g.J.Naming.opening g.K.Keeper.idle (batch (batch_of_rows c.args.rows.items))
+    event_refused g.J.Naming.opening g.K.Keeper.idle (AreHeld g.K.Keeper.holds g.J.Naming.before)
+    (batch (batch_of_rows c.args.rows.items))
     (worker c.args.pass.now c.args.seat.now) _ c.in-Err.refused.error c.event_refusal_reply.result
     (ap (worker _) c.in-Err.ensures.kept.1)
-    (rw c.new.ensures at c.in-Err.ensures.refused)
+    (receipt_refused g.J.Naming.opening (AreHeld g.K.Keeper.holds g.J.Naming.before) c.args.seat.now
+    (batch (batch_of_rows c.args.rows.items)) c.in-Err.refused.error c.in-Err.refused.met
+    (rw c.new.ensures at c.in-Err.ensures.met) c.in-Err.ensures.known)
     c.in-Err.ensures.journal
     c.event_refusal_reply.ensures.no_memory c.event_refusal_reply.ensures.unkept
     c.event_refusal_reply.ensures.number c.event_refusal_reply.ensures.spelled

@@ -1,10 +1,12 @@
+use Rattle.snapshots.specs.Keeping.{AreHeld}
 use Rattle.query_http.specs.Serving.{worker}
 use Rattle.query_http.proofs.Replying.{served_unruled}
 use Rattle.query_http.proofs.engine.serve_one.Goals as goal
 
 pub returns-clause-serves : goal.returns-clause-serves
 returns-clause-serves g c =
-    served_unruled c.none.result g.J.Naming.opening g.K.Keeper.idle (g.R.Inlet.input c.args.reader.now)
+    served_unruled c.none.result g.J.Naming.opening g.K.Keeper.idle
+    (AreHeld g.K.Keeper.holds g.J.Naming.before) (g.R.Inlet.input c.args.reader.now)
     (worker c.args.pass.now c.args.seat.now)
     (worker c.serve_one_with.new.pass c.serve_one_with.new.seat)
     (g.W.Outlet.output c.args.writer.now) (g.W.Outlet.output c.serve_one_with.new.writer)

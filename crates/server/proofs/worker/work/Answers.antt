@@ -1,5 +1,6 @@
 use Rattle.std.proofs.Common.{List, [], ◌∷◌, Option, ℕ, inl, refl, sym, subst}
 use Rattle.snapshots.proofs.Held.{publishes_more}
+use Rattle.snapshots.specs.Keeping.{AreHeld}
 use Rattle.query_http.specs.Serving.{worker}
 use Rattle.server.specs.Sessions.{Session, Ending, IsServed, Arrives, AreAdded}
 use Rattle.server.proofs.Farther.{none_farther, farther_more, served_farther}
@@ -9,7 +10,8 @@ use Rattle.server.proofs.worker.work.Goals as goal
 pub loop-done-init : goal.loop-done-init
 loop-done-init g c =
     let before = worker c.args.pass.now c.args.seat.now in (
-      works_none c.args.rules.now g.J.Naming.opening g.K.Keeper.idle before
+      works_none c.args.rules.now g.J.Naming.opening g.K.Keeper.idle
+          (AreHeld g.K.Keeper.holds g.J.Naming.before) before
           (g.A.Connections.coming c.args.connections.now)
           (g.A.Connections.past c.args.connections.now),
       none_farther before,
@@ -28,7 +30,8 @@ loop-done-preserved g c =
         served = c.serve_one_with-served.result;
       };
     } in
-    let one : IsServed c.args.rules.now g.J.Naming.opening g.K.Keeper.idle between after s = record {
+    let one : IsServed c.args.rules.now g.J.Naming.opening g.K.Keeper.idle
+    (AreHeld g.K.Keeper.holds g.J.Naming.before) between after s = record {
       output = g.A.Writer.Outlet.output c.in-Some.writer;
       fresh = c.in-Some.ensures.fresh;
       serves = c.serve_one_with-served.ensures.serves;
@@ -43,14 +46,16 @@ loop-done-preserved g c =
     subst (λ (past : Option (List Ending)).
     AreAdded past (g.A.Connections.past c.close.new.self) (s.ending ∷ []))
     c.accept.ensures.past c.close.ensures.past in (
-      works_more c.args.rules.now g.J.Naming.opening g.K.Keeper.idle before between after
+      works_more c.args.rules.now g.J.Naming.opening g.K.Keeper.idle
+          (AreHeld g.K.Keeper.holds g.J.Naming.before) before between after
           (g.A.Connections.coming c.args.connections.now)
           (g.A.Connections.coming c.loop-done.connections) (g.A.Connections.coming c.close.new.self)
           (g.A.Connections.past c.args.connections.now)
           (g.A.Connections.past c.loop-done.connections) (g.A.Connections.past c.close.new.self)
           c.loop-done.done s c.loop-done.invariant.0 one arrives added,
       farther_more before between after c.loop-done.done c.loop-done.invariant.1
-          (served_farther c.args.rules.now g.J.Naming.opening g.K.Keeper.idle between after s one),
+          (served_farther c.args.rules.now g.J.Naming.opening g.K.Keeper.idle
+          (AreHeld g.K.Keeper.holds g.J.Naming.before) between after s one),
       publishes_more g.K.Keeper.holds g.J.Naming.before c.args.seat.now c.loop-done.seat c.serve_one_with-served.new.seat
           c.loop-done.invariant.2 c.serve_one_with-served.ensures.held,
     )

@@ -1,11 +1,12 @@
-use Rattle.snapshots.specs.Keeping.{PublishesHeld}
+use Rattle.snapshots.specs.Keeping.{AreHeld, PublishesHeld}
 use Rattle.query_http.specs.Serving.{worker}
 use Rattle.server.specs.Working.{Works, IsFarther}
 use Rattle.server.proofs.worker.work.Given as goal
 
 abbrev pub invariant-loop-done : goal.invariant-loop-done
 invariant-loop-done g l =
-    Works l.rules g.J.Naming.opening g.K.Keeper.idle (worker l.initial.pass l.initial.seat) (worker l.pass l.seat)
+    Works l.rules g.J.Naming.opening g.K.Keeper.idle (AreHeld g.K.Keeper.holds g.J.Naming.before)
+    (worker l.initial.pass l.initial.seat) (worker l.pass l.seat)
     (g.A.Connections.coming l.initial.connections) (g.A.Connections.coming l.connections)
     (g.A.Connections.past l.initial.connections) (g.A.Connections.past l.connections) l.done
     × IsFarther (worker l.initial.pass l.initial.seat) (worker l.pass l.seat) l.done
