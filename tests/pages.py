@@ -454,7 +454,8 @@ def subjects_of_codes(texts):
         "man": set(codes(between(auditor, "\n.Xr fuzzledge-block 5 :\n", ".\n"))),
         "AUDITING": set(codes(between(auditing, "the store's code:", "`I11` to"))),
     }
-    for command in ("querier select", "querier check", "querier serve", "querier backup", "auditor", "explain"):
+    inner = [f"querier {name}" for name in ("select", "check", "serve", "backup")]
+    for command in (*inner, "auditor", "explain"):
         yield f"exit statuses of {command}", {
             "help": exit_statuses(between(texts[command], "Exit status", "\0")),
             "man": man_statuses(page_of(texts, command)),
