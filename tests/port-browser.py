@@ -42,8 +42,8 @@ class Browser:
         words = [
             CHROMIUM, "--headless=new", "--no-sandbox", "--disable-gpu", "--no-first-run",
             "--hide-scrollbars", "--disable-background-networking", "--disable-component-update",
-            "--disable-sync", "--disable-extensions", "--disable-default-apps", "--no-pings", f"--user-data-dir={home}",
-            "--remote-debugging-pipe", "--window-size=1100,800",
+            "--disable-sync", "--disable-extensions", "--disable-default-apps", "--no-pings",
+            f"--user-data-dir={home}", "--remote-debugging-pipe", "--window-size=1100,800",
         ]
         # the browser reads messages at 3, and writes its own at 4
         line = f'exec 3<&{theirs} 4>&{theirs_too}; exec "$@"'
