@@ -94,8 +94,10 @@ run() {
 
 # whether the last command printed what the page has; `..` is any text of a program that may not be here
 is_written() {
-  cmp -s "$work/printed" "$work/wanted" ||
-    [[ -n $tool && $(cat "$work/printed") == $(sed 's/\.\./*/g' "$work/wanted") ]]
+  local pattern
+  pattern=$(sed -e 's/[][*?\\]/\\&/g' -e 's/\.\./*/g' "$work/wanted")
+  # shellcheck disable=SC2053 # it is a pattern
+  cmp -s "$work/printed" "$work/wanted" || [[ -n $tool && $(cat "$work/printed") == $pattern ]]
 }
 
 asked=
