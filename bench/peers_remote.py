@@ -64,7 +64,8 @@ def writes(house, table, turns):
             rates = {server.name: [] for server in servers}
             for _ in range(turns):
                 for server in servers:
-                    rates[server.name].append(asked(house, server, clients, "write", series)[0] * series / 1e6)
+                    requests = asked(house, server, clients, "write", series)[0]
+                    rates[server.name].append(requests * series / 1e6)
             here, *others = (statistics.median(one) for one in rates.values())
             beside = ", ".join(f"{one:.2f}" for one in others)
             ratio = f"{here / max(others):.2f}" if others else ""
@@ -89,5 +90,6 @@ def reads(house, table, turns):
                     times[server.name].append((time, size))
             (mine, size), *others = (min(one) for one in times.values())
             ratio = f"{mine / others[0][0]:.2f}" if others else ""
-            table.row(f"{work}: {size:,} bytes", milli(mine), ", ".join(milli(one[0]) for one in others), ratio,
+            beside = ", ".join(milli(one[0]) for one in others)
+            table.row(f"{work}: {size:,} bytes", milli(mine), beside, ratio,
                       "0.5" if others else "", not others or mine <= 0.5 * others[0][0])

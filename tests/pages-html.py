@@ -241,7 +241,7 @@ def box(page):
 
 
 def says(wanted, colour, *sentences):
-    """The claim, the colour of its box, and sentences in it; the text for a terminal begins with the claim."""
+    """The claim, its box's colour, and sentences in it. The text for a terminal begins with the claim."""
     def check(name, page):
         found = box(page)
         holds(f"{name}: {found[:2]}, wanted {(colour, wanted)}", found[:2] == (colour, wanted))
@@ -373,8 +373,8 @@ def hostile(rng):
 
 
 # The numbers that are kept for doubles, these, and their texts as Prometheus prints them: Go's strconv in its
-# form g. A number of size at most 2^53 is its own double, and else stands for the double with its bits, but for
-# those of such a double: they stand for the one with that number's bits. The last is a stale marker.
+# form g. A number of size at most 2^53 is its own double, and else stands for the double with its bits, but
+# for those of such a double: they stand for the one with that number's bits. The last is a stale marker.
 MINUS = -(1 << 63)
 DOUBLES = [
     (42, 42.0, "42"), (-1, -1.0, "-1"), (0, 0.0, "0"), (MINUS, -0.0, "-0"), (999999, 999999.0, "999999"),

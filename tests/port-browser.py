@@ -3,11 +3,11 @@
 
     tests/port-browser.py [FOLDER]
 
-A server with `--guard` gets samples. The browser opens the form, types a selector and a series into its fields,
-and presses Enter. Then it shows the page of the answer, with the rows that were written. A time that is none is
-not sent. Form and page have their own style, fetch nothing else, and a script that is put into them does not
-run. In FOLDER pictures of both are left. QUERIER names a program that is built already, else it is built (RT);
-CHROMIUM names the browser (Debian: chromium). Exit status 0 if all holds.
+A server with `--guard` gets samples. The browser opens the form, types a selector and a series into its
+fields, and presses Enter. Then it shows the page of the answer, with the rows that were written. A time that
+is none is not sent. Form and page have their own style, fetch nothing else, and a script that is put into
+them does not run. In FOLDER pictures of both are left. QUERIER names a program that is built already, else it
+is built (RT); CHROMIUM names the browser (Debian: chromium). Exit status 0 if all holds.
 """
 import base64
 import contextlib
@@ -40,10 +40,10 @@ class Browser:
     def __init__(self, home):
         (theirs, self.to), (self.of, theirs_too) = os.pipe(), os.pipe()
         words = [
-            CHROMIUM, "--headless=new", "--no-sandbox", "--disable-gpu", "--no-first-run", "--hide-scrollbars",
-            "--disable-background-networking", "--disable-component-update", "--disable-sync",
-            "--disable-extensions", "--disable-default-apps", "--no-pings", f"--user-data-dir={home}",
-            "--remote-debugging-pipe", "--window-size=1100,800",
+            CHROMIUM, "--headless=new", "--no-sandbox", "--disable-gpu", "--no-first-run",
+            "--hide-scrollbars", "--disable-background-networking", "--disable-component-update",
+            "--disable-sync", "--disable-extensions", "--disable-default-apps", "--no-pings",
+            f"--user-data-dir={home}", "--remote-debugging-pipe", "--window-size=1100,800",
         ]
         # the browser reads messages at 3, and writes its own at 4
         line = f'exec 3<&{theirs} 4>&{theirs_too}; exec "$@"'
@@ -102,13 +102,15 @@ class Browser:
     def presses(self, key, code):
         for what in ("keyDown", "keyUp"):
             text = {"text": "\r"} if key == "Enter" and what == "keyDown" else {}
-            self.asks("Input.dispatchKeyEvent", type=what, key=key, code=key, windowsVirtualKeyCode=code, **text)
+            pressed = {"type": what, "key": key, "code": key, "windowsVirtualKeyCode": code, **text}
+            self.asks("Input.dispatchKeyEvent", **pressed)
 
     def asked_for(self):
         """What was asked for since this was last called, and what the policy of a page forbade."""
         told, self.told = self.told, []
         of = lambda method: [one["params"] for one in told if one.get("method") == method]
-        blocked = {one["requestId"] for one in of("Network.loadingFailed") if one.get("blockedReason") == "csp"}
+        lost = of("Network.loadingFailed")
+        blocked = {one["requestId"] for one in lost if one.get("blockedReason") == "csp"}
         sent = [one for one in of("Network.requestWillBeSent") if one["requestId"] not in blocked]
         urls = [one["request"]["url"] for one in sent]
         entries = [one["entry"] for one in of("Log.entryAdded")]
@@ -129,7 +131,7 @@ class Browser:
 
 
 def put_in(browser, at):
-    """Puts a script and an image into a page: whether the script ran, what was fetched, and what was forbidden."""
+    """Puts a script and an image into a page: whether the script ran, what was fetched and forbidden."""
     browser.asked_for()
     browser.value("""{
         const script = document.createElement("script")
@@ -187,7 +189,8 @@ def asks_as_a_person(browser, at, folder):
     holds("the page is there", browser.waits_for("document.querySelectorAll('#rows tbody tr').length", 2))
     url = browser.value("location.href")
     sent = urllib.parse.parse_qsl(urllib.parse.urlsplit(url).query, keep_blank_values=True)
-    holds(f"what is sent is {sent}", sent == [("selector", SELECTOR), ("from", ""), ("to", ""), ("about", ABOUT)])
+    wanted = [("selector", SELECTOR), ("from", ""), ("to", ""), ("about", ABOUT)]
+    holds(f"what is sent is {sent}", sent == wanted)
     urls, forbidden = browser.asked_for()
     holds(f"the page fetches nothing else: {urls}, {forbidden}", (urls, forbidden) == ([url], []))
     if folder:
@@ -203,8 +206,8 @@ def main():
         token.write_text("a-long-token\n")
         token.chmod(0o600)
         server = lib.Running([
-            lib.find_program("querier"), "serve", "--data", f"{room}/kept", "--port", "0", "--guard", str(token),
-            "--prometheus-port", str(port),
+            lib.find_program("querier"), "serve", "--data", f"{room}/kept", "--port", "0",
+            "--guard", str(token), "--prometheus-port", str(port),
         ])
         assert server.wait(), server.told
         samples = [(when, wire.bits_of(0.25)), (when + 1000, wire.bits_of(1e6))]
@@ -230,7 +233,8 @@ def main():
             holds("the form is there again", browser.waits_for("document.forms.length", 1))
             looks_at(browser, "form", at)
             browser.asks("Page.navigate", url="data:text/html,<body>no policy")
-            holds("there is a page without a policy", browser.waits_for("document.body.innerText", "no policy"))
+            is_there = browser.waits_for("document.body.innerText", "no policy")
+            holds("there is a page without a policy", is_there)
             told = put_in(browser, at)
             holds(f"there both are done: {told}", told == (True, [f"{at}/image.png"], []))
         finally:

@@ -25,11 +25,11 @@ cd "$work"
 trap 'stop "${running[@]}" $(jobs -p); rm -rf "$work"' EXIT
 # the program that the commands need, up to the next heading
 tool=
-# ports in place of the page's: of two Prometheus, and of the store's port for them
-read -r scraper viewer remote < <(free_ports 3)
-metrics=localhost:$scraper
+# ports in place of the page's: of three Prometheus, and of the store's port for them
+read -r sender viewer lender remote < <(free_ports 4)
 on_ports() {
-  sed -e "s/localhost:9090/$metrics/g" -e "s/localhost:9091/localhost:$viewer/g" \
+  sed -e "s/localhost:9090/localhost:$sender/g" -e "s/localhost:9091/localhost:$viewer/g" \
+    -e "s/localhost:9092/localhost:$lender/g" \
     -e "s/127.0.0.1:9201/127.0.0.1:$remote/g" -e "s/--prometheus-port 9201/--prometheus-port $remote/g" "$@"
 }
 on_ports -i "$work"/examples/*.yml
@@ -46,6 +46,16 @@ start() {
   sed "s/$port/$written/" "$work/told" >"$work/printed"
 }
 
+# a pause behind the start of a Prometheus: on a busy machine it is ready only after minutes
+sleep() {
+  local waited=0
+  until [ -z "$listener" ] || [ "$waited" = 120 ] || [ "$(status "$listener/-/ready")" = 200 ]; do
+    command sleep 1
+    waited=$((waited + 1))
+  done
+  command sleep "$1"
+}
+
 # runs one command in this shell, and compares what it printed with the lines that the page has below it
 run() {
   [ -n "$1" ] || return 0
@@ -56,14 +66,24 @@ run() {
   count=$((count + 1))
   local typed
   typed=$(on_ports <<<"$1")
+  listener=
   case $1 in
     *'serve --port'*'&') start "$1"; typed= ;;
-    'prometheus '*--web.listen-address=*) ;;
-    'prometheus '*) typed=${typed/prometheus /prometheus --web.listen-address=$metrics } ;;
+    'prometheus '*)
+      [[ $1 == *--web.listen-address=* ]] ||
+        typed=${typed/prometheus /prometheus --web.listen-address=localhost:$sender }
+      listener=${typed#*--web.listen-address=}
+      listener=${listener%% *} ;;
     # a reply ends without a line feed
     'curl '*127.0.0.1:8080*) typed="${1//127.0.0.1:8080/$at} -s; echo" ;;
   esac
   [ -z "$typed" ] || eval "$typed" >"$work/printed" 2>&1 || true
+  # what a Prometheus finds out, as that an alert fires, takes longer on a busy machine
+  for _ in {1..60}; do
+    if is_written || [[ -z $tool || $1 != 'curl '* ]]; then break; fi
+    command sleep 1
+    eval "$typed" >"$work/printed" 2>&1 || true
+  done
   if is_written; then
     echo "as written: ${1:0:80}"
   else
@@ -74,8 +94,10 @@ run() {
 
 # whether the last command printed what the page has; `..` is any text of a program that may not be here
 is_written() {
-  cmp -s "$work/printed" "$work/wanted" ||
-    [[ -n $tool && $(cat "$work/printed") == $(sed 's/\.\./*/g' "$work/wanted") ]]
+  local pattern
+  pattern=$(sed -e 's/[][*?\\]/\\&/g' -e 's/\.\./*/g' "$work/wanted")
+  # shellcheck disable=SC2053 # it is a pattern
+  cmp -s "$work/printed" "$work/wanted" || [[ -n $tool && $(cat "$work/printed") == $pattern ]]
 }
 
 asked=

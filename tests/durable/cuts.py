@@ -139,7 +139,9 @@ def kept(looks, querier, work):
 
 def one_word(looks, querier):
     """Far times, long steps, and the words that are refused."""
-    for every, newest in [(1, 5), (7, -1), (7200000, 10**12), (2**62 - 1, MOST), (1000, -2500), (2**40, MOST)]:
+    for every, newest in [
+        (1, 5), (7, -1), (7200000, 10**12), (2**62 - 1, MOST), (1000, -2500), (2**40, MOST),
+    ]:
         server, world = Server(querier, "--cut-every", str(every)), World()
         server.wait()
         event = up((newest - 1, 1), (newest, 2))

@@ -150,7 +150,8 @@ def meanings(looks, querier, work):
         looks.at(f"{what}: a write", OK, server.tell(up((6, 3))))
         server.end()
         contents, _ = contents_of(read(f"{folder}/journal"))
-        looks.at(f"{what}: the kinds of its journal", [head[0][0], 17, 1], [content[0] for content in contents])
+        kinds = [content[0] for content in contents]
+        looks.at(f"{what}: the kinds of its journal", [head[0][0], 17, 1], kinds)
         meta = read(f"{folder}/blocks/1/meta.json").decode()
         looks.that(f"{what}: meta.json", meta.endswith(f'"decimals":0{member}}}\n'), meta)
 

@@ -58,7 +58,10 @@ from lib import TOP, end_all, find_program  # noqa: E402
 from rounds import rounds  # noqa: E402
 from running import running  # noqa: E402
 
-PARTS = ["folders", "events", "cuts", "blocks", "running", "damage", "faults", "joining", "adding", "backup", "rounds"]
+PARTS = [
+    "folders", "events", "cuts", "blocks", "running", "damage", "faults", "joining", "adding", "backup",
+    "rounds",
+]
 
 
 def failing_files(work):

@@ -4,10 +4,10 @@
     tests/live/run.py [PART..]   rules pages hostile silent meanings same viewer shared killed vmagent; all if
     none is named
 
-QUERIER names the program, or PREFIX says where `make install` put it; else it is built (RT). `rules`, `pages`,
-`hostile`, `silent` and `meanings` need nothing else, `same`, `viewer`, `shared` and `killed` need prometheus and
-promtool, `vmagent` needs vmagent. SECONDS is how long a Prometheus scrapes (45), KILLS how often the store is
-killed (20)."""
+QUERIER names the program, or PREFIX says where `make install` put it; else it is built (RT). `rules`,
+`pages`, `hostile`, `silent` and `meanings` need nothing else, `same`, `viewer`, `shared` and `killed` need
+prometheus and promtool, `vmagent` needs vmagent. SECONDS is how long a Prometheus scrapes (45), KILLS how
+often the store is killed (20)."""
 import contextlib
 import hashlib
 import json
@@ -229,13 +229,15 @@ def patterns(store, at):
         for end in ["", "0"]:
             labels = [("__name__", "of_host"), ("instance", f"{host}.example.org:910{end}")]
             wire.write(store.port, [(labels, [(at, wire.bits_of(1.0))])])
-    wire.write(store.port, [([("__name__", "of_host"), ("instance", "host000é.example.org:9100")], [(at, 0)])])
+    labels = [("__name__", "of_host"), ("instance", "host000é.example.org:9100")]
+    wire.write(store.port, [(labels, [(at, 0)])])
     hosts = [f"host{number:03}.example.org:9100" for number in range(60)]
     plain = "|".join(hosts)
     form = {"Content-Type": "application/x-www-form-urlencoded"}
 
     def listed(selector):
-        status, _, reply = wire.ask(store.port, "/api/v1/series", urllib.parse.urlencode({"match[]": selector}), form)
+        asked = urllib.parse.urlencode({"match[]": selector})
+        status, _, reply = wire.ask(store.port, "/api/v1/series", asked, form)
         reply = json.loads(reply)
         return (status, len(reply["data"])) if status == 200 else (status, reply["cause"])
 
@@ -246,16 +248,19 @@ def patterns(store, at):
     ]:
         about = f"a pattern of {len(pattern)} bytes, {pattern[:26]}"
         for kind, wanted in [(2, count), (3, 7 - count)]:
-            status, series = wire.read(store.port, 0, at, [(0, "__name__", "of_host"), (kind, "instance", pattern)])
+            matchers = [(0, "__name__", "of_host"), (kind, "instance", pattern)]
+            status, series = wire.read(store.port, 0, at, matchers)
             holds(f"{about}: {kind} reads {wanted}", (status, len(series)) == (200, wanted))
         text = pattern.replace("\\", "\\\\")
         holds(f"{about} is listed", listed(f'of_host{{instance=~"{text}"}}') == (200, count))
     for pattern, cause in [
-        ("x" * 65_537, "M3"), ("|".join(hosts * 44), "M3"), (f"{plain}.*", "M3"), (f"a({plain})", "M3"), ("a)(b", "M2"),
+        ("x" * 65_537, "M3"), ("|".join(hosts * 44), "M3"), (f"{plain}.*", "M3"), (f"a({plain})", "M3"),
+        ("a)(b", "M2"),
     ]:
         status, reply = wire.read(store.port, 0, at, [(2, "instance", pattern)])
         holds(f"a read of {pattern[:9]}.. is refused", (status, json.loads(reply)["cause"]) == (400, cause))
-        holds(f"a match[] of {pattern[:9]}.. is refused", listed(f'{{instance=~"{pattern}"}}') == (400, cause))
+        refused = listed(f'{{instance=~"{pattern}"}}') == (400, cause)
+        holds(f"a match[] of {pattern[:9]}.. is refused", refused)
     for count, status, cause in [(64, 200, None), (65, 400, "M5")]:
         matchers = [(0, "__name__", "of_host")] * count
         holds(f"a read with {count} matchers", wire.read(store.port, 0, at, matchers)[0] == status)
@@ -305,8 +310,8 @@ def rows_of(store, **words):
 # A value that would be markup, the series that has it, as a selector writes it, and as a page shows it.
 MARKUP = '<script>alert("1")</script>&\'<b>'
 MARKED = 'gauge{job="<script>alert(\\"1\\")</script>&\'<b>"}'
-# What is written of each series, a second apart, and how a page shows it: how many samples, the first, the last,
-# the least and the greatest, as Prometheus prints them.
+# What is written of each series, a second apart, and how a page shows it: how many samples, the first, the
+# last, the least and the greatest, as Prometheus prints them.
 WRITTEN = [
     (MARKED, MARKUP, [2.0, float("nan"), float("inf")], ("3", "2", "+Inf", "2", "+Inf")),
     ('gauge{job="a"}', "a", [0.25, 1.5, -0.1], ("3", "0.25", "-0.1", "-0.1", "1.5")),
@@ -318,8 +323,8 @@ REFUSED = [
                   "selector=up&to=4611686018427387904", "selector=up&from=-4611686018427387905",
                   "selector=up&from=2&to=1", "selector=up&to=1&to=1", "selector=up&about=up&about=up",
                   "selector=up&about=&about=", "Selector=up", "selector=up%7B&about=1&x"]),
-    ("H6", "M4", ["selector", "selector=", "selector=up%7B", "selector=up%7Bjob%3Da%7D", "selector=up%7B&about=1",
-                  "selector=%3Cscript%3E"]),
+    ("H6", "M4", ["selector", "selector=", "selector=up%7B", "selector=up%7Bjob%3Da%7D",
+                  "selector=up%7B&about=1", "selector=%3Cscript%3E"]),
     ("H6", "M6", ["selector=%7B%7D"]),
     ("H6", "M5", ["selector=%7B" + ",".join(["a%3D%22b%22"] * 17) + "%7D"]),
     ("H6", "M3", [f"selector=%7Bjob%3D~%22{'a' * 257}%22%7D"]),
@@ -368,7 +373,8 @@ def questions(store, at, whole):
     """Selectors, ranges, and series that are asked about."""
     middle = [(row[0], "1", *[value] * 4, "head") for row, value in zip(whole, ["NaN", "1.5", "1e+06"])]
     rows_are(store, "one moment", middle, selector="gauge", **{"from": at + 1000, "to": at + 1000})
-    rows_are(store, "all, with empty fields", whole, **{"about": "", "to": "", "from": "", "selector": "gauge"})
+    empty = {"about": "", "to": "", "from": ""}
+    rows_are(store, "all, with empty fields", whole, selector="gauge", **empty)
     rows_are(store, "nothing after all", [], selector="gauge", **{"from": at + 2001})
     rows_are(store, "the series of a text that would be markup", whole[:1], selector=MARKED)
     rows_are(store, "those of a pattern", whole[1:], selector='{job=~"a|b",__name__!="up"}')
@@ -382,7 +388,8 @@ def questions(store, at, whole):
     ]:
         page = asked(store, selector="gauge", about=about)[1]
         holds(f"{about}: {said}", said in page.text)
-    holds("nobody judged", "No series is missing, by the certificates below. Nobody judged: head." in page.text)
+    unjudged = "No series is missing, by the certificates below. Nobody judged: head."
+    holds("nobody judged", unjudged in page.text)
     words = urllib.parse.urlencode({"selector": "gauge", "from": -(2**62), "to": 2**62 - 1})
     with urllib.request.urlopen(f"http://127.0.0.1:{store.running.port}/select?{words}") as reply:
         text = reply.read()
@@ -399,10 +406,12 @@ def refusals(store):
             refused = (status, fields["content-type"], json.loads(body)) == (400, "application/json", line)
             holds(f"{query[:60]} is refused with {code}: {status} {body[:60]}", refused)
     for method, path, wanted in [
-        ("GET", "/page", (400, "H5")), ("GET", "/page/", (404, "H3")), ("GET", "/page/x?selector=up", (404, "H3")),
-        ("GET", "//", (404, "H3")), ("GET", "/index.html", (404, "H3")), ("GET", "/favicon.ico", (404, "H3")),
+        ("GET", "/page", (400, "H5")), ("GET", "/page/", (404, "H3")),
+        ("GET", "/page/x?selector=up", (404, "H3")), ("GET", "//", (404, "H3")),
+        ("GET", "/index.html", (404, "H3")), ("GET", "/favicon.ico", (404, "H3")),
         ("HEAD", "/", (405, None)), ("HEAD", "/page?selector=up", (405, None)), ("POST", "/", (405, "H4")),
-        ("POST", "/page", (405, "H4")), ("PUT", "/page?selector=up", (405, "H4")), ("DELETE", "/", (405, "H4")),
+        ("POST", "/page", (405, "H4")), ("PUT", "/page?selector=up", (405, "H4")),
+        ("DELETE", "/", (405, "H4")),
     ]:
         form = {"Content-Type": "application/x-www-form-urlencoded"} if method == "POST" else {}
         status, _, body = wire.ask(store.port, path, b"selector=up" if form else None, form, method)
@@ -441,7 +450,9 @@ def blocks(store, at, whole):
 def many(store, at):
     """Of an answer of many rows the first 50 are shown, and all are counted."""
     names = sorted(str(number) for number in range(120))
-    series = [([("__name__", "many"), ("n", name)], [(at + 5000, wire.bits_of(int(name) / 2))]) for name in names]
+    series = [
+        ([("__name__", "many"), ("n", name)], [(at + 5000, wire.bits_of(int(name) / 2))]) for name in names
+    ]
     holds("many series are taken", wire.write(store.port, series)[0] == 200)
     halves = [f"{int(name) // 2}.5" if int(name) % 2 else str(int(name) // 2) for name in names]
     wanted = [(f'many{{n="{name}"}}', "1", *[half] * 4, "head") for name, half in zip(names, halves)]
@@ -464,12 +475,14 @@ def admitted(room, at):
         sample = [(UP, [(at, wire.bits_of(0.5))])]
         holds("a write with the token", wire.write(store.port, sample, bearer)[0] == 200)
         rows_are(store, "what it has, without a token", wanted, selector="up")
-        for host in ["127.0.0.1", f"127.0.0.1:{store.port}", f"localhost:{store.port}", f"[::1]:{store.port}"]:
+        here = ["127.0.0.1", f"127.0.0.1:{store.port}", f"localhost:{store.port}", f"[::1]:{store.port}"]
+        for host in here:
             holds(f"Host: {host}", asked(store, {"Host": host}, selector="up")[0] == 200)
         for headers in [elsewhere, {"Origin": "null"}, {"Host": f"elsewhere:{store.port}"}, {"Host": ""}]:
             for path in ["/", "/page?selector=up", "/page?selector=up%7B", "/none"]:
                 status, _, body = wire.ask(store.port, path, None, headers, "GET")
-                holds(f"{path} with {headers}: {status}", (status, json.loads(body)) == (403, {"refused": "H12"}))
+                refused = (status, json.loads(body)) == (403, {"refused": "H12"})
+                holds(f"{path} with {headers}: {status}", refused)
     with store_in(room, "--read-only", name="guarded") as store:
         rows_are(store, "what a store has that is read only", wanted, selector="up")
         holds("and there is the form", wire.ask(store.port, "/", None, {}, "GET")[0] == 200)
@@ -643,7 +656,7 @@ def until(at, rows):
 
 
 def compare(name, disk, rows, at):
-    """Compares what was scraped up to a time: at its end a Prometheus does not send all that it has written."""
+    """Compares what was scraped up to a time: at its end a Prometheus does not send all that it wrote."""
     disk, rows = until(at, disk), until(at, rows)
     missing = different = 0
     for labels, samples in disk.items():
@@ -680,8 +693,9 @@ def same(room):
 QUERIES = [
     "up", "steps_total", "rate(steps_total[10s])", "sum by (job) (rate(steps_total[10s]))",
     "special{value!=\"minus zero\"}", "-special{value!=\"minus zero\"}",
-    "histogram_quantile(0.9, rate(delay_bucket[10s]))", "max_over_time(steps_total[20s:2s])", "absent(nothing)",
-    "count({__name__=~\"prometheus_.+\"})", "steps_total offset 5s", "prometheus_tsdb_head_samples_appended_total",
+    "histogram_quantile(0.9, rate(delay_bucket[10s]))", "max_over_time(steps_total[20s:2s])",
+    "absent(nothing)", "count({__name__=~\"prometheus_.+\"})", "steps_total offset 5s",
+    "prometheus_tsdb_head_samples_appended_total",
     "avg_over_time(special{value!~\"nan|.*inf\"}[15s])", "topk(3, scrape_duration_seconds)",
 ]
 ALERT = """
@@ -724,9 +738,9 @@ def viewer(room):
 
 
 def shared(room):
-    """Two stores behind one Prometheus, which shares its series out by a hash: together they have all, no series
-    stands in both, and a viewer of both gives the answers of the one that scrapes; with one of them down it says
-    so."""
+    """Two stores behind one Prometheus, which shares its series out by a hash: together they have all, no
+    series stands in both, and a viewer of both gives the answers of the one that scrapes; with one of them
+    down it says so."""
     port, view, exporter = lib.free_port(), lib.free_port(), lib.free_port()
 
     def writes(store, shard):
@@ -734,7 +748,10 @@ def shared(room):
   - url: http://127.0.0.1:{store.port}/api/v1/write
     queue_config: {{batch_send_deadline: 1s}}
     write_relabel_configs:
-      - {{source_labels: [__name__, value, le, number], modulus: 2, target_label: __tmp_shard, action: hashmod}}
+      - source_labels: [__name__, value, le, number]
+        modulus: 2
+        target_label: __tmp_shard
+        action: hashmod
       - {{source_labels: [__tmp_shard], regex: "{shard}", action: keep}}
       - {{regex: __tmp_shard, action: labeldrop}}"""
 
@@ -757,7 +774,8 @@ remote_read:
                 time.sleep(SECONDS)
                 at = all_sent(port)
                 for query in ["count({job=\"app\"})", "sum(load)", "steps_total"]:
-                    (wanted, _), (got, warned) = queried(port, query, at / 1000), queried(view, query, at / 1000)
+                    wanted, _ = queried(port, query, at / 1000)
+                    got, warned = queried(view, query, at / 1000)
                     holds(f"the same answer to {query}", wanted == got and not warned)
             rows, others = one.rows(), other.rows()
             holds("each store has series", min(len(rows), len(others)) > 5)
@@ -814,15 +832,16 @@ scrape_configs:
 
 
 def meanings(room):
-    """A store that begins with the port has doubles ever after; one of whole numbers is left as it is, and the
-    port is refused."""
+    """A store that begins with the port has doubles ever after; one of whole numbers is left as it is, and
+    the port is refused."""
     def served(name, *words):
         ran = subprocess.run(
             [lib.find_program("querier"), "serve", "--data", str(pathlib.Path(room) / name), "--port", "0",
              "--requests", "0", *words],
             capture_output=True, text=True, timeout=120,
         )
-        return ran.returncode, ran.stderr.splitlines()[-1:], (pathlib.Path(room) / name / "journal").read_bytes()
+        journal = (pathlib.Path(room) / name / "journal").read_bytes()
+        return ran.returncode, ran.stderr.splitlines()[-1:], journal
 
     port = ["--prometheus-port", str(lib.free_port())]
     whole = served("whole")

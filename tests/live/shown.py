@@ -57,8 +57,8 @@ class Page(html.parser.HTMLParser):
         ]
 
     def faults(self, form):
-        """What a page must not have: a script, a fetch, a way out, a policy that lets these, or comes too late;
-        a form only if it is the one that asks for pages."""
+        """What a page must not have: a script, a fetch, a way out, a policy that lets these, or comes too
+        late; a form only if it is the one that asks for pages."""
         told = []
         front, style = re.match(r"(?s)(.*?)<style>(.*?)</style>", self.source).groups()
         digest = base64.b64encode(hashlib.sha256(style.encode()).digest()).decode()
