@@ -1,6 +1,7 @@
 -- A store that is read.
 use Rattle.std.proofs.Common.{◌≡◌, ℕ, Bool, true, false, List, ◌++◌, Option, map, drop, length, refl, sym}
-use Rattle.std.proofs.Common.{◌⊎◌, inl, inr, subst, ◌∙◌}
+use Rattle.std.proofs.Common.{◌⊎◌, inl, inr, subst, ◌∙◌, Result, Ok, Err}
+use Rattle.std.specs.Prelude.{OnOk}
 use Rattle.std.proofs.Math.Dec.{eqb}
 use Rattle.std.proofs.lemmas.Bool.Decides.{Decides-eqb}
 use Rattle.std.proofs.lemmas.Slice.Eq.{starts_is}
@@ -13,6 +14,7 @@ use Rattle.head.specs.Worlds.{Event}
 use Rattle.head_record.specs.Saved.{Saved}
 use Rattle.store_folder.specs.declared.error.StartCause.TheVariants.{Refused}
 use Rattle.store_folder.specs.declared.error.StartError.{StartError}
+use Rattle.store_folder.specs.declared.error.StartError.TheVariants.{Medium}
 use Rattle.store_folder.specs.declared.reading.FoundStore.{FoundStore}
 use Rattle.store_folder.specs.Codes.{cause_of}
 use Rattle.store_folder.specs.Faults.{DeniesStore, IsStoreOf}
@@ -23,8 +25,9 @@ use Rattle.store_folder.specs.Starting.{DeniesStart}
 use Rattle.store_folder.proofs.Refusals.{found_refused, store_refused}
 use Rattle.store_joiner.specs.Stores.{HasStore}
 use Rattle.store_backup.specs.declared.error.CopyFault.{CopyFault}
-use Rattle.store_backup.specs.declared.error.CopyFault.TheVariants.{Source, Taken}
-use Rattle.store_backup.specs.Copies.{DeniesRead, IsOfTarget}
+use Rattle.store_backup.specs.declared.error.CopyFault.TheVariants.{Source}
+use Rattle.store_backup.specs.declared.error.CopyFault.TheVariants as faults
+use Rattle.store_backup.specs.Copies.{DeniesRead, IsOfTarget, IsTaken}
 use Rattle.store_backup.specs.Reading.{DeniesSource, IsOfStart}
 
 -- whether one text begins with another
@@ -86,6 +89,29 @@ module _ {F : Type 0} (shows : F → List ℕ → Option (List ℕ) → Type 0)
       subst IsRefusal same
       (found_refused shows kept s.journal (map part_in s.blocks.items) f x.0 is x.2)
 
+-- what the target has
+
+pub on_ok : {A E : Type 0} (r : Result A E) (P : Type 0) → P → OnOk r P
+on_ok (Ok x) P p = p
+on_ok (Err e) P p = tt
+
+pub not_a_journal : {X : Type 0} (fault : CopyFault)
+    → (fault ≡ faults.Blocks) ⊎ (fault ≡ faults.Target) → fault ≡ faults.Taken → X
+not_a_journal fault (inl is) taken = cc
+not_a_journal fault (inr is) taken = cc
+
+pub blocks_or_target : (fault : CopyFault) → (fault ≡ faults.Blocks) ⊎ (fault ≡ faults.Target)
+    → IsTaken fault ⊎ IsOfTarget fault
+blocks_or_target fault (inl is) = inl (inr is)
+blocks_or_target fault (inr is) = inr (inl is)
+
+-- nor is a refusal of the target one of a start
+pub of_target : (fault : CopyFault) → IsTaken fault ⊎ IsOfTarget fault → IsOfStart fault
+of_target fault (inl (inl is)) other source refused = cc
+of_target fault (inl (inr is)) other source refused = cc
+of_target fault (inr (inl is)) other source refused = cc
+of_target fault (inr (inr x)) other source refused = let is = x.1 in cc
+
 -- what was read is what lay there
 pub is_that : (saved : Saved) (parts : List BlockPart) (events : List Event) (s : FoundStore)
     → IsStoreOf saved parts events s
@@ -93,22 +119,41 @@ pub is_that : (saved : Saved) (parts : List BlockPart) (events : List Event) (s 
     × (s.journal.events.items ≡ events)
 is_that saved parts events s is = (is.head, is.blocks, is.events)
 
--- nor does one say of the target that it has a journal
+-- a fault that tells of what the target has
+abbrev IsOfTaken : CopyFault → Type 0
+IsOfTaken faults.Taken = Unit {0}
+IsOfTaken faults.Blocks = Unit {0}
+IsOfTaken faults.NoStore = ⊥
+IsOfTaken faults.Changed = ⊥
+IsOfTaken (faults.Source e) = ⊥
+IsOfTaken (faults.Write e) = ⊥
+IsOfTaken faults.Target = ⊥
+
+no_taken : {X : Type 0} (fault other is : CopyFault) → IsOfTaken other → fault ≡ other → fault ≡ is
+    → (IsOfTaken is → X) → X
+no_taken fault other is taken e so none = none (subst IsOfTaken (sym e ∙ so) taken)
+
+-- nor does a refusal of the source, or a write that failed
 pub not_taken : {F : Type 0} (shows : F → List ℕ → Option (List ℕ) → Type 0)
-    (kept : F → List ℕ → ℕ → Type 0) (failed : F → Bool) (old new again : F) (fault : CopyFault)
-    {X : Type 0} → IsOfTarget fault ⊎ (DeniesSource shows kept failed new again fault
-    ⊎ DeniesRead shows kept old new fault) → fault ≡ Taken → X
-not_taken shows kept failed old new again fault (inl (inl is)) taken = cc
-not_taken shows kept failed old new again fault (inl (inr x)) taken = let is = x.1 in cc
-not_taken shows kept failed old new again fault (inr (inl (inl x))) taken = let is = x.0 in cc
-not_taken shows kept failed old new again fault (inr (inl (inr (inl (inl (inl x)))))) taken =
-    let is = x.0 in cc
-not_taken shows kept failed old new again fault (inr (inl (inr (inl (inl (inr x)))))) taken =
-    let is = x.0 in cc
-not_taken shows kept failed old new again fault (inr (inl (inr (inl (inr x))))) taken =
-    let is = x.1 in cc
-not_taken shows kept failed old new again fault (inr (inl (inr (inr (inl x))))) taken =
-    let is = x.0 in cc
-not_taken shows kept failed old new again fault (inr (inl (inr (inr (inr x))))) taken =
-    let is = x.0 in cc
-not_taken shows kept failed old new again fault (inr (inr x)) taken = let is = x.4.1 in cc
+    (kept : F → List ℕ → ℕ → Type 0) (failed : F → Bool) (old new again : F)
+    (fault other : CopyFault) {X : Type 0} → IsOfTaken other
+    → IsOfTarget fault ⊎ (DeniesSource shows kept failed new again fault
+    ⊎ DeniesRead shows kept old new fault) → fault ≡ other → X
+not_taken shows kept failed old new again fault other taken (inl (inl is)) e =
+    no_taken fault other faults.Target taken e is (λ none. absurd none)
+not_taken shows kept failed old new again fault other taken (inl (inr x)) e =
+    no_taken fault other (faults.Write x.0) taken e x.1 (λ none. absurd none)
+not_taken shows kept failed old new again fault other taken (inr (inl (inl x))) e =
+    no_taken fault other faults.Changed taken e x.0 (λ none. absurd none)
+not_taken shows kept failed old new again fault other taken (inr (inl (inr (inl (inl (inl x)))))) e =
+    no_taken fault other faults.NoStore taken e x.0 (λ none. absurd none)
+not_taken shows kept failed old new again fault other taken (inr (inl (inr (inl (inl (inr x)))))) e =
+    no_taken fault other (faults.Source Medium) taken e x.0 (λ none. absurd none)
+not_taken shows kept failed old new again fault other taken (inr (inl (inr (inl (inr x))))) e =
+    no_taken fault other (faults.Source x.0) taken e x.1 (λ none. absurd none)
+not_taken shows kept failed old new again fault other taken (inr (inl (inr (inr (inl x))))) e =
+    no_taken fault other faults.NoStore taken e x.0 (λ none. absurd none)
+not_taken shows kept failed old new again fault other taken (inr (inl (inr (inr (inr x))))) e =
+    no_taken fault other (faults.Source Medium) taken e x.0 (λ none. absurd none)
+not_taken shows kept failed old new again fault other taken (inr (inr x)) e =
+    no_taken fault other (faults.Source x.4.0) taken e x.4.1 (λ none. absurd none)

@@ -16,7 +16,7 @@ use Rattle.store_joiner.specs.Finds.{Finds, FindsNow, other_of}
 use Rattle.store_backup.specs.declared.copying.Copied.{Copied}
 use Rattle.store_backup.specs.declared.error.CopyFault.{CopyFault}
 use Rattle.store_backup.specs.declared.error.CopyFault.TheVariants as faults
-use Rattle.store_backup.specs.Reading.{IsRead}
+use Rattle.store_backup.specs.Reading.{IsRead, IsSettled}
 
 -- what is left has no journal, or one of these contents and these files
 abbrev pub NoneOrWhole : List Named → List (List ℕ) → Left → Type 0
@@ -68,6 +68,10 @@ MayBegin shows kept moment left_since saved parts events old new =
     ⊎ ((w : World) × Make saved parts events w
     × Begins shows kept moment left_since (copy_of saved parts w) old new)
 
+-- the target has a journal, or a block without one
+abbrev pub IsTaken : CopyFault → Type 0
+IsTaken fault = (fault ≡ faults.Taken) ⊎ (fault ≡ faults.Blocks)
+
 -- the copy was not written, or the target failed
 abbrev pub IsOfTarget : CopyFault → Type 0
 IsOfTarget fault =
@@ -86,3 +90,26 @@ abbrev pub TellsSome : Copied → Type 0
 TellsSome told =
     (saved : Saved) × (parts : List BlockPart) × (events : List Event) × (w : World)
     × Make saved parts events w × (told.events ≡ length events) × (told.blocks ≡ w.blocks)
+
+-- The store that a view of a folder has was copied into a target, and this tells of it: the journal
+-- begins, by another view, as it was read.
+pub record IsCopyBetween {F G : Type 0} (f_shows : F → List ℕ → Option (List ℕ) → Type 0)
+    (f_kept : F → List ℕ → ℕ → Type 0) (shows : G → List ℕ → Option (List ℕ) → Type 0)
+    (kept : G → List ℕ → ℕ → Type 0) (moment : G → ℕ)
+    (left_since : G → ℕ → Left → Type 0) (views : F → Type 0) (takes : G → Type 0)
+    (told : Copied) : Type 0 where
+  pub source : F
+  pub is_view : views source
+  pub read : F
+  pub saved : Saved
+  pub parts : List BlockPart
+  pub events : List Event
+  pub is_read : IsRead f_shows f_kept saved parts events source read
+  pub again : F
+  pub is_other : views again
+  pub last : F
+  pub settled : IsSettled f_shows f_kept read last
+  pub target : G
+  pub is_target : takes target
+  pub new : G
+  pub copied : IsCopied shows kept moment left_since saved parts events told target new

@@ -1,18 +1,20 @@
 //! The copy of a store.
 
 ghost use Rattle.std.specs.Prelude.{◌≡◌, ◌⊎◌, ℕ, List, None, Some, IfErr, IfOk, MatchResult, OnOk};
-ghost use Rattle.std.specs.Prelude.{length, map, true};
+ghost use Rattle.std.specs.Prelude.{false, length, map, true};
 ghost use Rattle.data_folder.specs.Folders.{HasFile, Untouched};
 ghost use Rattle.data_folder.specs.JournalFile.{journal_name};
 ghost use Rattle.head.specs.Blocks.{part_in};
 ghost use Rattle.head.specs.Heads.{BlockPart, world_of};
 ghost use Rattle.head.specs.Worlds.{Event as Change};
 ghost use Rattle.head_record.specs.Saved.{Saved};
-ghost use Rattle.store_backup.specs.Copies.{DeniesRead, IsCopied, IsOfTarget, MayBegin};
+ghost use Rattle.store_backup.specs.Copies.{DeniesRead, IsCopied, IsOfTarget, IsTaken, MayBegin};
 ghost use Rattle.store_backup.specs.Reading.{DeniesSource, IsOfStart, IsRead, IsSettled};
 ghost use Rattle.store_folder.specs.Faults.{TellsFiles};
 ghost use Rattle.store_folder.specs.Starting.{DeniesStart};
 ghost use Rattle.store_folder.specs.States.{HasWorld};
+ghost use Rattle.store_folder.specs.Sweeps.{ListsNumber};
+ghost use Rattle.store_joiner.specs.Stores.{HasBlocks};
 
 use crate::begun::begin_with;
 use crate::error::CopyFault;
@@ -21,7 +23,7 @@ use block::Block;
 use data_folder::{Folder, JOURNAL};
 use head::{Snapshot, replay};
 use std::alloc::Global;
-use store_folder::{FoundJournal, FoundStore, StartError};
+use store_folder::{FoundJournal, FoundStore, StartError, has_blocks};
 
 /// What was copied.
 #[derive(Clone, Copy, Drop)]
@@ -123,10 +125,51 @@ fn copy_into<F: Folder, G: Folder + Drop>(
     }
 }
 
-/// Copies the store of a folder into another one, which must have no journal. `source` and `again`
-/// are two views of the folder that is copied: by the one its store is read, by the other its
-/// journal once more. Nothing is changed there. How many events and blocks the copy has, and the
-/// target, which an `Err` gives back too.
+/// That a folder has no blocks. All files stay.
+fn check_blocks<G: Folder>(alloc: Global, target: &mut G) -> Result<(), CopyFault>
+    requires { G.sound target.old ≡ true }
+    ensures sound { OnOk result (G.sound target.new ≡ true) }
+    ensures empty { OnOk result (ListsNumber G.lists target.new false) }
+    ensures listed { IfErr result (λ e. e ≡ CopyFault.Blocks
+        → ListsNumber G.lists target.new true) }
+    ensures refused { IfErr result (λ e. (e ≡ CopyFault.Blocks) ⊎ (e ≡ CopyFault.Target)) }
+    ensures untouched { Untouched G.shows G.kept G.moment G.left_since
+        target.old target.new }
+{
+    match has_blocks(alloc, target) {
+        Ok(false) => Ok(()),
+        Ok(true) => Err(CopyFault::Blocks),
+        Err(_) => Err(CopyFault::Target),
+    }
+}
+
+/// That a folder has neither a journal nor blocks. All files stay.
+fn check_target<G: Folder>(alloc: Global, target: &mut G) -> Result<(), CopyFault>
+    requires { G.sound target.old ≡ true }
+    ensures sound { OnOk result (G.sound target.new ≡ true) }
+    ensures none { OnOk result (G.shows target.new journal_name None
+        × G.kept target.new journal_name 0) }
+    ensures empty { OnOk result (ListsNumber G.lists target.new false) }
+    ensures taken { IfErr result (λ e. e ≡ CopyFault.Taken
+        → (file : List ℕ) × HasFile G.shows G.kept journal_name file target.new) }
+    ensures listed { IfErr result (λ e. e ≡ CopyFault.Blocks
+        → G.shows target.new journal_name None × ListsNumber G.lists target.new true) }
+    ensures refused { IfErr result (λ e. IsTaken e ⊎ IsOfTarget e) }
+    ensures untouched { Untouched G.shows G.kept G.moment G.left_since
+        target.old target.new }
+{
+    match target.read(alloc, JOURNAL) {
+        Ok(None) => check_blocks(alloc, target),
+        Ok(Some(_)) => Err(CopyFault::Taken),
+        Err(_) => Err(CopyFault::Target),
+    }
+}
+
+/// Copies the store of a folder into another one, which must have neither a journal nor blocks: who
+/// has lost a journal shall not lose the blocks as well. `source` and `again` are two views of the
+/// folder that is copied: by the one its store is read, by the other its journal once more. Nothing
+/// is changed there. How many events and blocks the copy has, and the target, which an `Err` gives
+/// back too.
 ///
 /// It takes memory for the store, as a start does, and for the file of its journal once more.
 pub fn copy_store<F: Folder, G: Folder + Drop>(
@@ -164,17 +207,24 @@ pub fn copy_store<F: Folder, G: Folder + Drop>(
     ensures safe { TellsFiles G.shows → (file : List ℕ)
         → G.shows target journal_name (Some file) → MatchResult result (λ x. ⊥)
         (λ e. Untouched G.shows G.kept G.moment G.left_since target e.1) }
+    // Nor is anything changed in one without a journal where a block lies.
+    ensures listed { IfErr result (λ e. e.0 ≡ CopyFault.Blocks
+        → G.shows e.1 journal_name None × ListsNumber G.lists e.1 true
+        × Untouched G.shows G.kept G.moment G.left_since target e.1) }
+    ensures blocks { TellsFiles G.shows → G.shows target journal_name None
+        → HasBlocks G.shows G.lists G.kept G.moment G.left_since target
+        → MatchResult result (λ x. ⊥)
+        (λ e. Untouched G.shows G.kept G.moment G.left_since target e.1) }
     // What is refused is what a start refuses, or it has changed meanwhile.
-    ensures refused { IfErr result (λ e. (e.0 ≡ CopyFault.Taken) ⊎ (IsOfTarget e.0
+    ensures refused { IfErr result (λ e. IsTaken e.0 ⊎ (IsOfTarget e.0
         ⊎ (DeniesSource F.shows F.kept F.failed source.new again.new e.0
         ⊎ DeniesRead F.shows F.kept source.old source.new e.0))) }
     // A refusal of the source comes of something that is wrong with a store.
     ensures told { IfErr result (λ e. IsOfStart e.0) }
 {
     let mut target = target;
-    match target.read(alloc, JOURNAL) {
-        Ok(None) => copy_into(alloc, source, again, target),
-        Ok(Some(_)) => Err((CopyFault::Taken, target)),
-        Err(_) => Err((CopyFault::Target, target)),
+    match check_target(alloc, &mut target) {
+        Ok(()) => copy_into(alloc, source, again, target),
+        Err(fault) => Err((fault, target)),
     }
 }
