@@ -17,7 +17,7 @@ use crate::sending::send;
 use std::alloc::{AllocError, Global};
 use std::fs;
 use std::io::{ErrorKind, Write};
-use store_backup::{Copied, CopyFault, copy_on_host};
+use store_backup::{Copied, CopyFault, HostFolders, copy_between};
 use store_folder::{RollFault, StartCause, StartError};
 
 /// The line of a copy, as `OUT: 2 blocks, 37 events`.
@@ -73,7 +73,7 @@ fn not_copied(alloc: Global, from: &str, out: &str, fault: CopyFault) -> Fault
     ensures { IsCopyFault from.now out.now result }
 {
     match fault {
-        CopyFault::Taken => Fault::Refused(Refusal::NotEmpty),
+        CopyFault::Taken | CopyFault::Blocks => Fault::Refused(Refusal::NotEmpty),
         CopyFault::NoStore => no_journal(alloc, from),
         CopyFault::Changed => Fault::Refused(Refusal::Unsettled),
         CopyFault::Source(error) => not_read(alloc, from, error),
@@ -89,7 +89,12 @@ fn copy(alloc: Global, host: &HostRuntime, from: &str, out: &str) -> Result<Copi
 {
     check_empty(alloc, host, out)?;
     let lock = lock_data(alloc, host, out)?;
-    let copied = match copy_on_host(alloc, host, from, out) {
+    let folders = HostFolders {
+        host,
+        from,
+        to: out,
+    };
+    let copied = match copy_between(alloc, &folders) {
         Ok(copied) => copied,
         Err(fault) => return Err(not_copied(alloc, from, out, fault)),
     };
