@@ -44,11 +44,15 @@ named_app =
     let app = new_app (codes "auditor") in
     record app { top = record app.top { has_version = true; no_binary_name = true } }
 
+-- what a query is asked by, added to an app: --selector S [--from N] [--to N]
+abbrev pub with_query : App → App
+with_query app =
+    with_rule (with_rule (with_rule app selector_rule) (time_rule (codes "from")))
+    (time_rule (codes "to"))
+
 -- what an audit is asked by, added to an app: --selector S [--from N] [--to N] [DIR]...
 abbrev pub with_arguments : App → App
-with_arguments app =
-    with_rule (with_rule (with_rule (with_rule app selector_rule) (time_rule (codes "from")))
-    (time_rule (codes "to"))) directories_rule
+with_arguments app = with_rule (with_query app) directories_rule
 
 -- --selector S [--from N] [--to N] [DIR]...
 abbrev pub auditor_app : App

@@ -5,7 +5,8 @@ ghost use Rattle.clap.specs.Matches.{found_of};
 ghost use Rattle.clap.specs.Words.{app_of, rule_of, rows_of, one_of, first_of, all_of, matches_of};
 ghost use Rattle.clap.specs.Words.{fault_of, FailsBy};
 ghost use Rattle.audit_command.specs.Asking.{selector_rule, time_rule, directories_rule};
-ghost use Rattle.audit_command.specs.Asking.{named_app, with_arguments, auditor_app, texts_of};
+ghost use Rattle.audit_command.specs.Asking.{named_app, with_query, with_arguments, auditor_app};
+ghost use Rattle.audit_command.specs.Asking.{texts_of};
 ghost use Rattle.audit_command.specs.Asking.{IsTimeIn, IsAskedIn, IsAskedBy};
 
 use clap::{Arg, ArgMatches, Command, Error, value_parser};
@@ -42,6 +43,10 @@ for each directory that no part names, and last that of the rows of all:
   rows: valid            the rows of all are those of the parts; else F10
 
 docs/AUDITING.md of the project explains each flaw.
+
+With --store DIR in place of directories, a reply of querier serve --data DIR is judged, its head
+and changes too: see auditor --store DIR --help. auditor --mark --help says how to have it judged
+that a reply is not from before a write.
 
 Exit status: 0 nothing is wrong; 1 a line names a flaw or a refusal, or the selector or the range is
 refused; 2 a fault of the words; 3 a file or standard input cannot be read, or it holds no reply, or
@@ -87,16 +92,22 @@ fn directories<'a>(alloc: Global) -> Arg<'a>
         .help("A directory with a block")
 }
 
-/// Adds what an audit is asked by to a command: `--selector S`, which must be given, `--from N`,
-/// `--to N` and directories.
-pub fn with_arguments<'a>(alloc: Global, command: Command<'a>) -> Result<Command<'a>, AllocError>
-    ensures { IfOk result (λ added. app_of added ≡ with_arguments (app_of command.entry)) }
+/// Adds what a query is asked by to a command: `--selector S`, which must be given, `--from N` and
+/// `--to N`.
+pub fn with_query<'a>(alloc: Global, command: Command<'a>) -> Result<Command<'a>, AllocError>
+    ensures { IfOk result (λ added. app_of added ≡ with_query (app_of command.entry)) }
 {
     command
         .arg(selector(alloc))?
         .arg(time(alloc, "from", FROM))?
-        .arg(time(alloc, "to", TO))?
-        .arg(directories(alloc))
+        .arg(time(alloc, "to", TO))
+}
+
+/// Adds what an audit is asked by to a command: a query, as [`with_query`] does, and directories.
+pub fn with_arguments<'a>(alloc: Global, command: Command<'a>) -> Result<Command<'a>, AllocError>
+    ensures { IfOk result (λ added. app_of added ≡ with_arguments (app_of command.entry)) }
+{
+    with_query(alloc, command)?.arg(directories(alloc))
 }
 
 /// The program, without its arguments.
