@@ -8,8 +8,10 @@ use Rattle.auditor.specs.declared.judgement.BlockTable.{BlockTable}
 use Rattle.kept_walk.specs.Contents.{IsKept}
 use Rattle.kept_walk.specs.Kept.{Store}
 use Rattle.kept_walk.specs.Refusals.{Denies}
+use Rattle.kept_folder.specs.Heads.{IsMarked}
 use Rattle.kept_folder.specs.declared.fault.StoreFault.{StoreFault}
 use Rattle.kept_folder.specs.declared.fault.StoreFault.TheVariants.{Files, Refused, Changes}
+use Rattle.kept_folder.specs.declared.reading.FoundJournal.{FoundJournal}
 use Rattle.kept_folder.specs.declared.reading.FoundStore.{FoundStore}
 
 abbrev pub journal_path : List ℕ → List ℕ
@@ -44,18 +46,30 @@ pub record BeginsAnew (reads : Host) (path bytes : List ℕ) : Type 0 where
 abbrev pub HasChanged : Host → List ℕ → List ℕ → Type 0
 HasChanged reads path bytes = reads path None ⊎ BeginsAnew reads path bytes
 
--- what a journal of these bytes says, and what is known of the blocks that its head names
-pub record IsStoreOf (reads : Host) (folder bytes : List ℕ) (store : Store)
-    (tables : List BlockTable) : Type 0 where
-  pub kept : IsKept bytes store
-  pub blocks : AreTablesAt reads (block_paths folder store.folders) tables
+-- what a journal of these bytes says, the checksum of its head, and what is known of the blocks
+-- that the head names
+pub record IsStoreOf (reads : Host) (folder bytes : List ℕ) (found : FoundStore) : Type 0 where
+  pub kept : IsMarked bytes found.kept found.head
+  pub blocks : AreTablesAt reads (block_paths folder found.kept.folders) found.tables.items
 
 -- what is read of a folder: of one journal, which began so before the blocks were read and after
 pub record IsStoreAt (reads : Host) (folder : List ℕ) (found : FoundStore) : Type 0 where
   pub bytes : List ℕ
   pub journal : AreJournal reads folder bytes
-  pub store : IsStoreOf reads folder bytes found.kept found.tables.items
+  pub store : IsStoreOf reads folder bytes found
   pub still : StillBegins reads (journal_path folder) bytes
+
+-- what is read of the journal alone
+pub record IsJournalAt (reads : Host) (folder : List ℕ) (found : FoundJournal) : Type 0 where
+  pub bytes : List ℕ
+  pub journal : AreJournal reads folder bytes
+  pub kept : IsMarked bytes found.kept found.head
+
+-- why nothing is read of a journal of these bytes
+abbrev pub IsBytesFault : List ℕ → StoreFault → Type 0
+IsBytesFault bytes (Refused e) = Denies bytes e
+IsBytesFault bytes (Files files.Memory) = ⊤
+IsBytesFault bytes fault = ⊥
 
 -- why nothing is read of a journal of these bytes, and of the blocks that its head names
 abbrev pub IsFaultOf : Host → List ℕ → List ℕ → StoreFault → Type 0
@@ -91,3 +105,9 @@ abbrev pub IsStoreFault : Host → List ℕ → StoreFault → Type 0
 IsStoreFault reads folder Changes = IsChanging reads folder
 IsStoreFault reads folder fault =
     IsJournalFault reads (journal_path folder) fault ⊎ IsFaultAt reads folder fault
+
+-- why the journal alone is not read
+abbrev pub IsUnreadJournal : Host → List ℕ → StoreFault → Type 0
+IsUnreadJournal reads folder fault =
+    IsJournalFault reads (journal_path folder) fault
+    ⊎ ((bytes : List ℕ) × AreJournal reads folder bytes × IsBytesFault bytes fault)

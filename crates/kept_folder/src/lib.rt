@@ -4,15 +4,17 @@
 //! of the block in each folder that its head names. It takes no lock. What is read counts once the
 //! journal begins as it did before the blocks were read: events are only added to a journal, and a
 //! store that begins it anew puts another file in its place, so the blocks are those of this head.
-//! Else all is read again, at most eight times ([`StoreFault`]).
+//! Else all is read again, at most eight times ([`StoreFault`]). [`read_kept`] reads the journal
+//! alone.
 //!
-//! It stands on `kept_walk` for the journal and on `audit_command` for files, paths and the blocks
-//! in directories.
+//! It stands on `kept_walk` and `journal` for the journal, and on `audit_command` for files, paths
+//! and the blocks in directories.
 #![tactic(auto)]
 
 mod fault;
+mod heads;
 mod paths;
 mod reading;
 
 pub use fault::StoreFault;
-pub use reading::{FoundStore, read_store};
+pub use reading::{FoundJournal, FoundStore, read_kept, read_store};

@@ -3,11 +3,14 @@
 ghost use Rattle.std.specs.Prelude.{◌≡◌, ◌↔◌, IsTrue, IfOk, IfErr, MatchBool, MatchOption};
 ghost use Rattle.audit_command.specs.Reading.{AreFirstBytes};
 ghost use Rattle.audit_command.specs.Walking.{AreTablesAt, IsFirstFault};
-ghost use Rattle.kept_folder.specs.Folders.{HasChanged, IsChanging, IsFaultOf, IsJournalFault};
-ghost use Rattle.kept_folder.specs.Folders.{IsStoreAt, IsStoreFault, IsStoreOf, StillBegins};
-ghost use Rattle.kept_folder.specs.Folders.{block_paths, journal_path, most};
+ghost use Rattle.kept_folder.specs.Heads.{IsMarked};
+ghost use Rattle.kept_folder.specs.Folders.{HasChanged, IsBytesFault, IsChanging, IsFaultOf};
+ghost use Rattle.kept_folder.specs.Folders.{IsJournalAt, IsJournalFault, IsStoreAt, IsStoreFault};
+ghost use Rattle.kept_folder.specs.Folders.{IsStoreOf, IsUnreadJournal, StillBegins, block_paths};
+ghost use Rattle.kept_folder.specs.Folders.{journal_path, most};
 
 use crate::fault::StoreFault;
+use crate::heads::head_sum;
 use crate::paths::{block_paths, journal_path, lent};
 use audit_command::{Fault, ReadError, ReadFiles, tables_at};
 use auditor::BlockTable;
@@ -25,8 +28,19 @@ const TURNS: usize = 8;
 pub struct FoundStore {
     /// What its journal says.
     pub kept: Kept,
+    /// The checksum of the journal's head, which tells it from another.
+    pub head: u32,
     /// What is known of the blocks that the journal's head names, in their order.
     pub tables: Vec<BlockTable>,
+}
+
+/// What is read of the journal of a store.
+#[derive(Drop)]
+pub struct FoundJournal {
+    /// What it says.
+    pub kept: Kept,
+    /// The checksum of its head.
+    pub head: u32,
 }
 
 fn read_journal<F: ReadFiles>(alloc: Global, files: &F, path: &str) -> Result<Vec<u8>, StoreFault>
@@ -85,6 +99,21 @@ fn tables_of<F: ReadFiles>(
     tables_at(alloc, files, &directories)
 }
 
+/// What a journal of these bytes says.
+fn journal_of(alloc: Global, bytes: &[u8]) -> Result<FoundJournal, StoreFault>
+    ensures ok { IfOk result (λ found. IsMarked bytes.now found.kept found.head) }
+    ensures err { IfErr result (λ fault. IsBytesFault bytes.now fault) }
+{
+    match Kept::read(alloc, bytes) {
+        Ok(kept) => {
+            let head = head_sum(alloc, bytes, kept.changes().len())?;
+            Ok(FoundJournal { kept, head })
+        }
+        Err(KeptError::Memory) => Err(StoreFault::Files(Fault::Memory)),
+        Err(error) => Err(StoreFault::Refused(error)),
+    }
+}
+
 /// What a journal of these bytes says, and what is known of the blocks that its head names.
 fn store_of<F: ReadFiles>(
     alloc: Global,
@@ -93,17 +122,14 @@ fn store_of<F: ReadFiles>(
     bytes: &[u8],
 ) -> Result<FoundStore, StoreFault>
     ensures ok { IfOk result (λ found. IsStoreOf (F.may_read files.now) folder.now bytes.now
-        found.kept found.tables.items) }
+        found) }
     ensures err { IfErr result (λ fault.
         IsFaultOf (F.may_read files.now) folder.now bytes.now fault) }
 {
-    match Kept::read(alloc, bytes) {
-        Ok(kept) => match tables_of(alloc, files, folder, &kept) {
-            Ok(tables) => Ok(FoundStore { kept, tables }),
-            Err(fault) => Err(StoreFault::Files(fault)),
-        },
-        Err(KeptError::Memory) => Err(StoreFault::Files(Fault::Memory)),
-        Err(error) => Err(StoreFault::Refused(error)),
+    let FoundJournal { kept, head } = journal_of(alloc, bytes)?;
+    match tables_of(alloc, files, folder, &kept) {
+        Ok(tables) => Ok(FoundStore { kept, head, tables }),
+        Err(fault) => Err(StoreFault::Files(fault)),
     }
 }
 
@@ -157,4 +183,20 @@ pub fn read_store<F: ReadFiles>(
         }
     }
     Err(StoreFault::Changes)
+}
+
+/// Reads the journal of a store alone, once: an append that is seen half is a torn end, and a store
+/// that begins its journal anew puts another file in its place.
+pub fn read_kept<F: ReadFiles>(
+    alloc: Global,
+    files: &F,
+    folder: &str,
+) -> Result<FoundJournal, StoreFault>
+    ensures ok { IfOk result (λ found. IsJournalAt (F.may_read files.now) folder.now found) }
+    ensures err { IfErr result (λ fault.
+        IsUnreadJournal (F.may_read files.now) folder.now fault) }
+{
+    let path = journal_path(alloc, folder)?;
+    let bytes = read_journal(alloc, files, path.as_str())?;
+    journal_of(alloc, &bytes)
 }
