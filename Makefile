@@ -13,6 +13,7 @@ TESTS_OF := kept_tests:kept_walk,kept_world,state_search,reply_state,store_audit
 	port_tests:remote_http,remote_listings \
 	remote_tests:stored_doubles,varints,snappy,protobuf_fields,remote_write,remote_read,remote_requests,remote_rows \
 	tests/serving.sh:guard \
+	tests/store_audits.py:kept_folder,store_command \
 	tests/durable/run.py:keeper,event_journal,cut_schedule,folder_lock,data_folder,store_joiner,store_backup \
 	tests/scraping.sh:server_metrics \
 	tests/live/run.py:waiting_room,text_choices,page_requests,answer_pages \
@@ -60,8 +61,9 @@ readme: ## types each command of the README and compares what it prints; with PR
 allocations: ## refuses each allocation in turn: of an opening, changes of a store, the demo, a selection, a search, connections and audits (needs a C compiler)
 	@RT="$(RT)" tests/allocations.sh
 
-audits: ## pipes querier's replies, as they are and changed, through auditor (needs rustc)
+audits: ## pipes replies of querier, over blocks and of a kept store, as they are and changed, through auditor (needs rustc and python3)
 	@RT="$(RT)" tests/audits.sh
+	@RT="$(RT)" tests/store_audits.py
 
 serving: ## runs the server and asks it with curl: the session of the README, slow and silent clients
 	@RT="$(RT)" tests/serving.sh

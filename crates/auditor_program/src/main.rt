@@ -1,14 +1,14 @@
-//! The program `auditor`: it reads a reply from standard input and the files of blocks from disk,
-//! and says whether the reply is right. It shares no index reader, search or merge with the store
-//! that sent it.
+//! The program `auditor`: it reads a reply from standard input, and the files of blocks or the
+//! folder of a store from disk, and says whether the reply is right. It shares no index reader,
+//! search or merge with the store that sent it.
 //!
-//! It passes its words, the host's files and input and its two outputs to `audit_command::run_by`,
+//! It passes its words, the host's files and input and its two outputs to `store_command::run_by`,
 //! whose contract says what is written and with which status it ends.
 #![tactic(auto)]
 
-use audit_command::run_by;
 use std::io;
 use std::process::ExitCode;
+use store_command::run_by;
 
 fn main(rt: HostRuntime) -> io::Result<ExitCode> {
     let alloc = rt.alloc();

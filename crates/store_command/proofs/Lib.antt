@@ -1,0 +1,3 @@
+pub mod OverStore
+pub mod RightReplies
+pub mod Unwritten

@@ -1,0 +1,11 @@
+use Rattle.std.proofs.Common.{ap, ap₂, ◌∙◌}
+use Rattle.std.proofs.lemmas.Result.{IfOk-weaker}
+use Rattle.clap.specs.Words.{with_rule}
+use Rattle.audit_command.specs.Asking.{with_query}
+use Rattle.store_command.proofs.command.audit_program.Goals as goal
+
+pub returns : goal.returns
+returns c =
+    IfOk-weaker c.arg-2.result _ _ (λ command h. h.shape c.since.ensures.global
+    ∙ ap₂ with_rule (c.in_ok-arg.ensures.shape c.store.ensures.global
+    ∙ ap₂ with_rule (c.in_ok-with_query.ensures ∙ ap with_query c.in_ok-auditor.ensures) c.store.ensures.rule) c.since.ensures.rule) c.arg-2.ensures
