@@ -31,6 +31,9 @@ INNER = {
     ],
 }
 COMMANDS = [f"{name} {inner}".strip() for name in CRATES for inner in ["", *INNER.get(name, [])]]
+# what is asked with an option has a help text, a usage and options of its own
+STORES = {"auditor --store": ["--store", "."], "auditor --mark": ["--mark"]}
+HELPS = [*COMMANDS, *STORES]
 PAGES = ["querier.1", "auditor.1", "explain.1", "blocktool.1", "fuzzledge-block.5"]
 DOCUMENTS = ["SELECTORS.md", "FORMATS.md", "HTTP.md", "AUDITING.md", "OPERATING.md", "IMPORTING.md"]
 CODE = r"\b[BCEFHILMOPQTVWX]\d{1,2}\b"
@@ -91,11 +94,12 @@ def help_choices(text):
     return {(name, choice) for name in choices for choice in choices[name].split(", ") if choice}
 
 
-def help_usage(text):
+def help_usage(text, command):
     """The words of the usage of a help text: the name of an option, a value, and whether they may be left
     out."""
-    line = re.search(r"^Usage: \w+(?: [a-z-]+)? ?(.*)$", text, re.M)[1]
-    needed = re.findall(r"--([a-z-]+)", line)
+    found = re.search(r"^Usage: \w+(?: [a-z-]+)? ?(.*)$", text, re.M)
+    line = found[1] if found else ""
+    needed = re.findall(r"--([a-z-]+)", line + command)
     words = {
         (name, value, name not in needed)
         for name, value, _ in option_lines(text)
@@ -151,9 +155,10 @@ def man_choices(text):
 def man_usage(page, command):
     """The words of a synopsis of a man page: the name of an option, a value, and whether they may be left
     out."""
-    begin = f".Cm {command.split()[1]}\n" if " " in command else ".Fl "
+    begin = ".Fl " if command in CRATES or command in STORES else f".Cm {command.split()[1]}\n"
+    asked = f".Fl {command.split()[1][1:]}" if command in STORES else ""
     for usage in section(page, "SYNOPSIS").split(".Nm\n")[1:]:
-        if usage.startswith(begin):
+        if usage.startswith(begin) and asked in usage:
             lines = re.findall(r"^\.(Op )?(?:Fl -([a-z-]+)(?: Ar (\w+))?|Ar (\w+)( \.\.\.)?)$", usage, re.M)
             return {
                 (name, value or word + dots.strip(), bool(left)) for left, name, value, word, dots in lines
@@ -229,6 +234,8 @@ USAGES = {
     "querier serve": ["README.md", "HTTP.md"],
     "querier backup": ["OPERATING.md"],
     "auditor": ["AUDITING.md"],
+    "auditor --store": [],
+    "auditor --mark": [],
     "explain": [],
     **{f"blocktool {inner}": ["IMPORTING.md"] for inner in INNER["blocktool"]},
 }
@@ -257,10 +264,20 @@ def subjects_of_words(texts):
             yield f"choices of {command}", {"help": help_choices(text), "man": man_choices(page)}
     for command, documents in USAGES.items():
         yield f"usage of {command}", {
-            "help": help_usage(texts[command]),
+            "help": help_usage(texts[command], command),
             "man": man_usage(page_of(texts, command), command),
             **{document: usage(texts[document], command) for document in documents},
         }
+    kept = section(texts["auditor.1"], "A KEPT STORE")
+    others = {name: help_options(texts[name]) for name in ("auditor", *STORES)}
+    yield "options of a kept store", {
+        "help": {option for name in STORES for option in others[name]} - others["auditor"],
+        "man": man_options(kept)
+        | {(name, value, "") for name, value in re.findall(r"^\.Fl -([a-z]+) Ar (\w+)$", kept, re.M)},
+    }
+    yield "help and version of the auditor", {
+        name: {option for option, _, _ in others[name]} & {"help", "version"} for name in others
+    }
     for page in PAGES:
         yield f"what {page} names", {
             "see also": set(re.findall(r"^\.Xr (\S+ \d)", section(texts[page], "SEE ALSO"), re.M)),
@@ -497,6 +514,8 @@ def complaints(texts):
 
 def words_to_miss(name, text):
     """The codes and options that a text has in its lists and tables."""
+    if name in STORES:
+        return {f"--{option}" for option, _, _ in help_options(text)}
     if name in COMMANDS:
         listed = re.sub(
             rf"(?:refused|with|of no path) \(?{CODE}|{CODE} at \d", "", text
@@ -513,7 +532,7 @@ def words_to_miss(name, text):
 def lists_without_one(name, text):
     """What stands in a list, a table, a usage or among the other pages of a text, each with the text without
     it."""
-    if name in COMMANDS:
+    if name in HELPS:
         item = re.compile(r"^ +(?:-\w, +)?--[a-z-]+.*\n", re.M)
     elif name in PAGES:
         item = re.compile(
@@ -687,6 +706,9 @@ def main():
         name, *words = command.split()
         words = [programs[name], *words]
         texts[command] = subprocess.run([*words, "--help"], check=True, capture_output=True, text=True).stdout
+    for command, words in STORES.items():
+        words = [programs[command.split()[0]], *words, "--help"]
+        texts[command] = subprocess.run(words, capture_output=True, text=True).stdout
     texts["fault.rt"] = read("crates", "blocktool", "src", "fault.rt")
     documented = {code for text in (*DOCUMENTS, "README.md") for code in whole_codes(texts[text])}
     wrong = [

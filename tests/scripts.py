@@ -34,6 +34,7 @@ HTML = "tests/pages-html.py"
 BESIDE = [
     ("importing", "querier auditor blocktool", "promtool prometheus curl python3", "tests/importing.sh"),
     ("audits", "querier auditor", "rustc curl", "tests/audits.sh"),
+    ("store-audits", "querier auditor", "", "tests/store_audits.py"),
     ("scraping", "querier", "prometheus promtool curl python3", "tests/scraping.sh"),
     ("serving", "querier", "curl awk python3", "tests/serving.sh"),
     ("nginx", "querier", "nginx openssl curl python3", "tests/nginx.sh"),
