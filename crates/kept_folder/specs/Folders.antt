@@ -4,7 +4,6 @@ use Rattle.std.specs.Prelude.{None, Some, codes, decimal, string_bytes}
 use Rattle.audit_command.specs.Reading.{AreFirstBytes, Host}
 use Rattle.audit_command.specs.Walking.{AreTablesAt, IsFirstFault}
 use Rattle.audit_command.specs.declared.fault.Fault.TheVariants as files
-use Rattle.auditor.specs.declared.judgement.BlockTable.{BlockTable}
 use Rattle.kept_walk.specs.Contents.{IsKept}
 use Rattle.kept_walk.specs.Kept.{Store}
 use Rattle.kept_walk.specs.Refusals.{Denies}

@@ -4,7 +4,7 @@ use Rattle.std.proofs.lemmas.List.{length-map, take-map}
 use Rattle.std.proofs.lemmas.Result.{IfOk-weaker}
 use Rattle.wire.specs.Checksum.{crc32c}
 use Rattle.journal.specs.Contents.{contents_in}
-use Rattle.kept_folder.specs.Heads.{IsHeadSum, front_of}
+use Rattle.kept_folder.specs.Heads.{front_of}
 use Rattle.kept_folder.proofs.heads.head_sum.Goals as goal
 
 -- the first few of contents in memory
