@@ -1,5 +1,5 @@
 -- What is said over a store that was read says what is printed of it, and why nothing is.
-use Rattle.std.proofs.Common.{◌≡◌, ℕ, List, Option, None, Result, Ok, Err, sym, ap, subst, ◌∙◌, length, map, string_bytes}
+use Rattle.std.proofs.Common.{◌≡◌, ℕ, List, Option, None, Result, Ok, Err, refl, sym, ap, subst, ◌∙◌, length, map, string_bytes}
 use Rattle.std.specs.Prelude.{IfOk, IfErr}
 use Rattle.std.proofs.lemmas.List.{length-map}
 use Rattle.labels.specs.Parts.{Part}
@@ -29,6 +29,24 @@ pub counted : (changes : List Change) (events : List Event) (n : ℕ) → map ev
     → n ≡ length changes → n ≡ length events
 counted changes events n same is =
     is ∙ sym (length-map changes event_of) ∙ ap length same
+
+-- from where on a state is sought is that of the mark
+pub since_is : (mark : Option Mark) (found : FoundStore) (since : Since) (changes : List Change)
+    → map event_of changes ≡ found.kept.events → since ≡ since_of mark found.head (length changes)
+    → since ≡ since_in mark found
+since_is mark found since changes same is =
+    is
+    ∙ ap (since_of mark found.head)
+    (counted changes found.kept.events (length changes) same refl)
+
+-- what is said from that place on is a report
+pub judged_told : (query : QueryView) (reply : Reply) (found : FoundStore) (since : Since)
+    (parts : List Part) (j : StoreJudgement) (said : StateReport) (place : ℕ)
+    → place ≡ first_of since → j ≡ Told said → IsJudgement query reply place found.kept parts j
+    → IsJudgement query reply (first_of since) found.kept parts (Told said)
+judged_told query reply found since parts j said place at tells is =
+    subst (λ (k : StoreJudgement). IsJudgement query reply (first_of since) found.kept parts k)
+    tells (subst (λ (n : ℕ). IsJudgement query reply n found.kept parts j) at is)
 
 module _ (query : QueryView) (reply : Reply) (mark : Option Mark) (found : FoundStore)
     (since : Since) (parts : List Part) (walked : found.tables.items ≡ map Walked parts)

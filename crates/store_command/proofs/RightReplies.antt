@@ -1,5 +1,5 @@
 -- When a reply is right of a state of a store.
-use Rattle.std.proofs.Common.{◌≡◌, ◌≤◌, ℕ, Bool, true, false, List, Option, Some, None, refl, sym, ap, subst, ◌∙◌, length, ◌&&◌}
+use Rattle.std.proofs.Common.{◌≡◌, ◌≤◌, ℕ, true, false, List, Option, Some, None, sym, subst, ◌∙◌, length, ◌&&◌}
 use Rattle.std.specs.Prelude.{is_some}
 use Rattle.matchers.specs.Views.{QueryView}
 use Rattle.reply_reader.specs.declared.reply.Reply.{Reply}
@@ -9,7 +9,7 @@ use Rattle.kept_world.specs.States.{State, numbered, shown}
 use Rattle.whole_audit.specs.StateLines.{are_right_lines}
 use Rattle.whole_audit.specs.declared.lines.StateLine.{StateLine}
 use Rattle.whole_audit.proofs.AllRight.{whole_of_lines, lines_of_whole}
-use Rattle.reply_state.specs.Searches.{AreRightIn, IsWholeIn}
+use Rattle.reply_state.specs.Searches.{AreRightIn}
 use Rattle.reply_state.proofs.Rights.{whole_when, listed_when}
 use Rattle.store_audit.specs.Reports.{AreLinesAt, IsFound}
 use Rattle.store_command.specs.States.{IsRightSomewhere}
