@@ -36,7 +36,7 @@ fn skipped_names(alloc: Global, places: &[Place]) -> Result<Vec<PartName>, Alloc
 }
 
 /// The parts that a reply names: those that were searched, and those that were skipped.
-pub(crate) fn names_of(alloc: Global, told: &Told) -> Result<Vec<PartName>, AllocError>
+pub fn names_of(alloc: Global, told: &Told) -> Result<Vec<PartName>, AllocError>
     ensures { IfOk result (λ names. names.items ≡ names_of told.now) }
 {
     let mut names = searched_names(alloc, told.answers.as_slice())?;
@@ -45,7 +45,8 @@ pub(crate) fn names_of(alloc: Global, told: &Told) -> Result<Vec<PartName>, Allo
     Ok(names)
 }
 
-pub(crate) fn same_name(name: PartName, other: PartName) -> bool
+/// Whether two names are the same.
+pub fn same_name(name: PartName, other: PartName) -> bool
     ensures { result ≡ same_name name other }
 {
     match (name, other) {
@@ -94,7 +95,7 @@ fn are_among(blocks: usize, names: &[PartName]) -> bool
 
 /// Whether the parts that are named are the head and so many blocks from block 0 on, each named
 /// once.
-pub(crate) fn names_each(blocks: usize, names: &[PartName]) -> bool
+pub fn names_each(blocks: usize, names: &[PartName]) -> bool
     ensures { result ≡ names_each blocks names.now }
 {
     times_named(PartName::Head, names) == 1
