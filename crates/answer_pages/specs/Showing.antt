@@ -40,6 +40,7 @@ pub record Shows (question : Question) (text : List ℕ) (shown : Shown) : Type 
   pub told : IsToldIn text shown.told.now
   pub tables : shown.tables.now ≡ []
   pub lines : shown.lines.now ≡ []
+  pub state : shown.state ≡ None
   pub values : shown.values ≡ Doubles
   pub about : option_copied shown.about ≡ question.about
   pub length_is : shown.length ≡ length text

@@ -59,7 +59,12 @@ fn write_shown(
 }
 
 /// The page of what a text says, with the length and the SHA-256 of the text.
-fn page_of(alloc: Global, question: &Question, text: &[u8], told: &Told) -> Result<Page, AllocError>
+fn page_of<'a>(
+    alloc: Global,
+    question: &'a Question,
+    text: &[u8],
+    told: &'a Told,
+) -> Result<Page, AllocError>
     requires { IsToldIn text.now told.now }
     ensures { IfOk result (λ page. IsPageOfText question.now text.now page) }
 {
@@ -69,6 +74,7 @@ fn page_of(alloc: Global, question: &Question, text: &[u8], told: &Told) -> Resu
         told,
         tables: &[],
         lines: &[],
+        state: None,
         values: Values::Doubles,
         about: question.about.as_ref(),
         length: text.len() as u64,

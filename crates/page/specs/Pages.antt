@@ -1,12 +1,13 @@
 -- What a page is: what it claims, what it says of a label set that somebody asks about, and what it
 -- prints.
 use Rattle.std.specs.Prelude.{◌≡◌, ◌≤◌, ◌++◌, ◌↔◌, ℕ, List, Option, None, IsTrue, IsSomeAnd}
-use Rattle.std.specs.Prelude.{MatchOption, length, codes, min, take}
+use Rattle.std.specs.Prelude.{MatchOption, Some, length, codes, min, take}
 use Rattle.std.specs.List.{flat_map}
+use Rattle.std.specs.Option.{option_copied}
 use Rattle.labels.specs.Rows.{AreRows}
 use Rattle.auditor.specs.Listing.{last_listed}
 use Rattle.page_claims.specs.Claiming.{IsClaimed}
-use Rattle.page_claims.specs.Judging.{unjudged_of}
+use Rattle.page_claims.specs.Judging.{names_of, unjudged_of}
 use Rattle.page_claims.specs.declared.claim.Claim.{Claim}
 use Rattle.page_marks.specs.Pages.{page_marks, text_marks}
 use Rattle.page_marks.specs.Values.{AreValuesOf}
@@ -25,16 +26,37 @@ use Rattle.page.specs.declared.asked.Asked.{Asked}
 use Rattle.page.specs.declared.shown.Shown.{Shown}
 use Rattle.page.specs.declared.write.Page.{Page}
 use Rattle.page.specs.Asking.{IsSaid}
-use Rattle.page.specs.Saying.{claim_text, plain_claim}
+use Rattle.page.specs.Saying.{claim_text, plain_claim, plain_state, state_text}
+use Rattle.state_claims.specs.Claiming.{IsStateClaimed, unjudged_in}
+use Rattle.state_claims.specs.declared.said.StateSaid.{StateSaid}
+
+-- what a judge said over a store, if one was asked
+abbrev pub state_of : Shown → Option StateSaid
+state_of s = option_copied s.state
 
 -- the claim is the one that the checks and the auditor's lines allow, and beside it stand the parts
 -- that nobody judged
-pub record IsClaimOf (s : Shown) (claim : Claim) : Type 0 where
+pub record IsBlocksClaim (s : Shown) (claim : Claim) : Type 0 where
   pub claimed : IsClaimed (length s.query.now.matchers) s.told.now s.tables.now s.lines.now
       claim.completeness
   pub merged : IsTrue claim.is_merged
       ↔ AreRows s.told.now.rows.items (last_listed s.told.now.answers.items)
   pub unjudged : claim.unjudged.items ≡ unjudged_of s.tables.now s.lines.now s.told.now
+
+-- the same of a reply that was judged over a store
+pub record IsStoreClaim (s : Shown) (said : StateSaid) (claim : Claim) : Type 0 where
+  pub claimed : IsStateClaimed (length s.query.now.matchers) s.told.now said claim.completeness
+  pub merged : IsTrue claim.is_merged
+      ↔ AreRows s.told.now.rows.items (last_listed s.told.now.answers.items)
+  pub unjudged : claim.unjudged.items ≡ unjudged_in said.lines.now (names_of s.told.now)
+
+abbrev pub IsClaimBy : Shown → Option StateSaid → Claim → Type 0
+IsClaimBy s None claim = IsBlocksClaim s claim
+IsClaimBy s (Some said) claim = IsStoreClaim s said claim
+
+-- the claim of what is shown
+abbrev pub IsClaimOf : Shown → Claim → Type 0
+IsClaimOf s claim = IsClaimBy s (state_of s) claim
 
 -- what is said of the label set that somebody asks about, if there is one
 abbrev pub IsSaidOf : Shown → Option Asked → Type 0
@@ -61,10 +83,12 @@ wanted_counts s = text_marks (length s.query.now.matchers) s.told.now.answers.it
 unfoldable pub page_front : List ℕ
 page_front = flat_map (λ t. t.now) FRONT
 
--- the constant front, the heading, and the claim in a box that is open still
-unfoldable pub page_top : Claim → List Piece → List ℕ
-page_top claim heading =
+-- the constant front, the heading, and the claim in a box that is open still, with the state of the
+-- store of which it is made
+unfoldable pub page_top : Shown → Claim → List Piece → List ℕ
+page_top s claim heading =
     page_front ++ page_text heading ++ claim_text claim.completeness claim.unjudged.items
+    ++ state_text (state_of s)
 
 -- the details, the end of the box, and the sections
 unfoldable pub page_rest : List Piece → List Piece → List ℕ
@@ -76,7 +100,7 @@ page_end s = reply_text s.length s.digest ++ codes "</body>\n</html>\n"
 
 unfoldable pub page_bytes : Shown → Claim → List Piece → List Piece → List Piece → List ℕ
 page_bytes s claim heading details sections =
-    page_top claim heading ++ page_rest details sections ++ page_end s
+    page_top s claim heading ++ page_rest details sections ++ page_end s
 
 -- the trees draw no box as that of the claim: the page has one
 pub record HasOneBox (page : Page) : Type 0 where
@@ -110,5 +134,6 @@ pub record IsTextOf (s : Shown) (page : Page) : Type 0 where
   pub selector : ShowsFirst 4180 s.selector.now page.heading.items
   pub marks : marks_in page.sections.items ≡ wanted_counts s
   pub bytes : page.bytes.items ≡ plain_claim page.claim.completeness
-      ++ plain_text page.heading.items ++ plain_text page.sections.items
+      ++ plain_state (state_of s) ++ plain_text page.heading.items
+      ++ plain_text page.sections.items
   pub few : length page.bytes.items ≤ 268435456

@@ -1,12 +1,16 @@
--- The claim of a page, in words.
-use Rattle.std.specs.Prelude.{ℕ, List, [], ◌∷◌, ◌++◌, codes}
+-- The claim of a page, in words, and of which state of a store it is made.
+use Rattle.std.specs.Prelude.{ℕ, List, [], ◌∷◌, ◌++◌, Option, None, Some, codes, decimal}
+use Rattle.std.specs.Prelude.{if◌then◌else◌}
 use Rattle.std.specs.List.{flat_map}
 use Rattle.postings.specs.declared.part_name.PartName.{PartName}
 use Rattle.auditor.specs.Judgements.{subject_text}
 use Rattle.auditor.specs.declared.judgement.Subject.TheVariants.{Part}
+use Rattle.page_escape.specs.Escaping.{word_text}
 use Rattle.page_claims.specs.declared.claim.Completeness.{Completeness}
 use Rattle.page_claims.specs.declared.claim.Completeness.TheVariants.{Judged, DirectoriesJudged}
 use Rattle.page_claims.specs.declared.claim.Completeness.TheVariants.{Certified, NotShown}
+use Rattle.state_claims.specs.Claiming.{is_right_of_state, otherwise_of}
+use Rattle.state_claims.specs.declared.said.StateSaid.{StateSaid}
 
 -- a green box for a claim that a judge stands behind, a red one for a claim that is not made, and
 -- else a plain one
@@ -79,3 +83,55 @@ plain_note NotShown = []
 -- the claim on lines of its own
 unfoldable pub plain_claim : Completeness → List ℕ
 plain_claim completeness = claim_words completeness ++ codes "\n" ++ plain_note completeness
+
+-- which state a reply was held against, with the text of its mark
+unfoldable pub state_place : List ℕ → StateSaid → List ℕ
+state_place mark said =
+    codes "event " ++ decimal said.told ++ codes " of " ++ decimal said.events
+    ++ codes ", mark " ++ mark ++ codes "."
+
+-- that the reply is right of a state, or of none
+unfoldable pub state_front : StateSaid → List ℕ
+state_front said =
+    if is_right_of_state said then codes "It is right of the store at "
+    else codes "It is right of no state of the store that was sought. It was judged at "
+
+-- what stands before the names of the blocks whose series had other numbers
+unfoldable pub otherwise_front : List ℕ
+otherwise_front = codes " Judged for what is missing, and not for how few its intervals are: "
+
+-- what begins the sentence of these blocks
+unfoldable pub first_otherwise : PartName → List ℕ
+first_otherwise name = otherwise_front ++ subject_text (Part name)
+
+-- some blocks whose series had other numbers than their files have, in a sentence
+unfoldable pub otherwise_names : PartName → List PartName → List ℕ
+otherwise_names name names = first_otherwise name ++ flat_map later_name names ++ codes "."
+
+-- the same; nothing, if there are none
+unfoldable pub otherwise_words : List PartName → List ℕ
+otherwise_words [] = []
+otherwise_words (name ∷ names) = otherwise_names name names
+
+unfoldable pub state_words : List ℕ → StateSaid → List ℕ
+state_words mark said =
+    state_front said ++ state_place mark said ++ otherwise_words (otherwise_of said.lines.now)
+
+-- of which state it is claimed, in a paragraph
+unfoldable pub state_paragraph : StateSaid → List ℕ
+state_paragraph said =
+    codes "<p>" ++ state_words (word_text said.mark.now) said ++ codes "</p>\n"
+
+-- the same; nothing, if no store was looked at
+unfoldable pub state_text : Option StateSaid → List ℕ
+state_text None = []
+state_text (Some said) = state_paragraph said
+
+-- of which state it is claimed, on a line
+unfoldable pub state_line : StateSaid → List ℕ
+state_line said = state_words said.mark.now said ++ codes "\n"
+
+-- the same; nothing, if no store was looked at
+unfoldable pub plain_state : Option StateSaid → List ℕ
+plain_state None = []
+plain_state (Some said) = state_line said

@@ -1,16 +1,24 @@
 //! The claim of a page, in words.
 
-ghost use Rattle.std.specs.Prelude.{◌≡◌, ◌++◌, codes, OnOk};
+ghost use Rattle.std.specs.Prelude.{◌≡◌, ◌++◌, codes, IfOk, OnOk};
+ghost use Rattle.std.specs.Option.{option_copied};
 ghost use Rattle.std.specs.List.{flat_map};
 ghost use Rattle.auditor.specs.Judgements.{subject_text};
 ghost use Rattle.auditor.specs.declared.judgement.Subject.TheVariants.{Part};
 ghost use Rattle.page.specs.Saying.{claim_text, claim_front, claim_mark, claim_words, claim_note};
 ghost use Rattle.page.specs.Saying.{first_name, later_name, unjudged_names, unjudged_words};
 ghost use Rattle.page.specs.Saying.{mark_front, claim_box, plain_note, plain_claim};
+ghost use Rattle.page.specs.Saying.{otherwise_front, first_otherwise, otherwise_names};
+ghost use Rattle.page.specs.Saying.{otherwise_words, state_front, state_place, state_words};
+ghost use Rattle.page.specs.Saying.{state_paragraph, state_text, state_line, plain_state};
+ghost use Rattle.page_escape.specs.Escaping.{word_text};
+ghost use Rattle.state_claims.specs.Claiming.{otherwise_of};
 
 use auditor::Subject;
 use page_claims::Completeness;
+use page_escape::append_word;
 use postings::PartName;
+use state_claims::{StateSaid, is_right_of_state, otherwise_of};
 use std::alloc::{AllocError, Global};
 
 /// What begins the box of a claim: green for one that a judge stands behind, red for one that is
@@ -202,4 +210,171 @@ pub(crate) fn append_plain_claim(
     out.extend_from_slice(words(completeness))?;
     out.extend_from_slice(b"\n")?;
     out.extend_from_slice(plain_note(completeness))
+}
+
+/// That a reply is right of a state, or of none.
+#[tactic(auto, unfolding(crate::specs::Saying::state_front))]
+fn state_front(said: &StateSaid<'_>) -> &'static [u8]
+    ensures { result.now ≡ state_front said.now }
+{
+    if is_right_of_state(said) {
+        b"It is right of the store at "
+    } else {
+        b"It is right of no state of the store that was sought. It was judged at "
+    }
+}
+
+/// Appends which state a reply was held against.
+#[tactic(auto, unfolding(crate::specs::Saying::state_place))]
+fn append_place(
+    alloc: Global,
+    out: &mut Vec<u8>,
+    mark: &[u8],
+    said: &StateSaid<'_>,
+) -> Result<(), AllocError>
+    ensures { OnOk result (out.new.items ≡ out.old.items ++ state_place mark.now said.now) }
+{
+    let (told, events) = (said.told, said.events);
+    let place = format!(in alloc; "event {told} of {events}, mark ")?;
+    out.extend_from_slice(place.as_bytes())?;
+    out.extend_from_slice(mark)?;
+    out.extend_from_slice(b".")
+}
+
+/// Appends what stands before the names of blocks that were judged under other numbers.
+#[tactic(auto, unfolding(crate::specs::Saying::otherwise_front))]
+fn append_otherwise_front(out: &mut Vec<u8>) -> Result<(), AllocError>
+    ensures { OnOk result (out.new.items ≡ out.old.items ++ otherwise_front) }
+{
+    out.extend_from_slice(b" Judged for what is missing, and not for how few its intervals are: ")
+}
+
+/// Appends what begins the sentence of these blocks.
+#[tactic(auto, unfolding(crate::specs::Saying::first_otherwise))]
+fn append_first_otherwise(
+    alloc: Global,
+    out: &mut Vec<u8>,
+    name: PartName,
+) -> Result<(), AllocError>
+    ensures { OnOk result (out.new.items ≡ out.old.items ++ first_otherwise name) }
+{
+    append_otherwise_front(out)?;
+    append_name(alloc, out, name)
+}
+
+/// Appends which blocks, of which there are some, were judged under other numbers.
+#[tactic(auto, unfolding(crate::specs::Saying::otherwise_names))]
+fn append_otherwise_names(
+    alloc: Global,
+    out: &mut Vec<u8>,
+    name: PartName,
+    names: &[PartName],
+) -> Result<(), AllocError>
+    ensures { OnOk result (out.new.items ≡ out.old.items ++ otherwise_names name names.now) }
+{
+    append_first_otherwise(alloc, out, name)?;
+    append_later_names(alloc, out, names)?;
+    out.extend_from_slice(b".")
+}
+
+/// Appends which blocks were judged under other numbers.
+#[tactic(auto, unfolding(crate::specs::Saying::otherwise_words))]
+fn append_otherwise(alloc: Global, out: &mut Vec<u8>, names: &[PartName]) -> Result<(), AllocError>
+    ensures { OnOk result (out.new.items ≡ out.old.items ++ otherwise_words names.now) }
+{
+    match names.split_first() {
+        None => Ok(()),
+        Some((name, later)) => append_otherwise_names(alloc, out, *name, later),
+    }
+}
+
+/// Appends which blocks a judge found right under other numbers.
+fn append_said_otherwise(
+    alloc: Global,
+    out: &mut Vec<u8>,
+    said: &StateSaid<'_>,
+) -> Result<(), AllocError>
+    ensures { OnOk result (out.new.items
+        ≡ out.old.items ++ otherwise_words (otherwise_of said.now.lines.now)) }
+{
+    let names = otherwise_of(alloc, said.lines)?;
+    append_otherwise(alloc, out, names.as_slice())
+}
+
+/// Appends of which state of a store it is claimed, with the text of its mark.
+#[tactic(auto, unfolding(crate::specs::Saying::state_words))]
+fn append_state_words(
+    alloc: Global,
+    out: &mut Vec<u8>,
+    mark: &[u8],
+    said: &StateSaid<'_>,
+) -> Result<(), AllocError>
+    ensures { OnOk result (out.new.items ≡ out.old.items ++ state_words mark.now said.now) }
+{
+    out.extend_from_slice(state_front(said))?;
+    append_place(alloc, out, mark, said)?;
+    append_said_otherwise(alloc, out, said)
+}
+
+/// The text of a mark, as a page writes it.
+fn escaped(alloc: Global, mark: &str) -> Result<Vec<u8>, AllocError>
+    ensures { IfOk result (λ text. text.items ≡ word_text mark.now) }
+{
+    let mut text = Vec::new(alloc);
+    append_word(&mut text, mark)?;
+    Ok(text)
+}
+
+#[tactic(auto, unfolding(crate::specs::Saying::state_paragraph))]
+fn append_paragraph(
+    alloc: Global,
+    out: &mut Vec<u8>,
+    said: &StateSaid<'_>,
+) -> Result<(), AllocError>
+    ensures { OnOk result (out.new.items ≡ out.old.items ++ state_paragraph said.now) }
+{
+    let mark = escaped(alloc, said.mark)?;
+    out.extend_from_slice(b"<p>")?;
+    append_state_words(alloc, out, mark.as_slice(), said)?;
+    out.extend_from_slice(b"</p>\n")
+}
+
+/// Appends of which state of a store it is claimed, in a paragraph.
+#[tactic(auto, unfolding(crate::specs::Saying::state_text))]
+pub(crate) fn append_state(
+    alloc: Global,
+    out: &mut Vec<u8>,
+    state: Option<&StateSaid<'_>>,
+) -> Result<(), AllocError>
+    ensures { OnOk result (out.new.items
+        ≡ out.old.items ++ state_text (option_copied state.entry)) }
+{
+    match state {
+        None => Ok(()),
+        Some(said) => append_paragraph(alloc, out, said),
+    }
+}
+
+#[tactic(auto, unfolding(crate::specs::Saying::state_line))]
+fn append_line(alloc: Global, out: &mut Vec<u8>, said: &StateSaid<'_>) -> Result<(), AllocError>
+    ensures { OnOk result (out.new.items ≡ out.old.items ++ state_line said.now) }
+{
+    append_state_words(alloc, out, said.mark.as_bytes(), said)?;
+    out.extend_from_slice(b"\n")
+}
+
+/// Appends the same on a line.
+#[tactic(auto, unfolding(crate::specs::Saying::plain_state))]
+pub(crate) fn append_plain_state(
+    alloc: Global,
+    out: &mut Vec<u8>,
+    state: Option<&StateSaid<'_>>,
+) -> Result<(), AllocError>
+    ensures { OnOk result (out.new.items
+        ≡ out.old.items ++ plain_state (option_copied state.entry)) }
+{
+    match state {
+        None => Ok(()),
+        Some(said) => append_line(alloc, out, said),
+    }
 }

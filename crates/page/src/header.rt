@@ -1,7 +1,7 @@
 //! The head of a page: the question, the claim, what somebody asks about, and counts.
 
 use crate::asked::Asked;
-use crate::judgements::judgement_of;
+use crate::judgements::finding_of;
 use crate::pen::Pen;
 use crate::sayings::{sayings, seen, text_of};
 use crate::shown::View;
@@ -14,6 +14,7 @@ use labels::LabelSet;
 use page_claims::{Completeness, Place, checks_of};
 use page_text::{Attribute, Key, Subject, Tag};
 use postings::PartName;
+use whole_audit::StateLine;
 
 /// The name of a part.
 pub(crate) fn part_name(pen: &mut Pen, name: PartName) {
@@ -169,6 +170,14 @@ fn faults(pen: &mut Pen, view: &View<'_>) {
             pen.close();
         }
     }
+    for line in state_lines(view) {
+        if !line.grade.is_right() {
+            pen.open(Tag::Item);
+            pen.word("The auditor found a flaw: ");
+            state_line(pen, line);
+            pen.close();
+        }
+    }
 }
 
 /// What does not hold, each with the first place.
@@ -204,6 +213,29 @@ pub(crate) fn auditor_text(pen: &mut Pen, line: &Line) {
     long_text(pen, text.as_str(), 120);
 }
 
+/// The lines over a state of a store; none, if no store was looked at.
+pub(crate) fn state_lines<'a>(view: &View<'a>) -> &'a [StateLine] {
+    match view.shown.state {
+        Some(state) => state.lines,
+        None => &[],
+    }
+}
+
+/// A line over a state of a store, as it is printed.
+pub(crate) fn state_line_text(pen: &mut Pen, line: &StateLine) {
+    let alloc = pen.alloc();
+    let Ok(text) = format!(in alloc; "{line}") else {
+        return pen.fail();
+    };
+    long_text(pen, text.as_str(), 120);
+}
+
+fn state_line(pen: &mut Pen, line: &StateLine) {
+    pen.open(Tag::Code);
+    state_line_text(pen, line);
+    pen.close();
+}
+
 fn auditor_line(pen: &mut Pen, line: &Line) {
     pen.open(Tag::Code);
     auditor_text(pen, line);
@@ -214,7 +246,7 @@ fn auditor_line(pen: &mut Pen, line: &Line) {
 fn unjudged(pen: &mut Pen, view: &View<'_>) {
     let mut named = false;
     for name in view.claim.unjudged.as_slice() {
-        if judgement_of(view.shown.lines, *name).is_none() {
+        if finding_of(view, *name).is_none() {
             pen.word(if named { ", " } else { " Not judged: " });
             part_name(pen, *name);
             named = true;
@@ -226,7 +258,7 @@ fn unjudged(pen: &mut Pen, view: &View<'_>) {
 }
 
 fn judged(pen: &mut Pen, view: &View<'_>) {
-    if view.shown.lines.is_empty() {
+    if !view.is_audited() {
         return;
     }
     pen.begin(Tag::P, "audit");
@@ -236,6 +268,11 @@ fn judged(pen: &mut Pen, view: &View<'_>) {
         pen.word(if first { " " } else { " · " });
         first = false;
         auditor_line(pen, line);
+    }
+    for line in state_lines(view) {
+        pen.word(if first { " " } else { " · " });
+        first = false;
+        state_line(pen, line);
     }
     pen.word(".");
     pen.begin(Tag::Span, "mute");

@@ -91,7 +91,7 @@ fn check(pen: &mut Pen, saying: &'static str, holds: bool) {
 
 /// Who checks that reasons are true.
 fn reasons(pen: &mut Pen, view: &View<'_>) {
-    if view.shown.lines.is_empty() {
+    if !view.is_audited() {
         titled(pen, "Not checked here", UNCHECKED)
     } else {
         titled(pen, "Checked by the auditor", CHECKED)

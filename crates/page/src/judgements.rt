@@ -10,6 +10,8 @@ use labels::{Row, SeriesRef};
 use page_claims::shown_of;
 use page_text::Tag;
 use postings::PartName;
+use state_claims::grade_of;
+use whole_audit::Grade;
 
 fn is_of(subject: Subject, name: PartName) -> bool {
     match (subject, name) {
@@ -19,8 +21,37 @@ fn is_of(subject: Subject, name: PartName) -> bool {
     }
 }
 
+/// What a judge found of a searched part.
+#[derive(Clone, Copy, Drop)]
+pub(crate) enum Finding {
+    Valid,
+    /// It is right under other numbers than its block's files have: nothing is missing.
+    NumberedOtherwise,
+    Flawed,
+}
+
+fn finding_by(grade: Grade) -> Option<Finding> {
+    match grade {
+        Grade::Valid => Some(Finding::Valid),
+        Grade::NumberedOtherwise => Some(Finding::NumberedOtherwise),
+        Grade::Skipped => None,
+        Grade::Flawed(_) | Grade::Misnamed => Some(Finding::Flawed),
+    }
+}
+
+/// What a judge found of a part, if one judged it: a part that it passed over was not judged.
+pub(crate) fn finding_of(view: &View<'_>, name: PartName) -> Option<Finding> {
+    if let Some(state) = view.shown.state {
+        return finding_by(grade_of(state.lines, name)?);
+    }
+    match judgement_of(view.shown.lines, name)? {
+        Judgement::Valid => Some(Finding::Valid),
+        _ => Some(Finding::Flawed),
+    }
+}
+
 /// What the auditor said of a part, if it judged it: a part that it passed over was not judged.
-pub(crate) fn judgement_of(lines: &[Line], name: PartName) -> Option<Judgement> {
+fn judgement_of(lines: &[Line], name: PartName) -> Option<Judgement> {
     for line in lines {
         if is_of(line.subject, name) && !matches!(line.judgement, Judgement::Skipped) {
             return Some(line.judgement);
@@ -40,17 +71,22 @@ pub(crate) fn table_of<'a>(tables: &'a [BlockTable], name: PartName) -> Option<&
     }
 }
 
+const OTHERWISE: &str =
+    "The auditor judged this part for what is missing, and not for how few its intervals are: its \
+     series had other numbers than the block's files have.";
+
 /// The judgement of a searched part.
 pub(crate) fn judgement(pen: &mut Pen, view: &View<'_>, name: PartName) {
-    if view.shown.lines.is_empty() {
+    if !view.is_audited() {
         return;
     }
     pen.begin(Tag::P, "note");
-    match judgement_of(view.shown.lines, name) {
-        None => pen.word("The auditor did not judge this part: it was given no block for it."),
-        Some(Judgement::Valid) => pen.word("The auditor judged this part: it is valid."),
-        Some(_) => pen.word("The auditor names a flaw of this part: see above."),
-    }
+    pen.word(match finding_of(view, name) {
+        None => "The auditor did not judge this part: it was given no block for it.",
+        Some(Finding::Valid) => "The auditor judged this part: it is valid.",
+        Some(Finding::NumberedOtherwise) => OTHERWISE,
+        Some(Finding::Flawed) => "The auditor names a flaw of this part: see above.",
+    });
     pen.close();
     pen.line();
 }

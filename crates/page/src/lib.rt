@@ -4,22 +4,25 @@
 //! [`write_page`] makes the page as the pieces of trees, in which texts from outside (the selector,
 //! label names and values) are texts alone, and prints them between a constant front and a constant
 //! end; [`write_text`] writes the same for a terminal. The claim between them is that of
-//! `page_claims::find_claim`, and what is said of a label set is [`ask`]'s. What was drawn is read
-//! back before it is handed out: no box is as that of the claim; above it stands the selector
+//! `page_claims::find_claim`, or over a kept store that of `state_claims::find_state_claim`, with
+//! the event and the mark of the state. What is said of a label set is [`ask`]'s. What was drawn is
+//! read back before it is handed out: no box is as that of the claim; above it stands the selector
 //! (`page_pins`); below it the marks (counts and tiles) are those of the reply (`page_marks`), and
 //! the values of the rows are its values, as whole numbers or as the doubles for which these are
 //! kept.
 //!
 //! ```
-//! let (tables, lines, about) = (&[], &[], None);
+//! let (tables, lines, state, about) = (&[], &[], None, None);
 //! let (query, told) = (&query, &told);
 //! let values = Values::Whole;
-//! let shown = Shown { selector, query, told, tables, lines, values, about, length, digest };
+//! let shown = Shown {
+//!     selector, query, told, tables, lines, state, values, about, length, digest,
+//! };
 //! let page = write_page(alloc, &shown)?;
 //! ```
 //!
-//! It stands on `page_claims`, `page_layout`, `page_marks`, `page_pins`, `page_style` and
-//! `page_text`, and on the types of the crates below them.
+//! It stands on `page_claims`, `state_claims`, `page_layout`, `page_marks`, `page_pins`,
+//! `page_style` and `page_text`, and on the types of the crates below them.
 #![tactic(auto)]
 
 mod asked;

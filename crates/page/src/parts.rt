@@ -2,7 +2,7 @@
 
 use crate::groups::groups;
 use crate::header::part_name;
-use crate::judgements::{first_series, judgement, judgement_of, table_of};
+use crate::judgements::{Finding, finding_of, first_series, judgement, table_of};
 use crate::map::draw_map;
 use crate::pen::Pen;
 use crate::sayings::{sayings, seen, text_of};
@@ -125,14 +125,18 @@ fn tick_key(pen: &mut Pen, wide: bool) {
     pen.word(" ");
 }
 
-fn least(pen: &mut Pen, answer: &PartAnswer, checks: Checks) {
+fn least(pen: &mut Pen, view: &View<'_>, answer: &PartAnswer, checks: Checks) {
+    let otherwise = matches!(
+        finding_of(view, answer.part),
+        Some(Finding::NumberedOtherwise)
+    );
     pen.begin(Tag::P, "least");
     tick_key(pen, answer.cover.certificate.len() <= WIDE_COLUMNS);
     let separators = answer.cover.separators.len() as u64;
     plural(pen, separators, " separator, ", " separators, ");
     let intervals = answer.cover.certificate.len() as u64;
     plural(pen, intervals, " interval: ", " intervals: ");
-    pen.word(if checks.chain && checks.names && checks.separators {
+    pen.word(if !otherwise && checks.chain && checks.names && checks.separators {
         "no valid certificate has fewer."
     } else {
         "this does not show that no valid certificate has fewer."
@@ -341,7 +345,7 @@ fn article(pen: &mut Pen, view: &View<'_>, at: usize, answer: &PartAnswer) {
         word(pen, Tag::P, none);
     } else {
         figure(pen, &strip_of(answer, view.few), answer.part);
-        least(pen, answer, checks);
+        least(pen, view, answer, checks);
         if answer.cover.certificate.len() > MOST_BOXES {
             groups(pen, answer.cover.certificate.as_slice());
         }
@@ -370,7 +374,7 @@ fn skipped_names(pen: &mut Pen, view: &View<'_>) {
 fn skip_judged(view: &View<'_>, number: usize) -> &'static str {
     if view.is_silent(number) {
         ": the auditor found that the query selects nothing of it."
-    } else if judgement_of(view.shown.lines, PartName::Block(number)).is_some() {
+    } else if finding_of(view, PartName::Block(number)).is_some() {
         ": the auditor names a flaw of this: see above."
     } else {
         ": not judged, as the auditor was given no block for it."
@@ -379,7 +383,7 @@ fn skip_judged(view: &View<'_>, number: usize) -> &'static str {
 
 /// Which skips the auditor judged, and which it could not.
 fn skips_judged(pen: &mut Pen, view: &View<'_>) {
-    if view.shown.lines.is_empty() {
+    if !view.is_audited() {
         return pen.word(" Nobody judged it; the auditor checks a skip against the block.");
     }
     for place in view.shown.told.places.as_slice() {

@@ -6,7 +6,9 @@ use matchers::{Matcher, Query};
 use page_claims::{Claim, Told, is_found_silent, is_found_valid};
 use page_text::Values;
 use postings::PartName;
+use state_claims::{StateSaid, grade_of};
 use std::alloc::Global;
+use whole_audit::Grade;
 
 /// What a page shows: a question, the reply to it, what the auditor knows and said of it, and
 /// a label set that somebody asks about.
@@ -22,6 +24,9 @@ pub struct Shown<'a> {
     pub tables: &'a [BlockTable],
     /// The auditor's lines; none, if it was not asked.
     pub lines: &'a [Line],
+    /// What a judge said of the reply over a kept store, if one was asked: then there is no table
+    /// and no line.
+    pub state: Option<&'a StateSaid<'a>>,
     /// What the values of samples mean: a reply does not say it.
     pub values: Values,
     /// The label set that somebody asks about.
@@ -52,14 +57,31 @@ impl<'a> View<'a> {
         self.shown.query.matchers()
     }
 
+    /// Whether a judge was asked.
+    pub(crate) fn is_audited(&self) -> bool {
+        self.shown.state.is_some() || !self.shown.lines.is_empty()
+    }
+
     /// Whether a judge found the answer of a part valid.
     pub(crate) fn is_valid(&self, name: PartName) -> bool {
-        is_found_valid(self.shown.lines, name)
+        match self.shown.state {
+            Some(state) => matches!(
+                grade_of(state.lines, name),
+                Some(Grade::Valid | Grade::NumberedOtherwise)
+            ),
+            None => is_found_valid(self.shown.lines, name),
+        }
     }
 
     /// Whether a judge found that the query selects nothing of a block that was skipped.
     pub(crate) fn is_silent(&self, number: usize) -> bool {
-        is_found_silent(self.shown.tables, self.shown.lines, number)
+        match self.shown.state {
+            Some(state) => {
+                let grade = grade_of(state.lines, PartName::Block(number));
+                matches!(grade, Some(Grade::Skipped))
+            }
+            None => is_found_silent(self.shown.tables, self.shown.lines, number),
+        }
     }
 
     /// How many intervals have a verdict of a slot.

@@ -1,8 +1,8 @@
 //! The same for a terminal of 80 columns.
 
 use crate::asked::Asked;
-use crate::header::{auditor_text, part_name};
-use crate::judgements::judgement_of;
+use crate::header::{auditor_text, part_name, state_line_text, state_lines};
+use crate::judgements::{Finding, finding_of};
 use crate::pen::Pen;
 use crate::sayings::{Check, sayings, seen};
 use crate::shown::View;
@@ -136,8 +136,13 @@ fn flaws(pen: &mut Pen, view: &View<'_>, answer: &PartAnswer) {
 
 /// What is told of a part that no judge found valid.
 fn unjudged(pen: &mut Pen, view: &View<'_>, answer: &PartAnswer) {
-    if judgement_of(view.shown.lines, answer.part).is_some() {
-        return;
+    match finding_of(view, answer.part) {
+        Some(Finding::NumberedOtherwise) => {
+            pen.word("  judged for what is missing, and not for how few its intervals are");
+            return pen.line();
+        }
+        Some(Finding::Valid | Finding::Flawed) => return,
+        None => {}
     }
     pen.word(if answer.cover.certificate.is_empty() {
         "  told to have no series, which nobody judged"
@@ -235,6 +240,13 @@ fn faults(pen: &mut Pen, view: &View<'_>) {
         if line.judgement.is_fault() {
             pen.word("  ✗ the auditor found a flaw: ");
             auditor_text(pen, line);
+            pen.line();
+        }
+    }
+    for line in state_lines(view) {
+        if !line.grade.is_right() {
+            pen.word("  ✗ the auditor found a flaw: ");
+            state_line_text(pen, line);
             pen.line();
         }
     }

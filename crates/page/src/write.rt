@@ -6,13 +6,17 @@ ghost use Rattle.page_pins.specs.Selectors.{ShowsFirst};
 ghost use Rattle.page_text.specs.Marks.{marks_in, values_in};
 ghost use Rattle.page_text.specs.Nesting.{IsContent};
 ghost use Rattle.page_text.specs.Plain.{plain_text};
-ghost use Rattle.page.specs.Pages.{IsClaimOf, IsSaidOf, IsPageOf, IsTextOf};
+ghost use Rattle.page.specs.Pages.{IsBlocksClaim, IsStoreClaim, IsClaimOf, IsSaidOf};
+ghost use Rattle.page.specs.Pages.{IsPageOf, IsTextOf};
 ghost use Rattle.page.specs.Pages.{page_front, page_top, page_rest, page_end, page_bytes};
 ghost use Rattle.page.specs.Pages.{wanted_marks, wanted_counts, AreShownValues};
-ghost use Rattle.page.specs.Saying.{plain_claim};
+ghost use Rattle.page.specs.Pages.{state_of};
+ghost use Rattle.page.specs.Saying.{plain_claim, plain_state};
 
 use crate::asked::{Asked, ask};
-use crate::claim_text::{append_claim, append_claim_end, append_plain_claim};
+use crate::claim_text::{
+    append_claim, append_claim_end, append_plain_claim, append_plain_state, append_state,
+};
 use crate::header::{self, details, heading, summary};
 use crate::help::help;
 use crate::key::key;
@@ -29,14 +33,42 @@ use page_style::{append_back, append_front};
 use page_text::{
     Mark, Piece, Tag, Value, marks_of, print, print_plain, same_marks, same_values, values_of,
 };
+use state_claims::{StateSaid, find_state_claim};
 use std::alloc::{AllocError, Global};
+
+/// What is claimed by what the auditor said of blocks in directories.
+fn blocks_claim(alloc: Global, shown: &Shown<'_>) -> Result<Claim, AllocError>
+    ensures { IfOk result (λ claim. IsBlocksClaim shown.now claim) }
+{
+    let matchers = shown.query.matchers().len();
+    let claim = find_claim(alloc, matchers, shown.told, shown.tables, shown.lines)?;
+    Ok(claim)
+}
+
+/// What is claimed by what a judge said over a store.
+fn store_claim(alloc: Global, shown: &Shown<'_>, said: &StateSaid<'_>) -> Result<Claim, AllocError>
+    ensures { IfOk result (λ claim. IsStoreClaim shown.now said.now claim) }
+{
+    let matchers = shown.query.matchers().len();
+    let claim = find_state_claim(alloc, matchers, shown.told, said)?;
+    Ok(claim)
+}
+
+/// What is claimed of what is shown.
+fn claim_of(alloc: Global, shown: &Shown<'_>) -> Result<Claim, AllocError>
+    ensures { IfOk result (λ claim. IsClaimOf shown.now claim) }
+{
+    match shown.state {
+        None => blocks_claim(alloc, shown),
+        Some(said) => store_claim(alloc, shown, said),
+    }
+}
 
 /// What all sections need.
 fn view_of<'a>(alloc: Global, shown: &'a Shown<'a>) -> Result<View<'a>, AllocError>
     ensures { IfOk result (λ view. IsClaimOf shown.now view.claim) }
 {
-    let matchers = shown.query.matchers().len();
-    let claim = find_claim(alloc, matchers, shown.told, shown.tables, shown.lines)?;
+    let claim = claim_of(alloc, shown)?;
     let mut intervals = 0u64;
     for answer in shown.told.answers.as_slice() {
         intervals = intervals.saturating_add(answer.cover.certificate.len() as u64);
@@ -192,14 +224,17 @@ fn append_page_front(out: &mut Vec<u8>) -> Result<(), AllocError>
 fn append_top(
     alloc: Global,
     out: &mut Vec<u8>,
+    shown: &Shown<'_>,
     claim: &Claim,
     heading: &[Piece],
 ) -> Result<(), AllocError>
-    ensures { OnOk result (out.new.items ≡ out.old.items ++ page_top claim.now heading.now) }
+    ensures { OnOk result (out.new.items
+        ≡ out.old.items ++ page_top shown.now claim.now heading.now) }
 {
     append_page_front(out)?;
     print(out, heading)?;
-    append_claim(alloc, out, claim.completeness, claim.unjudged.as_slice())
+    append_claim(alloc, out, claim.completeness, claim.unjudged.as_slice())?;
+    append_state(alloc, out, shown.state)
 }
 
 /// Appends what stands with the claim and below it.
@@ -236,7 +271,7 @@ fn bytes_of(
     ensures few { IfOk result (λ bytes. length bytes.items ≤ 268435456) }
 {
     let mut bytes = Vec::new(alloc);
-    append_top(alloc, &mut bytes, claim, heading)?;
+    append_top(alloc, &mut bytes, shown, claim, heading)?;
     append_rest(&mut bytes, details, sections)?;
     append_end(alloc, &mut bytes, shown)?;
     if bytes.len() > MOST_BYTES {
@@ -314,16 +349,19 @@ fn lines_of(alloc: Global, view: &View<'_>, asked: Option<&Asked>) -> Result<Vec
 /// The claim, and the texts and numbers of the lines.
 fn plain_of(
     alloc: Global,
+    shown: &Shown<'_>,
     completeness: Completeness,
     question: &[Piece],
     lines: &[Piece],
 ) -> Result<Vec<u8>, AllocError>
     ensures text { IfOk result (λ bytes. bytes.items
-        ≡ plain_claim completeness ++ plain_text question.now ++ plain_text lines.now) }
+        ≡ plain_claim completeness ++ plain_state (state_of shown.now)
+        ++ plain_text question.now ++ plain_text lines.now) }
     ensures few { IfOk result (λ bytes. length bytes.items ≤ 268435456) }
 {
     let mut bytes = Vec::new(alloc);
     append_plain_claim(&mut bytes, completeness)?;
+    append_plain_state(alloc, &mut bytes, shown.state)?;
     print_plain(&mut bytes, question)?;
     print_plain(&mut bytes, lines)?;
     if bytes.len() > MOST_BYTES {
@@ -346,6 +384,7 @@ pub fn write_text(alloc: Global, shown: &Shown<'_>) -> Result<Page, AllocError>
     check_marks(alloc, lines.as_slice(), wanted.as_slice())?;
     let bytes = plain_of(
         alloc,
+        shown,
         view.claim.completeness,
         question.as_slice(),
         lines.as_slice(),

@@ -9,6 +9,7 @@ write_shown-requires c = record {
   told = c.requires;
   tables = refl;
   lines = refl;
+  state = refl;
   values = refl;
   about = c.as_ref.ensures.value;
   length_is = first_of (search rules, omega arith, grind (arith, common_steps));
