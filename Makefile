@@ -18,7 +18,7 @@ TESTS_OF := kept_tests:kept_walk,kept_world,state_search,reply_state,store_audit
 	tests/scraping.sh:server_metrics \
 	tests/live/run.py:waiting_room,text_choices,page_requests,answer_pages \
 	tests/importing.sh:imported_values,kept_samples,time_cuts,block_folder,block_outputs,double_text,open_metrics,metrics_writer,exposition,blocktool \
-	tests/pages-html.py:page_layout,page_style,page_escape,page_text,page_claims,page_marks,page_pins,page,asked_series,explain
+	tests/pages-html.py:page_layout,page_style,page_escape,page_text,page_claims,page_marks,page_pins,state_claims,page,asked_series,explain
 # The crate or the script with the tests of a crate, or nothing.
 tests_of = $(if $(filter %_tests,$(1)),$(1),$(word 1,$(subst :, ,$(foreach it,$(TESTS_OF),$(if \
 	$(filter $(1),$(subst $(comma), ,$(word 2,$(subst :, ,$(it))))),$(it))))))

@@ -7,7 +7,7 @@ use Rattle.audit_command.specs.Auditing.{IsAllOf, IsTextFault, IsReplyFault}
 use Rattle.audit_command.proofs.Reading as audits
 use Rattle.explain.specs.Showing.{AreJudged, AreLinesOf, IsAuditFault}
 use Rattle.explain.specs.declared.fault.Fault.{Fault}
-use Rattle.explain.specs.declared.fault.Fault.TheVariants.{Audit, NoSeries, NoMeaning}
+use Rattle.explain.specs.declared.fault.Fault.TheVariants.{Audit, NoSeries, NoMeaning, Beside, Store}
 
 -- the lines of what is known of some block
 pub judged : (tables : List BlockTable) (query : QueryView) (text : List ℕ) (lines : List Line)
@@ -27,3 +27,5 @@ pub no_reply : (input : Option (List ℕ)) (text : List ℕ) → IsAllOf input t
 no_reply input text all (Audit fault) h = audits.no_reply input text all fault h
 no_reply input text all NoSeries h = h
 no_reply input text all NoMeaning h = h
+no_reply input text all Beside h = h
+no_reply input text all (Store fault) h = h

@@ -27,6 +27,13 @@ values_rule = record (new_rule (codes "values")) {
   value_names = 1;
 }
 
+-- the option of the folder of a store
+abbrev pub store_rule : Rule
+store_rule = record (new_rule (codes "store")) {
+  long = Some (codes "store");
+  value_names = 1;
+}
+
 -- the program's name, which the words do not begin with
 abbrev pub named_app : App
 named_app =
@@ -34,10 +41,11 @@ named_app =
     record app { top = record app.top { has_version = true; no_binary_name = true } }
 
 -- --selector S [--from N] [--to N] [DIR]... [--about SERIES] [--text] [--values doubles]
+-- [--store DIR]
 abbrev pub explain_app : App
 explain_app =
-    with_rule (with_rule (with_rule (audits.with_arguments named_app) about_rule) text_rule)
-    values_rule
+    with_rule (with_rule (with_rule (with_rule (audits.with_arguments named_app) about_rule)
+    text_rule) values_rule) store_rule
 
 -- `clap` takes the words: it finds no fault in them
 abbrev pub AreTaken : List Text → Type 0
@@ -54,6 +62,7 @@ pub record IsAskedIn (rows : List Row) (asked : Asked) : Type 0 where
   pub about : option_map (λ text. text.now) asked.about ≡ first_of (codes "about") rows
   pub text : IsFlagIn (one_of (codes "text") rows) asked.text
   pub values : option_map (λ text. text.now) asked.values ≡ first_of (codes "values") rows
+  pub store : option_map (λ text. text.now) asked.store ≡ first_of (codes "store") rows
 
 -- what the words ask for, as `clap` reads them
 abbrev pub IsAskedBy : List Text → Asked → Type 0

@@ -14,7 +14,7 @@ use Rattle.explain.specs.Faults.{status_of, line_of}
 use Rattle.explain.specs.Showing.{IsAnswer, IsAnswerFault}
 use Rattle.explain.specs.declared.command.Asked.{Asked}
 use Rattle.explain.specs.declared.fault.Fault.{Fault}
-use Rattle.explain.specs.declared.fault.Fault.TheVariants.{Audit, NoSeries, NoMeaning}
+use Rattle.explain.specs.declared.fault.Fault.TheVariants.{Audit, NoSeries, NoMeaning, Beside, Store}
 
 -- the page was written, and nothing else; it claims that no series is missing, or it does not
 pub record IsWritten (reads : Host) (input : Option (List ℕ)) (asked : Asked)
@@ -29,6 +29,8 @@ abbrev pub KeepsAt : Fault → Option (List ℕ) → Option (List ℕ) → Type 
 KeepsAt (Audit fault) old new = audits.KeepsAt fault old new
 KeepsAt NoSeries old new = Keeps old new
 KeepsAt NoMeaning old new = Keeps old new
+KeepsAt Beside old new = Keeps old new
+KeepsAt (Store fault) old new = Keeps old new
 
 -- how the making of a page ends
 abbrev pub IsPageEnd : Host → Option (List ℕ) → Asked → Option (List ℕ) → Option (List ℕ)
@@ -51,8 +53,7 @@ abbrev pub IsNoPage : List Text → Result Bool Fault → Type 0
 IsNoPage words (Ok true) = audits.AskForText explain_app words
 IsNoPage words (Ok false) = ⊥
 IsNoPage words (Err (Audit fault)) = audits.IsWordsFault explain_app words fault
-IsNoPage words (Err NoSeries) = ⊥
-IsNoPage words (Err NoMeaning) = ⊥
+IsNoPage words (Err fault) = ⊥
 
 -- the exit status of an end
 abbrev pub status_at : Result Bool Fault → ℕ

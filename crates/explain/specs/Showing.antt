@@ -1,6 +1,6 @@
 -- What a page shows, and why there is none.
-use Rattle.std.specs.Prelude.{◌≡◌, ℕ, Bool, true, false, List, [], ◌∷◌, Option, None, Some, length}
-use Rattle.std.specs.Prelude.{map, option_map, codes, if◌then◌else◌}
+use Rattle.std.specs.Prelude.{◌≡◌, ◌⊎◌, ⊤, ℕ, Bool, true, false, List, [], ◌∷◌, Option, None, Some}
+use Rattle.std.specs.Prelude.{length, map, option_map, codes, string_bytes, is_some, if◌then◌else◌}
 use Rattle.std.specs.List.{flat_map}
 use Rattle.std.specs.Option.{option_copied}
 use Rattle.std.specs.Str.{bytes_eq}
@@ -20,17 +20,27 @@ use Rattle.page_text.specs.declared.value.Values.{Values}
 use Rattle.page_text.specs.declared.value.Values.TheVariants.{Whole, Doubles}
 use Rattle.page.specs.declared.shown.Shown.{Shown}
 use Rattle.page.specs.declared.write.Page.{Page}
+use Rattle.state_claims.specs.declared.said.StateSaid.{StateSaid}
+use Rattle.kept_folder.specs.Folders.{IsStoreAt}
+use Rattle.kept_folder.specs.declared.reading.FoundStore.{FoundStore}
+use Rattle.store_audit.specs.declared.judging.StateReport.{StateReport}
+use Rattle.store_audit.specs.declared.judging.StoreJudgement.TheVariants.{Told as Said}
+use Rattle.store_command.specs.Judging.{IsFolderFault, IsJudged, IsJudgingFault}
+use Rattle.store_command.specs.Marks.{mark_at, mark_text}
+use Rattle.store_command.specs.Printing.{has_refused, refused_lines}
 use Rattle.audit_command.specs.Asking.{directories_of}
 use Rattle.audit_command.specs.Auditing.{IsAllOf, IsQueryOf, IsSelectionFault, IsAllowed}
-use Rattle.audit_command.specs.Auditing.{IsReplyFault, IsWritingFault}
+use Rattle.audit_command.specs.Auditing.{IsReplyFault, IsTextFault, IsWritingFault}
 use Rattle.audit_command.specs.Reading.{Host}
 use Rattle.audit_command.specs.Walking.{AreTablesAt, IsFirstFault}
 use Rattle.audit_command.specs.declared.fault.Fault.{Fault as AuditFault}
 use Rattle.explain.specs.Series.{IsSeriesFault}
 use Rattle.explain.specs.declared.answer.Found.{Found}
+use Rattle.explain.specs.declared.judging.FoundState.{FoundState}
+use Rattle.explain.specs.declared.judging.Judged.{Judged}
 use Rattle.explain.specs.declared.command.Asked.{Asked}
 use Rattle.explain.specs.declared.fault.Fault.{Fault}
-use Rattle.explain.specs.declared.fault.Fault.TheVariants.{Audit, NoSeries, NoMeaning}
+use Rattle.explain.specs.declared.fault.Fault.TheVariants.{Audit, NoMeaning, Beside, Store}
 
 -- the label set of the text, or none where no text is
 abbrev pub IsAboutText : Option (List ℕ) → Option Labels → Type 0
@@ -72,8 +82,21 @@ pub record IsNoMeaning (asked : Asked) (fault : Fault) : Type 0 where
 -- a fault of the audit's own
 abbrev pub IsAuditFault : (AuditFault → Type 0) → Fault → Type 0
 IsAuditFault cause (Audit fault) = cause fault
-IsAuditFault cause NoSeries = ⊥
-IsAuditFault cause NoMeaning = ⊥
+IsAuditFault cause fault = ⊥
+
+-- the folder of the store, if one is named
+abbrev pub store_of : Asked → Option (List ℕ)
+store_of asked = option_map (λ text. text.now) asked.store
+
+-- a store is named, and directories too
+pub record IsBeside (asked : Asked) (fault : Fault) : Type 0 where
+  pub store : is_some asked.store ≡ true
+  pub directories : directories_of asked.audit ≡ [] → ⊥
+  pub fault_is : fault ≡ Beside
+
+-- it names a store, or directories, or neither
+abbrev pub IsOneAim : Asked → Type 0
+IsOneAim asked = (asked.store ≡ None) ⊎ (directories_of asked.audit ≡ [])
 
 -- what was done with each part of the reply that the text says, its answers and its rows
 pub record IsToldIn (text : List ℕ) (told : Told) : Type 0 where
@@ -95,7 +118,48 @@ abbrev pub AreLinesOf : List BlockTable → QueryView → List ℕ → List Line
 AreLinesOf [] query text lines = lines ≡ []
 AreLinesOf (table ∷ tables) query text lines = AreJudged (table ∷ tables) query text lines
 
--- what is asked, and what the reader and the directories hold
+-- what is said over the directories that are named
+pub record IsOfBlocks (reads : Host) (asked : Asked) (query : QueryView) (text : List ℕ)
+    (judged : Judged) : Type 0 where
+  pub are_tables : AreTablesAt reads (directories_of asked.audit) judged.tables.items
+  pub are_lines : AreLinesOf judged.tables.items query text judged.lines.items
+  pub state : judged.state ≡ None
+
+-- the lines over a state of the store whose head has this checksum, which state it is, and its mark
+pub record IsStateOf (head : ℕ) (report : StateReport) (state : FoundState) : Type 0 where
+  pub lines : state.lines.items ≡ report.lines.items
+  pub found : state.is_found ≡ is_some report.found
+  pub told : state.told ≡ report.told
+  pub events : state.events ≡ report.events
+  pub mark : string_bytes state.mark ≡ mark_text (mark_at head report.told)
+
+-- What is said over the store that is found: the lines of the blocks whose files are refused, if
+-- there are any; else the lines of the reply over a state.
+pub data IsOfStore (query : QueryView) (reply : Reply) (store : FoundStore) (judged : Judged)
+    : Type 0 where
+  by_blocks : has_refused store.tables.items ≡ true → judged.tables.items ≡ []
+      → judged.lines.items ≡ refused_lines 0 store.tables.items → judged.state ≡ None
+      → IsOfStore query reply store judged
+  by_state : (report : StateReport) (state : FoundState)
+      → IsJudged query reply None store (Said report) → IsStateOf store.head report state
+      → judged.tables.items ≡ [] → judged.lines.items ≡ [] → judged.state ≡ Some state
+      → IsOfStore query reply store judged
+
+-- what is said over the folder of a store, of the reply that the text says
+pub record IsOfFolder (reads : Host) (folder : List ℕ) (query : QueryView) (text : List ℕ)
+    (judged : Judged) : Type 0 where
+  pub reply : Reply
+  pub says : text_said text ≡ Some (told_of reply)
+  pub store : FoundStore
+  pub is_found : IsStoreAt reads folder store
+  pub of_store : IsOfStore query reply store judged
+
+-- what is said of the reply: over the store that is named, or else over the directories
+abbrev pub IsJudgedBy : Option (List ℕ) → Host → Asked → QueryView → List ℕ → Judged → Type 0
+IsJudgedBy None reads asked query text judged = IsOfBlocks reads asked query text judged
+IsJudgedBy (Some folder) reads asked query text judged = IsOfFolder reads folder query text judged
+
+-- what is asked, and what the reader and the folders hold
 pub record HasRead (reads : Host) (input : Option (List ℕ)) (asked : Asked) (found : Found)
     : Type 0 where
   pub is_query : IsQueryOf asked.audit found.query
@@ -103,16 +167,31 @@ pub record HasRead (reads : Host) (input : Option (List ℕ)) (asked : Asked) (f
   pub is_meaning : values_of asked ≡ Some found.values
   pub all : IsAllOf input found.text.items
   pub is_told : IsToldIn found.text.items found.told
-  pub are_tables : AreTablesAt reads (directories_of asked.audit) found.tables.items
-  pub are_lines : AreLinesOf found.tables.items found.query found.text.items found.lines.items
+  pub one_aim : IsOneAim asked
+  pub is_judged : IsJudgedBy (store_of asked) reads asked found.query found.text.items found.judged
+
+-- what is shown of a state is what was found
+pub record IsSaidOf (state : FoundState) (said : StateSaid) : Type 0 where
+  pub lines : said.lines.now ≡ state.lines.items
+  pub found : said.is_found ≡ state.is_found
+  pub told : said.told ≡ state.told
+  pub events : said.events ≡ state.events
+  pub mark : said.mark.now ≡ string_bytes state.mark
+
+abbrev pub ShowsState : Option FoundState → Option StateSaid → Type 0
+ShowsState None None = ⊤
+ShowsState None (Some said) = ⊥
+ShowsState (Some state) None = ⊥
+ShowsState (Some state) (Some said) = IsSaidOf state said
 
 -- what is shown is what was read, with the length and the SHA-256 of the reply
 pub record Shows (asked : Asked) (found : Found) (shown : Shown) : Type 0 where
   pub selector : shown.selector ≡ asked.audit.selector
   pub query : shown.query.now ≡ found.query
   pub told : shown.told.now ≡ found.told
-  pub tables : shown.tables.now ≡ found.tables.items
-  pub lines : shown.lines.now ≡ found.lines.items
+  pub tables : shown.tables.now ≡ found.judged.tables.items
+  pub lines : shown.lines.now ≡ found.judged.lines.items
+  pub state : ShowsState found.judged.state (option_copied shown.state)
   pub values : shown.values ≡ found.values
   pub about : option_copied shown.about ≡ found.about
   pub length_is : shown.length ≡ length found.text.items
@@ -136,8 +215,10 @@ pub record IsAnswer (reads : Host) (input : Option (List ℕ)) (asked : Asked) (
   pub has_read : HasRead reads input asked found
   pub page_of_found : IsPageOfFound asked found page
 
--- the query is accepted, and so is the series that somebody asks about
+-- no directory stands beside a store, the query is accepted, and so is the series that somebody asks
+-- about
 pub record IsNamed (asked : Asked) : Type 0 where
+  pub one_aim : IsOneAim asked
   pub query : IsAllowed asked.audit
   pub about : Option Labels
   pub is_about : IsAbout asked about
@@ -148,27 +229,50 @@ pub record IsTaken (asked : Asked) : Type 0 where
   pub values : Values
   pub is_meaning : values_of asked ≡ Some values
 
--- what the reader holds is a reply
-pub record HoldsReply (input : Option (List ℕ)) : Type 0 where
+-- why nothing is said over the folder of a store: it cannot be read, or what is found in it is
+-- refused
+abbrev pub IsStoreFault : Host → List ℕ → QueryView → List ℕ → Fault → Type 0
+IsStoreFault reads folder query text (Store fault) =
+    IsFolderFault reads folder fault
+    ⊎ ((reply : Reply) × (text_said text ≡ Some (told_of reply))
+    × (store : FoundStore) × IsStoreAt reads folder store
+    × IsJudgingFault query reply None store fault)
+IsStoreFault reads folder query text fault = ⊥
+
+-- why nothing is said of the reply over what is named
+abbrev pub IsJudgeFault : Option (List ℕ) → Host → Asked → QueryView → List ℕ → Fault → Type 0
+IsJudgeFault None reads asked query text fault =
+    IsAuditFault (IsFirstFault reads (directories_of asked.audit)) fault
+    ⊎ IsAuditFault (IsTextFault text) fault
+IsJudgeFault (Some folder) reads asked query text fault =
+    IsStoreFault reads folder query text fault ⊎ IsAuditFault (IsTextFault text) fault
+
+-- a reply was read, of which nothing is said over what is named
+pub record IsUnjudged (reads : Host) (input : Option (List ℕ)) (asked : Asked) (fault : Fault)
+    : Type 0 where
+  pub query : QueryView
+  pub is_query : IsQueryOf asked.audit query
   pub text : List ℕ
   pub all : IsAllOf input text
   pub told : Told
   pub is_told : IsToldIn text told
+  pub is_fault : IsJudgeFault (store_of asked) reads asked query text fault
 
--- Why no page is written: by the query; by the series that is asked about, if the query is
--- accepted; by what is said of the values, if both are; by the reply, if all are; by the
--- directories, if there is a reply too; or by the writer, if there is a page.
+-- Why no page is written: by directories beside a store; by the query, if there are none; by the
+-- series that is asked about, if the query is accepted too; by what is said of the values, if that
+-- is; by the reply, if all are; by what is named, if there is a reply too; or by the writer, if there
+-- is a page.
 pub data IsAnswerFault (reads : Host) (input : Option (List ℕ)) (asked : Asked)
     (fault : Fault) : Type 0 where
-  by_query : IsAuditFault (IsSelectionFault asked.audit) fault
+  by_aim : IsBeside asked fault → IsAnswerFault reads input asked fault
+  by_query : IsOneAim asked → IsAuditFault (IsSelectionFault asked.audit) fault
       → IsAnswerFault reads input asked fault
-  by_series : IsAllowed asked.audit → IsAboutFault asked fault
+  by_series : IsOneAim asked → IsAllowed asked.audit → IsAboutFault asked fault
       → IsAnswerFault reads input asked fault
   by_values : IsNamed asked → IsNoMeaning asked fault → IsAnswerFault reads input asked fault
   by_reply : IsTaken asked → IsAuditFault (IsReplyFault input) fault
       → IsAnswerFault reads input asked fault
-  by_directories : IsTaken asked → HoldsReply input
-      → IsAuditFault (IsFirstFault reads (directories_of asked.audit)) fault
+  by_folders : IsTaken asked → IsUnjudged reads input asked fault
       → IsAnswerFault reads input asked fault
   by_writing : (page : Page) → IsAnswer reads input asked page
       → IsAuditFault IsWritingFault fault → IsAnswerFault reads input asked fault

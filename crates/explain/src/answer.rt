@@ -5,20 +5,22 @@ ghost use Rattle.asked_series.specs.Series.{IsSeries};
 ghost use Rattle.audit_command.specs.Auditing.{IsTextFault};
 ghost use Rattle.explain.specs.Series.{IsSeriesFault};
 ghost use Rattle.explain.specs.Showing.{IsAbout, IsAboutFault, IsAuditFault, IsToldIn};
-ghost use Rattle.explain.specs.Showing.{AreLinesOf, IsShownAs, HasRead, IsPageOfFound};
-ghost use Rattle.explain.specs.Showing.{Shows, IsAnswer, IsAnswerFault, values_of, IsNoMeaning};
+ghost use Rattle.explain.specs.Showing.{IsBeside, IsOneAim, IsSaidOf, IsShownAs, HasRead};
+ghost use Rattle.explain.specs.Showing.{IsPageOfFound, Shows, IsAnswer, IsAnswerFault, values_of};
+ghost use Rattle.explain.specs.Showing.{IsNoMeaning, ShowsState};
 
 use crate::command::Asked;
 use crate::fault::Fault;
+use crate::judging::{FoundState, Judged, judge_reply};
 use asked_series::{SeriesError, series_of};
-use audit_command::{Fault as AuditFault, ReadFiles, all_of, query_of, reply_of, tables_at};
-use auditor::{BlockTable, Line, judge};
+use audit_command::{Fault as AuditFault, ReadFiles, all_of, query_of, reply_of};
 use labels::LabelSet;
 use matchers::Query;
 use page::{Page, Shown, write_page, write_text};
 use page_claims::Told;
 use page_text::Values;
 use sha2::{Digest, Sha256};
+use state_claims::StateSaid;
 use std::alloc::{AllocError, Global};
 use std::io::Read;
 
@@ -71,21 +73,21 @@ fn told_in(alloc: Global, text: &[u8]) -> Result<Told, Fault>
     Ok(Told::of(alloc, reply)?)
 }
 
-/// What the auditor says of a reply over the blocks that are known; nothing, if there is none.
-fn lines_of(
-    alloc: Global,
-    tables: &[BlockTable],
-    query: &Query,
-    text: &[u8],
-) -> Result<Vec<Line>, Fault>
-    ensures ok { IfOk result (λ lines. AreLinesOf tables.now query.now text.now lines.items) }
-    ensures err { IfErr result (λ fault. IsAuditFault (IsTextFault text.now) fault) }
+/// Finds that directories are not given beside a store.
+fn check_aim(asked: &Asked<'_>) -> Result<(), Fault>
+    ensures ok { IfOk result (λ _. IsOneAim asked.now) }
+    ensures err { IfErr result (λ fault. IsBeside asked.now fault) }
 {
-    if tables.is_empty() {
-        return Ok(Vec::new(alloc));
+    match asked.store {
+        None => Ok(()),
+        Some(_) => {
+            if asked.audit.directories.as_slice().is_empty() {
+                Ok(())
+            } else {
+                Err(Fault::Beside)
+            }
+        }
     }
-    let reply = reply_of(alloc, text)?;
-    Ok(judge(alloc, tables, query, reply)?)
 }
 
 /// The page, as HTML or as a text.
@@ -100,7 +102,7 @@ fn write_shown(alloc: Global, text: bool, shown: &Shown<'_>) -> Result<Page, All
 }
 
 /// What was read: the query, the series that somebody asks about, what the values mean, the text of
-/// the reply and what it says, what is known of the blocks, and what the auditor says of the reply.
+/// the reply and what it says, and what a judge says of it.
 #[derive(Drop)]
 pub struct Found {
     pub query: Query,
@@ -108,11 +110,10 @@ pub struct Found {
     pub values: Values,
     pub text: Vec<u8>,
     pub told: Told,
-    pub tables: Vec<BlockTable>,
-    pub lines: Vec<Line>,
+    pub judged: Judged,
 }
 
-/// Reads what is asked, the reply and the files in the directories.
+/// Reads what is asked, the reply, and the files in the directories or in the store's folder.
 fn read_all<F: ReadFiles, R: Read>(
     alloc: Global,
     files: &F,
@@ -124,21 +125,20 @@ fn read_all<F: ReadFiles, R: Read>(
     ensures err { IfErr result
         (λ fault. IsAnswerFault (F.may_read files.now) (R.remaining input.old) asked.now fault) }
 {
+    check_aim(asked)?;
     let query = query_of(alloc, &asked.audit)?;
     let about = about_of(alloc, asked)?;
     let values = values_of(asked)?;
     let text = all_of(alloc, input)?;
     let told = told_in(alloc, text.as_slice())?;
-    let tables = tables_at(alloc, files, asked.audit.directories.as_slice())?;
-    let lines = lines_of(alloc, tables.as_slice(), &query, text.as_slice())?;
+    let judged = judge_reply(alloc, files, asked, &query, text.as_slice())?;
     Ok(Found {
         query,
         about,
         values,
         text,
         told,
-        tables,
-        lines,
+        judged,
     })
 }
 
@@ -155,16 +155,40 @@ fn write_found(
     write_shown(alloc, asked.text, shown)
 }
 
+/// What is said over a state of a store, lent.
+fn said_of<'a>(state: &'a FoundState) -> StateSaid<'a>
+    ensures { IsSaidOf state.now result }
+{
+    StateSaid {
+        lines: state.lines.as_slice(),
+        is_found: state.is_found,
+        told: state.told,
+        events: state.events,
+        mark: state.mark.as_str(),
+    }
+}
+
+fn said_in<'a>(judged: &'a Judged) -> Option<StateSaid<'a>>
+    ensures { ShowsState judged.now.state result }
+{
+    match &judged.state {
+        Some(state) => Some(said_of(state)),
+        None => None,
+    }
+}
+
 /// The page of what was read, with the length and the SHA-256 of the reply.
 fn page_of(alloc: Global, asked: &Asked<'_>, found: &Found) -> Result<Page, AllocError>
     ensures { IfOk result (λ page. IsPageOfFound asked.now found.now page) }
 {
+    let said = said_in(&found.judged);
     let shown = Shown {
         selector: asked.audit.selector,
         query: &found.query,
         told: &found.told,
-        tables: found.tables.as_slice(),
-        lines: found.lines.as_slice(),
+        tables: found.judged.tables.as_slice(),
+        lines: found.judged.lines.as_slice(),
+        state: said.as_ref(),
         values: found.values,
         about: found.about.as_ref(),
         length: found.text.len() as u64,
@@ -175,9 +199,10 @@ fn page_of(alloc: Global, asked: &Asked<'_>, found: &Found) -> Result<Page, Allo
 
 /// The page of the reply that a reader gives.
 ///
-/// The selector is checked, then the range, then the series that is asked about, then what is said
-/// of the values; then the reply is read, to its end, and then the files in each directory, in the order given. The page shows what
-/// was read, and what the auditor says of it if a directory was given.
+/// Directories beside a store are refused first. Then the selector is checked, then the range, then
+/// the series that is asked about, then what is said of the values. Then the reply is read, to its
+/// end, and then the files in each directory, in the order given, or the folder of the store. The
+/// page shows what was read, and what the auditor says of it if a directory or a store was given.
 pub fn answer<F: ReadFiles, R: Read>(
     alloc: Global,
     files: &F,

@@ -5,7 +5,7 @@ ghost use Rattle.clap.specs.Matches.{found_of};
 ghost use Rattle.clap.specs.Words.{app_of, rule_of, rows_of, first_of, one_of, matches_of};
 ghost use Rattle.clap.specs.Words.{fault_of, FailsBy};
 ghost use Rattle.audit_command.specs.Asking.{texts_of};
-ghost use Rattle.explain.specs.Asking.{about_rule, text_rule, values_rule, named_app};
+ghost use Rattle.explain.specs.Asking.{about_rule, text_rule, values_rule, store_rule, named_app};
 ghost use Rattle.explain.specs.Asking.{explain_app, IsFlagIn, IsAskedIn, IsAskedBy};
 
 use audit_command::{Asked as AuditAsked, asked_in as audit_in, with_arguments};
@@ -23,6 +23,8 @@ pub struct Asked<'a> {
     pub text: bool,
     /// What the values of the reply are said to mean.
     pub values: Option<&'a str>,
+    /// The folder of a store, over which the reply is to be judged.
+    pub store: Option<&'a str>,
 }
 
 const LINES: &str =
@@ -30,6 +32,11 @@ const LINES: &str =
 of HTML without a script, which fetches nothing; the same bytes for the same input. With directories
 the reply is judged first, as auditor does: they are its blocks, "block 0", "block 1" and so on, in
 the order given. The page then carries each judgement, and names series that each interval rejects.
+
+With --store DIR, in place of directories, the reply is judged as auditor --store does, over the
+folder of a store that its server may be writing: head, blocks and changes. The page says of which
+state of the store it is right, by event and mark. A block that is valid, numbered otherwise, is
+judged for what is missing, and not for how few its intervals are.
 
 --values doubles shows each value as the double for which it is kept, as Prometheus prints it. A
 reply does not say what its values mean: the store's blocks do.
@@ -40,7 +47,8 @@ that sentence.
 
 Exit status: 0 the page says that no series is missing; 1 it does not, or the selector, the range,
 the series or the meaning of values is refused; 2 a fault of the words; 3 a file or standard input
-cannot be read, or it holds no reply, or the page cannot be written; 4 no memory
+cannot be read, or it holds no reply, or a store is refused or changes, or the page cannot be
+written; 4 no memory
 
 Example: querier select up data/0001 | explain --selector up data/0001 >answer.html"#;
 
@@ -80,6 +88,17 @@ fn values<'a>(alloc: Global) -> Arg<'a>
         .help("What values are, if not whole numbers: doubles")
 }
 
+/// The option `--store DIR`.
+fn store<'a>(alloc: Global) -> Arg<'a>
+    ensures rule { rule_of result ≡ store_rule }
+    ensures global { result.global ≡ false }
+{
+    Arg::new(alloc, "store")
+        .long("store")
+        .value_name("DIR")
+        .help("The folder of a store, as querier serve --data DIR keeps it")
+}
+
 /// The program, without its arguments.
 fn explain<'a>(alloc: Global) -> Result<Command<'a>, AllocError>
     ensures { IfOk result (λ command. app_of command ≡ named_app) }
@@ -94,14 +113,15 @@ fn explain<'a>(alloc: Global) -> Result<Command<'a>, AllocError>
 }
 
 /// The program: `--selector S [--from N] [--to N] [--about SERIES] [--text] [--values doubles]
-/// [DIR]...`.
+/// [--store DIR] [DIR]...`.
 fn program<'a>(alloc: Global) -> Result<Command<'a>, AllocError>
     ensures { IfOk result (λ command. app_of command ≡ explain_app) }
 {
     with_arguments(alloc, explain(alloc)?)?
         .arg(about(alloc))?
         .arg(text(alloc))?
-        .arg(values(alloc))
+        .arg(values(alloc))?
+        .arg(store(alloc))
 }
 
 fn about_in<'a>(found: &ArgMatches<'a>) -> Option<&'a str>
@@ -124,6 +144,13 @@ fn values_in<'a>(found: &ArgMatches<'a>) -> Option<&'a str>
     found.get_str("values")
 }
 
+fn store_in<'a>(found: &ArgMatches<'a>) -> Option<&'a str>
+    ensures { option_map (λ text. text.now) result
+        ≡ first_of (codes "store") (rows_of (found_of found.now)) }
+{
+    found.get_str("store")
+}
+
 fn asked_in<'a>(alloc: Global, found: &ArgMatches<'a>) -> Result<Asked<'a>, AllocError>
     ensures { IfOk result (λ asked. IsAskedIn (rows_of (found_of found.now)) asked) }
 {
@@ -131,11 +158,13 @@ fn asked_in<'a>(alloc: Global, found: &ArgMatches<'a>) -> Result<Asked<'a>, Allo
     let about = about_in(found);
     let text = text_in(found);
     let values = values_in(found);
+    let store = store_in(found);
     Ok(Asked {
         audit,
         about,
         text,
         values,
+        store,
     })
 }
 

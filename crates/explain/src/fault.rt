@@ -7,6 +7,7 @@ ghost use Rattle.explain.specs.Faults.{status_of, line_of};
 use audit_command::Fault as AuditFault;
 use std::alloc::{AllocError, AllocFailed};
 use std::io::{self, Write};
+use store_command::Fault as StoreFault;
 
 /// Why the program ends before it has written a page.
 #[derive(Debug, Drop)]
@@ -17,17 +18,24 @@ pub enum Fault {
     NoSeries,
     /// What is said of values is no meaning of them.
     NoMeaning,
+    /// Directories are given beside a store.
+    Beside,
+    /// As an audit over a store would end: the folder cannot be read, is refused, or changes.
+    Store(StoreFault),
 }
 
 impl Fault {
-    /// The exit status: 1 for a refusal, 2 for a fault of the words, 3 for what cannot be read, for
-    /// a text that is no reply and for a writer that refused, 4 for no memory.
+    /// The exit status: 1 for a refusal, 2 for a fault of the words and for directories beside a
+    /// store, 3 for what cannot be read, for a text that is no reply, for a store that is refused
+    /// or changes and for a writer that refused, 4 for no memory.
     pub fn status(&self) -> u8
         ensures { result ≡ status_of self.now }
     {
         match self {
             Fault::Audit(fault) => fault.status(),
             Fault::NoSeries | Fault::NoMeaning => 1,
+            Fault::Beside => 2,
+            Fault::Store(fault) => fault.status(),
         }
     }
 
@@ -40,6 +48,8 @@ impl Fault {
             Fault::Audit(fault) => fault.tell(to),
             Fault::NoSeries => writeln!(to, "refused --about: no series"),
             Fault::NoMeaning => writeln!(to, "refused --values: no meaning"),
+            Fault::Beside => writeln!(to, "--store: no directory beside it"),
+            Fault::Store(fault) => fault.tell(to),
         }
     }
 }
@@ -52,6 +62,17 @@ impl From<AuditFault> for Fault {
 
     fn from(fault: AuditFault) -> Fault {
         Fault::Audit(fault)
+    }
+}
+
+impl From<StoreFault> for Fault {
+    ghost use Rattle.std.specs.Prelude.{◌≡◌};
+    ghost use Rattle.explain.specs.declared.fault.Fault.TheVariants.{Store};
+
+    ghost from_gives = { λ store fault. fault ≡ Store store };
+
+    fn from(fault: StoreFault) -> Fault {
+        Fault::Store(fault)
     }
 }
 

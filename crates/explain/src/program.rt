@@ -83,10 +83,12 @@ fn tell<E: Write>(end: &Result<bool, Fault>, to: &mut E) -> io::Result<()>
 /// writer.
 ///
 /// 0 if the page says that no series is missing; 1 if it does not, and for a selector, a range, a
-/// series or a meaning of values that is refused; 2 for a fault of the words, with the usage on the second writer; 3 for
-/// what cannot be read, which is named there, for a text that is no reply, and if the first writer
-/// fails; 4 if memory does. The words come first, then the selector, the range, the series,
-/// the meaning of values, the reply, and the directories in the order given. Nothing is written before the page is whole.
+/// series or a meaning of values that is refused; 2 for a fault of the words, with the usage on the
+/// second writer, and for directories beside a store; 3 for what cannot be read, which is named
+/// there, for a text that is no reply, for a store that is refused or changes, and if the first
+/// writer fails; 4 if memory does. The words come first, then directories beside a store, the
+/// selector, the range, the series, the meaning of values, the reply, and the directories in the
+/// order given, or the store. Nothing is written before the page is whole.
 pub fn run<F: ReadFiles, R: Read, W: Write, E: Write>(
     alloc: Global,
     files: &F,

@@ -10,8 +10,9 @@ write_found-requires c = record {
   told = refl;
   tables = c.as_slice.ensures.value;
   lines = c.as_slice-2.ensures.value;
+  state = rw c.as_ref.ensures.value c.said_in-said.ensures;
   values = refl;
-  about = c.as_ref.ensures.value;
+  about = c.as_ref-2.ensures.value;
   length_is = first_of (search rules, omega arith, grind (arith, common_steps));
   digest_is = c.digest.ensures ∙ ap sha256 c.as_slice-3.ensures.value;
 }

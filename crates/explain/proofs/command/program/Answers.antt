@@ -6,7 +6,8 @@ use Rattle.explain.proofs.command.program.Goals as goal
 
 pub returns : goal.returns
 returns c =
-    IfOk-weaker c.arg-3.result _ _ (λ command h. h.shape c.values.ensures.global
+    IfOk-weaker c.arg-4.result _ _ (λ command h. h.shape c.store.ensures.global
+    ∙ ap₂ with_rule (c.in_ok-arg-3.ensures.shape c.values.ensures.global
     ∙ ap₂ with_rule (c.in_ok-arg-2.ensures.shape c.text.ensures.global
     ∙ ap₂ with_rule (c.in_ok-arg.ensures.shape c.about.ensures.global
-    ∙ ap₂ with_rule (c.in_ok-with_arguments.ensures ∙ ap with_arguments c.in_ok-explain.ensures) c.about.ensures.rule) c.text.ensures.rule) c.values.ensures.rule) c.arg-3.ensures
+    ∙ ap₂ with_rule (c.in_ok-with_arguments.ensures ∙ ap with_arguments c.in_ok-explain.ensures) c.about.ensures.rule) c.text.ensures.rule) c.values.ensures.rule) c.store.ensures.rule) c.arg-4.ensures
