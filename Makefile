@@ -61,9 +61,9 @@ readme: ## types each command of the README and compares what it prints; with PR
 allocations: ## refuses each allocation in turn: of an opening, changes of a store, the demo, a selection, a search, connections and audits (needs a C compiler)
 	@RT="$(RT)" tests/allocations.sh
 
-audits: ## pipes replies of querier, over blocks and of a kept store, as they are and changed, through auditor (needs rustc and python3)
+audits: ## pipes replies of querier over blocks, and of a server that keeps its store, through auditor, as they are and changed; with REPLIES=10000 so many of a busy server (needs rustc and python3)
 	@RT="$(RT)" tests/audits.sh
-	@RT="$(RT)" tests/store_audits.py
+	@RT="$(RT)" tests/store_audits.py $(if $(REPLIES),--replies $(REPLIES))
 
 serving: ## runs the server and asks it with curl: the session of the README, slow and silent clients
 	@RT="$(RT)" tests/serving.sh

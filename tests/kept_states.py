@@ -1,5 +1,6 @@
 """The states of a kept store, read from its folder by the words of docs/FORMATS.md and docs/AUDITING.md, and
-of which of them a reply is right. Each state is tried. Nothing here is taken from the programs."""
+of which of them a reply is right. Each state is tried: no order of trying is borrowed from the auditor, and
+nothing here is taken from the programs."""
 import re
 import struct
 
@@ -191,12 +192,19 @@ def label_order(labels):
 class Query:
     def __init__(self, selector, first=LEAST, last=-LEAST - 1):
         self.matchers, self.first, self.last = matchers_of(selector), first, last
+        # which matchers accept a label set, once it was asked
+        self.accepting = {}
 
     def within(self, samples):
         return [tuple(s) for s in samples if self.first <= s[0] <= self.last]
 
+    def accepted_by(self, number, labels):
+        if labels not in self.accepting:
+            self.accepting[labels] = [accepts(matcher, labels) for matcher in self.matchers]
+        return self.accepting[labels][number]
+
     def satisfied(self, labels):
-        return all(accepts(matcher, labels) for matcher in self.matchers)
+        return all(self.accepted_by(number, labels) for number in range(len(self.matchers)))
 
     def selected(self, part):
         rows = [(labels, self.within(samples)) for _, labels, samples in part if self.satisfied(labels)]
@@ -207,7 +215,7 @@ class Query:
             return len(run) == 1 and self.satisfied(run[0][1]) and bool(self.within(run[0][2]))
         if verdict == "none":
             return not any(self.within(samples) for _, _, samples in run)
-        return not any(accepts(self.matchers[verdict], labels) for _, labels, _ in run)
+        return not any(self.accepted_by(verdict, labels) for _, labels, _ in run)
 
     def fits_some(self, run):
         return any(self.fits(verdict, run) for verdict in ["match", "none", *range(len(self.matchers))])
@@ -229,6 +237,8 @@ def is_known(query, answer):
 
 def is_sound(query, part, answer):
     """Whether an answer is right of a part by the references of its series."""
+    if rows_of(answer["rows"]) != query.selected(part):
+        return False
     numbers = [reference for reference, _, _ in part]
     intervals, separators = answer["intervals"], answer["separators"]
     starts = [interval["from"] for interval in intervals]
@@ -247,7 +257,7 @@ def is_sound(query, part, answer):
     for one, next_one in zip(separators, separators[1:]):
         if query.fits_some([series for series in part if one <= series[0] <= next_one]):
             return False
-    return rows_of(answer["rows"]) == query.selected(part)
+    return True
 
 
 def is_explained(query, part, answer):
@@ -274,51 +284,59 @@ def is_explained(query, part, answer):
     return rows_of(answer["rows"]) == query.selected(part)
 
 
-def is_merged(reply):
-    """Whether the rows of all are those that the parts list, the value listed last at each point."""
+def merged(parts):
+    """The rows of all that parts list: the value listed last at each point."""
     listed = {}
-    for part in reply["parts"]:
+    for part in parts:
         for labels, samples in rows_of(part.get("rows", [])):
             listed.setdefault(labels, {}).update(samples)
-    rows = [(labels, sorted(listed[labels].items())) for labels in sorted(listed, key=label_order)]
-    return rows_of(reply["rows"]) == rows
+    return [(labels, sorted(listed[labels].items())) for labels in sorted(listed, key=label_order)]
 
 
 # ---- the states
 
 
 class State:
+    """What a store has after some events. What is not changed by an event stays the same object."""
+
     def __init__(self, journal, blocks):
         self.floor, self.blocks = journal.floor, blocks
-        self.head = [[labels, newest, samples] for labels, newest, samples in journal.head]
+        # of each series in the order of its number: label set, newest sample, samples
+        self.head = [[labels, newest, list(samples)] for labels, newest, samples in journal.head]
+        self.places = {series[0]: series for series in self.head}
 
-    def parts(self):
-        numbered = [(at + 1, labels, samples) for at, (labels, _, samples) in enumerate(self.head)]
-        return [*self.blocks, numbered]
+    def numbered(self):
+        return [(at + 1, labels, samples) for at, (labels, _, samples) in enumerate(self.head)]
 
     def step(self, event):
         getattr(self, event[0])(*event[1:])
 
     def batch(self, runs):
-        places = {series[0]: series for series in self.head}
         for labels, samples in runs:
             for sample in samples:
-                series = places.get(labels)
+                series = self.places.get(labels)
                 assert sample[0] >= self.floor, sample
                 if series is None:
-                    series = places[labels] = [labels, sample, [sample]]
+                    series = self.places[labels] = [labels, sample, [sample]]
                     self.head.append(series)
                 elif sample != series[1]:
                     assert sample[0] > series[1][0], sample
-                    series[1], series[2] = sample, [*series[2], sample]
+                    series[1] = sample
+                    series[2].append(sample)
 
     def deletion(self, matchers, first, last):
         def left(labels, samples):
-            struck = all(accepts(matcher, labels) for matcher in matchers)
-            return [s for s in samples if not (struck and first <= s[0] <= last)]
+            kept = [s for s in samples if not first <= s[0] <= last]
+            if len(kept) == len(samples) or not all(accepts(matcher, labels) for matcher in matchers):
+                return samples
+            return kept
 
-        self.head = [[labels, newest, left(labels, samples)] for labels, newest, samples in self.head]
-        self.blocks = [[(r, labels, left(labels, s)) for r, labels, s in block] for block in self.blocks]
+        for series in self.head:
+            series[2] = left(series[0], series[2])
+        for place, block in enumerate(self.blocks):
+            after = [(number, labels, left(labels, samples)) for number, labels, samples in block]
+            if any(one[2] is not other[2] for one, other in zip(after, block)):
+                self.blocks = [*self.blocks[:place], after, *self.blocks[place + 1 :]]
 
     def cut(self, time):
         assert time > self.floor, time
@@ -333,22 +351,38 @@ class State:
             for labels, newest, samples in self.head
             if newest[0] >= time
         ]
+        self.places = {series[0]: series for series in self.head}
 
-    def is_right(self, query, reply):
-        """Whether all that a reply says of parts is right of this state."""
-        parts = self.parts()
-        names = [f"block {number}" for number in range(len(parts) - 1)] + ["head"]
-        if [told["part"] for told in reply["parts"]] != names:
-            return False
-        for part, told in zip(parts, reply["parts"]):
+
+class Asked:
+    """A reply to a query, of which each state behind `first` to `last` events is to be judged."""
+
+    def __init__(self, query, reply, first=0, last=None):
+        self.query, self.reply, self.first, self.last = query, reply, first, last
+        self.is_merged = rows_of(reply["rows"]) == merged(reply["parts"])
+        # what was found of blocks, and the blocks, so that no other block gets their places
+        self.found = {}
+
+    def is_right_of_block(self, block, told):
+        key = id(block), told["part"]
+        if key not in self.found:
             if told.get("skipped"):
-                right = told["part"] != "head" and not query.selected(part)
+                right = not self.query.selected(block)
             else:
-                right = is_sound(query, part, told)
-                right = right or told["part"] != "head" and is_explained(query, part, told)
-            if not right:
-                return False
-        return True
+                right = is_sound(self.query, block, told) or is_explained(self.query, block, told)
+            self.found[key] = right, block
+        return self.found[key][0]
+
+    def is_right(self, state):
+        """Whether all that the reply says is right of a state."""
+        parts = self.reply["parts"]
+        names = [f"block {number}" for number in range(len(state.blocks))] + ["head"]
+        if not self.is_merged or [told["part"] for told in parts] != names or parts[-1].get("skipped"):
+            return False
+        blocks = zip(state.blocks, parts)
+        if not all(self.is_right_of_block(block, told) for block, told in blocks):
+            return False
+        return is_sound(self.query, state.numbered(), parts[-1])
 
 
 class Store:
@@ -358,14 +392,25 @@ class Store:
         self.journal = Journal(open(f"{folder}/journal", "rb").read())
         self.blocks = [walk(f"{folder}/blocks/{number}") for number in self.journal.folders]
 
-    def right_states(self, query, reply):
-        """After how many events the states are of which a reply is right."""
-        if not is_merged(reply):
-            return []
-        state, found = State(self.journal, self.blocks), []
-        for number in range(len(self.journal.events) + 1):
+    def right_of(self, asked):
+        """Of each of these, after how many events the states are of which it is right."""
+        state, found = State(self.journal, self.blocks), [[] for _ in asked]
+        events = self.journal.events
+        starting = sorted(range(len(asked)), key=lambda place: asked[place].first)
+        open_ones = []
+        for number in range(len(events) + 1):
             if number:
-                state.step(self.journal.events[number - 1])
-            if state.is_right(query, reply):
-                found.append(number)
+                state.step(events[number - 1])
+            while starting and asked[starting[0]].first <= number:
+                open_ones.append(starting.pop(0))
+            for place in open_ones:
+                if asked[place].is_right(state):
+                    found[place].append(number)
+            open_ones = [at for at in open_ones if asked[at].last is None or asked[at].last > number]
+            if not starting and not open_ones:
+                break
         return found
+
+    def right_states(self, query, reply, first=0):
+        """After how many events the states are of which a reply is right."""
+        return self.right_of([Asked(query, reply, first)])[0]

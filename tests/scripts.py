@@ -33,8 +33,8 @@ HTML = "tests/pages-html.py"
 # Those that take long are first.
 BESIDE = [
     ("importing", "querier auditor blocktool", "promtool prometheus curl python3", "tests/importing.sh"),
+    ("store-audits", "querier auditor blocktool", "", "tests/store_audits.py"),
     ("audits", "querier auditor", "rustc curl", "tests/audits.sh"),
-    ("store-audits", "querier auditor", "", "tests/store_audits.py"),
     ("scraping", "querier", "prometheus promtool curl python3", "tests/scraping.sh"),
     ("serving", "querier", "curl awk python3", "tests/serving.sh"),
     ("nginx", "querier", "nginx openssl curl python3", "tests/nginx.sh"),
