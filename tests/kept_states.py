@@ -58,11 +58,23 @@ def records(data):
     return contents, ends
 
 
-def event_of(content):
+def event_of(content, named):
+    """The event that a content says; `named` has the label sets that have numbers, which it may add to."""
     fields = Fields(content)
     kind = fields.byte()
     if kind == 1:
         return "batch", [(fields.labels(), fields.samples()) for _ in range(fields.uvarint())]
+    if kind == 4:
+        runs, time = [], 0
+        for _ in range(fields.uvarint()):
+            number, samples = fields.uvarint(), []
+            if number == len(named):
+                named.append(fields.labels())
+            for _ in range(fields.uvarint()):
+                time += fields.varint()
+                samples.append((time, fields.varint()))
+            runs.append((named[number], samples))
+        return "batch", runs
     if kind == 2:
         matchers = []
         for _ in range(fields.uvarint()):
@@ -91,7 +103,8 @@ class Journal:
                 labels, newest = fields.labels(), (fields.varint(), fields.varint())
                 self.head.append((labels, newest, fields.samples()))
         self.sum = checksum(data[: ends[own]] if own else b"").hex()
-        self.events = [event_of(content) for content in contents[own:]]
+        named = []
+        self.events = [event_of(content, named) for content in contents[own:]]
 
     def mark(self, count):
         return f"{self.sum}:{count}"

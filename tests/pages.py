@@ -404,10 +404,6 @@ def subjects_of_codes(texts):
         "help": [code for code in asked if code[0] == "M"],
         "SELECTORS": document_codes(selectors, "Refusals"),
     }
-    yield "refusals of a range and of directories", {
-        "help": {code for code in asked if code[0] in "QO"},
-        "README": {code for code in codes(between(readme, "\n`M4` says", "\n")) if code[0] in "QO"},
-    }
     for title, file in (
         ("Index", "index"), ("Chunks", "chunks/000001"), ("Tombstones", "tombstones"),
         ("Numbers and checksums", "Numbers"),

@@ -10,8 +10,8 @@ store and tries each state:
   quiet    random changes, checkpoints, kills, starts and a join; replies as they are and changed
   busy     N replies (1,000) of a server that clients change meanwhile, each behind a mark that was taken
            before it; the journal is begun anew while it runs, and the server is killed, started, and its
-           blocks are joined. None may be refused, but `rolled since` is asked again. Of each third a lie is
-           told.
+           blocks are joined. None may be refused, but if the auditor says `ask again`, it is: the journal
+           was begun anew since the mark, or the mark is ahead of the server. Of each third a lie is told.
   speed    only with --speed, and nothing else then: how long a start of a large store and an audit over it
            take, and how much memory
 
@@ -356,33 +356,52 @@ class Session:
         holds(f"{name}: kept_states.py has it right of {states}, wanted {told}", set(told) <= set(states))
         holds(f"{name}: kept_states.py has a lie right of {states}", bool(told) == bool(states))
 
+    def before(self, name, reply, place, of, since):
+        """The reply is right of a state before the mark, and of none from there on."""
+        got = self.auditor.judge(reply, "up", since=since)
+        wanted = (3, [], f"at event {place} of {of}, before mark {since}: ask again\n")
+        holds(f"{name}: wanted {wanted}, got {got}", got == wanted)
+        states = Store(self.keeper.folder).right_states(Query("up", 0, LATEST), reply)
+        is_so = place in states and max(states) < int(since.split(":")[1])
+        holds(f"{name}: kept_states.py has it right of {states}", is_so)
+
     def right(self, name, reply, lines, place, of, **more):
         self.says(name, reply, [*lines, f"at event {place} of {of}, mark {self.sum}:{place}"], **more)
 
-    def lie(self, name, reply, lines, of, since=None):
-        least = int(since.split(":")[1]) if since else 0
-        told = f"at no event from {least} to {of}, told of event {of}, mark {self.sum}:{of}"
-        self.says(name, reply, [*lines, told, *([] if since else [NOTE])], since=since)
+    def lie(self, name, reply, lines, of, since=None, told=None):
+        least, told = int(since.split(":")[1]) if since else 0, of if told is None else told
+        line = f"at no event from {least} to {of}, told of event {told}, mark {self.sum}:{told}"
+        self.says(name, reply, [*lines, line, *([] if since else [NOTE])], since=since)
 
 
 def session(keeper, auditor):
     them, up = Session(keeper, auditor), '{job="a"}'
     valid = ["head: valid", "rows: valid"]
     holds("the mark of a new store", auditor.mark() == f"{them.sum}:0")
+    empty = keeper.select("up")
+    them.right("an empty head", empty, valid, 0, 0, since=auditor.mark())
     keeper.write((UP, [(10, 1), (20, 2)]), (UP_B, [(10, 3)]))
     first, before = keeper.select("up"), auditor.mark()
     them.right("a write", first, valid, 1, 1)
+    them.right("an empty head, behind the write", empty, valid, 0, 1)
+    # so it is too if the mark is taken while the write is synced
+    them.before("an empty head, since the write", empty, 0, 1, before)
     keeper.write((UP, [(30, 3)]), (UP_B, [(30, 4)]))
     behind = auditor.mark()
     them.right("an older answer", first, valid, 1, 2)
     them.right("an older answer, since the write before", first, valid, 1, 2, since=before)
-    lines = ["head: F6", "rows: valid"]
-    them.lie("an answer older than the reader's own write", first, lines, 2, since=behind)
+    name = "an answer older than the reader's own write"
+    them.before(name, first, 1, 2, behind)
+    name = f"{name}, with rows that lack a sample"
+    short = changed(first, with_other_rows_of_all)
+    them.lie(name, short, ["head: F6", "rows: F10"], 2, since=behind)
+    them.lie(f"{name}, without a mark", short, ["head: valid", "rows: F10"], 2, told=1)
 
     second = keeper.select("up")
     them.right("two writes", second, valid, 2, 2)
     short = without_a_sample(second, UP_B, 30)
-    them.lie("half of a batch", short, ["head: F6", "rows: valid"], 2)
+    for since in [None, before, behind]:
+        them.lie(f"half of a batch, since {since}", short, ["head: F6", "rows: valid"], 2, since=since)
     for name, lines in [
         ("a row left out of the head and of the rows", ["head: F6", "rows: valid"]),
         ("the same, and hidden by the certificate", ["head: F8", "rows: valid"]),
@@ -536,23 +555,23 @@ def damage(auditor, work):
 # ---- random changes, and a server that is quiet while the auditor reads
 
 
-def agrees(name, store, states, judged):
-    """What the auditor says of a reply is what the states say of it, after how many events they are."""
+def agrees(name, store, states, judged, least=0):
+    """What the auditor says of a reply, since so many events, is what the states say of it, after how many
+    events they are."""
     status, lines, told = judged
     count = len(store.journal.events)
-    if states:
+    name = f"{name}, since {least}: right of {states[-3:]}, got {status} {lines[-2:]} {told}"
+    if any(place >= least for place in states):
         place = place_in(lines[-1]) if status == 0 else None
         wanted = f"at event {place} of {count}, mark {store.journal.mark(place)}"
-        holds(
-            f"{name}: right of {states[-3:]}, got {status} {lines[-1:]} {told}",
-            place in states and lines[-1] == wanted,
-        )
+        holds(name, place in states and place >= least and lines[-1] == wanted)
+    elif states:
+        place = place_in(told) if status == 3 and told.startswith("at event ") else None
+        wanted = f"at event {place} of {count}, before mark {store.journal.mark(least)}: ask again\n"
+        holds(name, place in states and not lines and told == wanted)
     else:
-        end = f"at no event from 0 to {count}, told of event "
-        holds(
-            f"{name}: right of none, got {status} {lines[-2:]} {told}",
-            status == 1 and any(line.startswith(end) for line in lines[-2:]),
-        )
+        end = f"at no event from {least} to {count}, told of event "
+        holds(name, status == 1 and any(line.startswith(end) for line in lines[-2:]))
 
 
 class Quiet:
@@ -561,6 +580,8 @@ class Quiet:
     def __init__(self, keeper, auditor, seed):
         self.keeper, self.auditor, self.random = keeper, auditor, random.Random(seed)
         self.clock, self.floor, self.right, self.refused, self.by_chance = 0, 0, 0, collections.Counter(), 0
+        # how many were right of states before a mark alone
+        self.early = 0
 
     def labels(self):
         pairs = {"__name__": self.random.choice(NAMES), "job": self.random.choice("abc")}
@@ -594,6 +615,10 @@ class Quiet:
         found = store.right_of([Asked(Query(selector, 0, LATEST), one) for _, one in told])
         for (kind, one), states in zip(told, found):
             agrees(f"{name}: {kind}", store, states, self.auditor.judge(one, selector))
+            least = self.random.randint(0, len(store.journal.events))
+            judged = self.auditor.judge(one, selector, since=store.journal.mark(least))
+            agrees(f"{name}: {kind}", store, states, judged, least)
+            self.early += bool(states) and max(states) < least
             if kind == TRUE:
                 holds(f"{name}: a right reply is found", states)
                 self.right += bool(states)
@@ -630,10 +655,10 @@ class Quiet:
 CLIENTS = 4
 CHANGES = 10  # between one reply and the next, of each client
 PHASE = 250  # replies between two ends of the server
-# what is no lie: a reply as it is, and one that the server gave before it saw a change that the mark counts
-TRUE, BEHIND = "as it is", "behind its mark"
+TRUE = "as it is"  # what is no lie
 OLD = 20_000  # samples that are older are deleted now and then
 AT = re.compile(r"at event (\d+) of (\d+), mark ([0-9a-f]{8}):(\d+)")
+BEFORE = re.compile(r"at event (\d+) of (\d+), before mark ([0-9a-f]{8}):(\d+): ask again\n")
 AT_NONE = re.compile(r"at no event from (\d+) to (\d+), told of event (\d+), mark ([0-9a-f]{8}):(\d+)")
 
 
@@ -675,20 +700,33 @@ class Row:
 
     def __init__(self, kind, query, reply, judged):
         self.kind, self.query, self.reply = kind, query, zlib.compress(json.dumps(reply).encode())
-        status, lines, _ = judged
-        line = next((line for line in lines if line.startswith("at ")), "")
-        told = (AT if status == 0 else AT_NONE).fullmatch(line)
-        self.is_right, self.lines, self.sum = status == 0, lines, None
-        if told and self.is_right:
-            place, self.events, self.sum, again = told.groups()
-            self.first = self.last = int(place)
-            holds(f"{kind}: {lines[-1]}", place == again)
-        elif told:
-            first, last, _, self.sum, _ = told.groups()
-            self.first, self.last = int(first), int(last)
+        status, self.lines, told = judged
+        line = next((line for line in self.lines if line.startswith("at ")), told)
+        self.is_right, self.is_early = status == 0, status == 3
+        found = (AT if self.is_right else BEFORE if self.is_early else AT_NONE).fullmatch(line)
+        # the states, after so many events to so many, that are said to be right, and not to be
+        self.sum, self.right, self.wrong = None, None, None
+        if not found or bool(told) != self.is_early or (self.is_early and self.lines):
+            return
+        if self.is_right:
+            place, _, self.sum, mark = found.groups()
+            self.right = int(place), int(place)
+            holds(f"{kind}: {line}", place == mark)
+        elif self.is_early:
+            place, last, self.sum, mark = found.groups()
+            self.right, self.wrong = (int(place), int(place)), (int(mark), int(last))
+            holds(f"{kind}: {line}", int(place) < int(mark))
+        else:
+            first, last, _, self.sum, _ = found.groups()
+            self.wrong = int(first), int(last)
 
     def asked(self):
-        return Asked(Query(*self.query), json.loads(zlib.decompress(self.reply)), self.first, self.last)
+        """What kept_states.py is asked of it, and which states it has to find."""
+        query, reply = Query(*self.query), json.loads(zlib.decompress(self.reply))
+        if self.right:
+            yield Asked(query, reply, *self.right), [self.right[0]]
+        if self.wrong:
+            yield Asked(query, reply, *self.wrong), []
 
 
 class Busy:
@@ -814,37 +852,24 @@ class Client(threading.Thread):
         if judged == (3, [], f"rolled since {mark}: ask again\n"):
             raise Rolled
         row = Row(kind, query, reply, judged)
-        holds(f"{kind}, {query}, since {mark}: {judged}", row.sum and not judged[2])
-        if mark and row.sum == mark.split(":")[0]:
-            holds(f"{kind}, since {mark}: {judged}", row.first >= int(mark.split(":")[1]))
+        holds(f"{kind}, {query}, since {mark}: {judged}", row.sum)
+        if row.sum == mark.split(":")[0]:
+            first = (row.wrong or row.right)[0]
+            holds(f"{kind}, since {mark}: {judged}", first >= int(mark.split(":")[1]))
+        holds(f"{kind}, since {mark}: {judged}", not row.is_early or mark in judged[2])
         if row.sum:
             self.busy.add(row)
         return row
 
     def truth(self):
-        mark, query = self.busy.auditor.mark(), self.asks()
-        reply = self.busy.keeper.select(*query)
-        row = self.judged(TRUE, query, reply, mark)
-        if not row.is_right:
-            row = self.behind(row, query, reply, mark)
-        holds(f"{TRUE}, {query}, since {mark}: {row.lines}", row.is_right)
-
-    def behind(self, row, query, reply, mark):
         """A change is in the journal before a query sees it, so a mark that was taken meanwhile is ahead of
-        the server. Then the reply is right of a state before the mark, and one to the same query soon is
-        right of one since."""
-        row.kind, (sum_, count) = BEHIND, mark.split(":")
-        older = self.judged(BEHIND, query, reply, None)
-        if older.sum != sum_:
-            raise Rolled
-        holds(f"{BEHIND}, {query}, {mark}: {older.lines}", older.is_right and older.first < int(count))
-        end = time.monotonic() + 60
-        while time.monotonic() < end:
-            later = self.judged(TRUE, query, self.busy.keeper.select(*query), mark)
-            if later.is_right:
-                return later
-            later.kind = BEHIND
-        return later
+        the server, and the auditor says so. A reply to the same query soon is right of a state since."""
+        mark, query, end = self.busy.auditor.mark(), self.asks(), time.monotonic() + 60
+        while True:
+            row = self.judged(TRUE, query, self.busy.keeper.select(*query), mark)
+            if not row.is_early or time.monotonic() > end:
+                break
+        holds(f"{TRUE}, {query}, since {mark}: {row.lines}", row.is_right)
 
     def lie(self):
         if not self.lies:
@@ -962,14 +987,14 @@ def judged_by_states(busy, journals):
         store = Store(journals.folders[sum_])
         holds(f"the checksum of a head, {sum_}", store.journal.sum == sum_)
         judged += len(rows)
-        for row, found in zip(rows, store.right_of([row.asked() for row in rows])):
-            wanted = [row.first] if row.is_right else []
-            more = f"states {row.first} to {row.last} of {len(store.journal.events)}"
+        by_chance += sum(row.is_right and row.kind != TRUE for row in rows)
+        asked = [(row, one, wanted) for row in rows for one, wanted in row.asked()]
+        for (row, one, wanted), found in zip(asked, store.right_of([one for _, one, _ in asked])):
+            more = f"states {one.first} to {one.last} of {len(store.journal.events)}"
             holds(
                 f"{row.kind}, {row.query}: {row.lines[-2:]}, kept_states.py: right of {found[:3]}, {more}",
-                found == wanted and row.last <= len(store.journal.events),
+                found == wanted and one.last <= len(store.journal.events),
             )
-            by_chance += row.is_right and row.kind not in (TRUE, BEHIND)
     return judged, by_chance
 
 
@@ -989,16 +1014,18 @@ def busy_server(querier, program, blocktool, work, replies, seed):
     journals.ended.set()
     journals.join()
     judged, by_chance = judged_by_states(busy, journals)
-    told = [row.is_right for row in busy.rows if row.kind == TRUE]
-    late = sum(row.kind == BEHIND and not row.is_right for row in busy.rows)
-    lies = [row for row in busy.rows if row.kind not in (TRUE, BEHIND)]
+    told = [row.is_right for row in busy.rows if row.kind == TRUE and not row.is_early]
+    early = sum(row.kind == TRUE and row.is_early for row in busy.rows)
+    lies = [row for row in busy.rows if row.kind != TRUE]
+    older = sum(row.is_early for row in lies)
     refused = collections.Counter(row.kind for row in lies if not row.is_right)
     holds(f"{replies} replies are right, not {sum(told)} of {len(told)}", told == [True] * replies)
     for kind in [*LIES, *ACTED]:
         holds(f"{kind}: none was told", refused[kind] or replies < 500)
     print(f"busy: {len(told)} replies, each since a mark: {sum(told)} right, {len(told) - sum(told)} not;")
-    print(f"  asked again: {busy.again} rolled since their marks, {late} behind them; {len(lies)} lies,")
-    print(f"  {sum(refused.values())} refused, {by_chance} right by chance, {busy.not_made} not made;")
+    print(f"  asked again: {busy.again} rolled since their marks, {early} from before them;")
+    print(f"  {len(lies)} lies, {sum(refused.values())} refused, {older} of them as from before their marks,")
+    print(f"  {by_chance} right by chance, {busy.not_made} not made;")
     print(f"  {busy.changes} changes,", end=" ")
     print(f"{journals.count} journals, {kills} kills, {joins} joins; {took:.0f} s; kept_states.py judged")
     print(f"  {judged} of {len(busy.rows)} audits in {time.monotonic() - began - took:.0f} s; refused:")
@@ -1124,7 +1151,8 @@ def audited(querier, program, blocktool, work, asked):
     quiet.rounds("behind a join", 30)
     keeper.server.end()
     print(f"quiet: {quiet.right} replies right; {sum(quiet.refused.values())} lies refused, and")
-    print(f"  {quiet.by_chance} right by chance; {quiet.auditor.count} runs of auditor,", end=" ")
+    print(f"  {quiet.by_chance} right by chance; {quiet.early} from before a random mark;", end=" ")
+    print(f"{quiet.auditor.count} runs of auditor,", end=" ")
     print(f"{time.monotonic() - began:.0f} s", flush=True)
     busy_server(querier, program, blocktool, work, asked.replies, asked.seed)
 

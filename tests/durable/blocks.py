@@ -149,19 +149,19 @@ def cuts(them, looks):
 def long_journals(them, looks):
     """A journal that is longer than --journal-mb is begun anew without a cut; one that is not stays."""
     folder, world = them.kept(
-        [Batch([row(n, *[(k, 2**62 - n - k) for k in range(4000)])]) for n in range(26)]
+        [Batch([row(n, *[(k, 2**62 - n - k) for k in range(4000)])]) for n in range(28)]
     )
     size = os.path.getsize(f"{folder}/journal")
     looks.that("a journal between one MB and two", 2**20 < size < 2**21, size)
     for words in [(), ("--journal-mb", "2"), ("--journal-mb", "1048576")]:
         server = them.start(folder, *words)
         looks.that(f"a start {' '.join(words)}", server.wait(), server.told, tell=False)
-        looks.at(f"what it says {' '.join(words)}", [recovered(26)], server.first_lines(1))
+        looks.at(f"what it says {' '.join(words)}", [recovered(28)], server.first_lines(1))
         server.end()
         looks.at("it is not begun anew", size, os.path.getsize(f"{folder}/journal"))
     head = Head.of(world, [])
     server = them.again(
-        "--journal-mb 1", folder, [recovered(26), rolled(folder, head)], world, [], 2, "--journal-mb", "1"
+        "--journal-mb 1", folder, [recovered(28), rolled(folder, head)], world, [], 2, "--journal-mb", "1"
     )
     server.end()
     server = them.again(

@@ -7,7 +7,7 @@ import random
 
 from house import (
     LEAST, MOST, NEW, NOTHING, OK, Batch, Cut, Deletion, Head, Server, checksum, differences, equals, journal,
-    read, record, recovered, run, short, text_of, tree, uvarint, varint, world_of,
+    numbered, read, record, recovered, run, short, text_of, tree, uvarint, varint, world_of,
 )
 
 
@@ -53,7 +53,7 @@ def written(looks, querier, folder, events):
     for event in events:
         looks.at(event.line()[:60], OK, server.tell(event), tell=False)
     server.end()
-    wanted = journal([event.text() for event in events])
+    wanted = journal(numbered(events))
     looks.that(
         "the bytes of the journal are those that FORMATS.md gives for what was sent",
         read(f"{folder}/journal") == wanted,
@@ -65,8 +65,8 @@ def written(looks, querier, folder, events):
 def ends_of(events):
     """Where the head and each record of an event end."""
     ends = [len(NEW)]
-    for event in events:
-        ends.append(ends[-1] + len(record(event.text())))
+    for content in numbered(events):
+        ends.append(ends[-1] + len(record(content)))
     return ends
 
 
@@ -169,7 +169,7 @@ def no_events():
     """Contents that are no events, and their refusals."""
     one = texts([("a", "b")])
     sample = varint(5) + varint(6)
-    yield "no such kind", b"\x04", "J8"
+    yield "no such kind", b"\x05", "J8"
     yield "a kind of zero", b"\x00\x00", "J8"
     yield "a batch without a count", b"\x01", "J9"
     yield "a batch that is cut short", b"\x01\x01" + one + b"\x02" + sample, "J9"
@@ -195,6 +195,17 @@ def no_events():
     yield "4,097 samples", b"\x01\x01" + one + uvarint(4097) + b"".join(
         varint(1000 + n) + varint(n) for n in range(4097)), "J12"
     yield "a byte behind a cut", b"\x03\x02\x00", "J13"
+    yield "a batch by number that is cut short", b"\x04\x01\x00" + one + b"\x02" + sample, "J9"
+    wrong = texts([("b", "b"), ("a", "a")])
+    yield "labels out of order, by number", b"\x04\x01\x00" + wrong + b"\x01" + sample, "J10"
+    yield "a run of no sample, by number", b"\x04\x01\x00" + one + b"\x00", "J11"
+    yield "two runs of one number", b"\x04\x02\x00" + one + b"\x01" + sample + b"\x00\x01" + sample, "J11"
+    late = varint(MOST) + varint(0) + sample
+    yield "a sample at no time, by number", b"\x04\x01\x00" + one + b"\x02" + late, "J12"
+    yield "a byte behind a batch by number", b"\x04\x01\x00" + one + b"\x01" + sample + b"\x00", "J13"
+    yield "a number that no series has", b"\x04\x01\x01\x01" + sample, "J19"
+    yield "a second number of a series", b"\x04\x02" + b"".join(
+        bytes([number]) + one + b"\x01" + sample for number in range(2)), "J20"
     yield "a pattern that is none", b"\x02\x01\x02" + text_of("a") + text_of("(") + varint(1) + varint(
         2
     ), "J14"
@@ -207,7 +218,7 @@ def no_heads():
     sample = varint(5) + varint(6)
     series = b"\x11" + one + sample + b"\x01" + sample
     yield "a series alone", [series], "J8 at 0"
-    yield "no such kind first", [b"\x12"], "J8 at 0"
+    yield "no such kind first", [b"\x13"], "J8 at 0"
     yield "a head of one byte", [b"\x10"], "J9 at 0"
     yield "a head that ends in its places", [b"\x10" + floor + b"\x02\x01\x00"], "J9 at 0"
     yield "a head without a count of series", [b"\x10" + floor + b"\x00"], "J9 at 0"
@@ -357,7 +368,7 @@ def damage(looks, querier, work, seed):
         )
     looks.say(f"{served.count} starts over them")
     served = Served(looks, querier, f"{work}/many", many)
-    for length in [*chance.sample(range(len(large) - 4096, len(large)), 12), len(large)]:
+    for length in [*chance.sample(range(max(of_many[0], len(large) - 4096), len(large)), 12), len(large)]:
         served.front(f"the large one cut to {length}", large[:length], front_of(of_many, length),
                      of_many[front_of(of_many, length)])
     looks.say(f"{served.count} starts over the large one")

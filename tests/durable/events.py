@@ -3,8 +3,8 @@ the same."""
 import os
 
 from house import (
-    LEAST, MOST, OK, OPERATORS, Batch, Cut, Deletion, Head, Server, World, differences, equals, journal, read,
-    recovered, refused, rolled,
+    LEAST, MOST, OK, OPERATORS, Batch, Cut, Deletion, Head, Server, World, differences, equals, journal,
+    numbered, read, recovered, refused, rolled,
 )
 
 # patterns that are dear to build, or odd; each is accepted or refused, and what is accepted is read again
@@ -64,8 +64,9 @@ def compare(looks, what, server, world):
 
 
 def kept(looks, querier, folder, events, what):
-    """Events that are accepted, each compared with the world that they make; and a start after them."""
-    server, world = Server(querier, "--data", folder), World()
+    """Events that are accepted, each compared with the world that they make; and a start after them. The
+    journal is not begun anew meanwhile."""
+    server, world = Server(querier, "--data", folder, "--journal-mb", "64"), World()
     looks.that(f"{what}: it starts", server.wait(), server.told)
     for event in events:
         wanted = world.judged(event)
@@ -74,7 +75,7 @@ def kept(looks, querier, folder, events, what):
     compare(looks, what, server, world)
     server.end()
     looks.that(
-        f"{what}: the journal", read(f"{folder}/journal") == journal([event.text() for event in events])
+        f"{what}: the journal", read(f"{folder}/journal") == journal(numbered(events))
     )
     server = Server(querier, "--data", folder)
     if looks.that(f"{what}: it starts again", server.wait(), server.told):

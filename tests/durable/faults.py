@@ -9,7 +9,8 @@ import threading
 import urllib.request
 
 from house import (
-    NOT_KEPT, OK, Batch, Cut, Deletion, Folders, Server, World, differences, equals, journal, read, run, tree,
+    NOT_KEPT, OK, Batch, Cut, Deletion, Folders, Server, World, differences, equals, journal, numbered,
+    read, run, tree,
 )
 from lib import free_port
 
@@ -190,7 +191,7 @@ def cut_back(faults, looks):
     server = faults.start(folder, FAIL_WRITE=f"{writes + 2},2", FAIL_PART=11, FAIL_WITH=28)
     server.wait()
     refused = faults.tell("a write that is cut off", server, session(), world)
-    kept = [event.text() for event in session() if event.line() not in [one.line() for one in refused]]
+    kept = numbered(event for event in session() if event.line() not in [one.line() for one in refused])
     looks.at("which event is refused", [session()[1].line()], [event.line() for event in refused])
     looks.that(
         "the bytes of the journal are those of what was acknowledged",

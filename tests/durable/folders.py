@@ -5,8 +5,8 @@ import os
 import signal
 
 from house import (
-    NEW, NOTHING, OK, Batch, Cut, Deletion, Server, World, contents_of, equals, journal, lines_of, read,
-    recovered, run, tree,
+    NEW, NOTHING, OK, Batch, Cut, Deletion, Server, World, contents_of, equals, journal, lines_of, numbered,
+    read, recovered, run, tree,
 )
 
 
@@ -79,7 +79,7 @@ def at_once(looks, querier, work):
             looks.at("a write to the one", OK, server.tell(up((1, 1))))
         for server in serving:
             server.end()
-        looks.at("its journal", journal([up((1, 1)).text()]), read(f"{folder}/journal"))
+        looks.at("its journal", journal(numbered([up((1, 1))])), read(f"{folder}/journal"))
 
 
 def new_folders(looks, querier, work):
@@ -96,7 +96,7 @@ def new_folders(looks, querier, work):
             looks.at(f"{what}: a new journal", NEW, read(f"{folder}/journal"))
             looks.at(f"{what}: a write", OK, server.tell(up((1, 1))))
         server.end()
-        looks.at(f"{what}: the journal", journal([up((1, 1)).text()]), read(f"{folder}/journal"))
+        looks.at(f"{what}: the journal", journal(numbered([up((1, 1))])), read(f"{folder}/journal"))
     looks.at("files of others stay", b"mine", read(f"{work}/files-of-others,-and-no-journal/notes"))
     folder, kept = f"{work}/left-over", [up((1, 1)), up((2, 2))]
     left_over(folder, journal([event.text() for event in kept]))
@@ -231,7 +231,7 @@ def options(looks, querier, work):
     looks.at("a write to it", (404, {"refused": "H3"}), server.tell(up((3, 3))))
     looks.at("the samples", {(("__name__", "up"), ("suite", "durable")): {1: 1, 2: 2}}, server.select()[1])
     server.end()
-    looks.at("its journal", journal([up((1, 1)).text(), up((2, 2)).text()]), read(f"{folder}/journal"))
+    looks.at("its journal", journal(numbered([up((1, 1)), up((2, 2))])), read(f"{folder}/journal"))
 
 
 def written_by(process):

@@ -26,6 +26,10 @@ def text_of(string):
     return uvarint(len(data)) + data
 
 
+def labels_text(labels):
+    return uvarint(len(labels)) + b"".join(text_of(name) + text_of(value) for name, value in labels)
+
+
 def record(content):
     length = len(content).to_bytes(4, "big")
     return length + checksum(length) + content + checksum(content)
@@ -47,7 +51,8 @@ NEW = journal([])
 
 
 def contents_of(data):
-    """The contents of the whole records of a sound journal, and how many bytes they take with the header."""
+    """The contents of the whole records of a sound journal, and how many bytes they take with the header. In
+    the place of a batch by number stands the batch."""
     assert data[:5] == HEADER, data[:5]
     contents, at = [], 5
     while len(data) - at >= 12:
@@ -58,7 +63,57 @@ def contents_of(data):
             break
         contents.append(content[:length])
         at += length + 12
-    return contents, at
+    names = Names()
+    return [names.plain(content) for content in contents], at
+
+
+class Names:
+    """The label sets that have numbers, by their texts, behind a head."""
+
+    def __init__(self):
+        self.numbers = {}
+
+    def text(self, event):
+        """What a server writes of an event: a batch names its series by number."""
+        if not isinstance(event, Batch):
+            return event.text()
+        text, before = b"\x04" + uvarint(len(event.runs())), 0
+        for labels, samples in event.runs():
+            name = labels_text(labels)
+            text += uvarint(self.numbers.get(name, len(self.numbers)))
+            if name not in self.numbers:
+                self.numbers[name] = len(self.numbers)
+                text += name
+            text += uvarint(len(samples))
+            for time, value in samples:
+                text, before = text + varint(time - before) + varint(value), time
+        return text
+
+    def plain(self, content):
+        """What a content stands for, as a content that names no series by number."""
+        if content[0] != 4:
+            return content
+        fields, named, time = Reader(content[1:]), list(self.numbers), 0
+        count = fields.uvarint()
+        text = b"\x01" + uvarint(count)
+        for _ in range(count):
+            number = fields.uvarint()
+            if number == len(named):
+                named.append(labels_text(fields.labels()))
+                self.numbers[named[-1]] = number
+            samples = fields.uvarint()
+            text += named[number] + uvarint(samples)
+            for _ in range(samples):
+                time += fields.varint()
+                text += varint(time) + varint(fields.varint())
+        assert fields.at == len(content) - 1 and len(self.numbers) == len(named)
+        return text
+
+
+def numbered(events):
+    """The contents that a server writes of events behind a head."""
+    names = Names()
+    return [names.text(event) for event in events]
 
 
 class Reader:
@@ -147,11 +202,7 @@ class Head:
             + uvarint(len(self.series))
         ]
         for labels, newest, samples in self.series:
-            text = (
-                b"\x11"
-                + uvarint(len(labels))
-                + b"".join(text_of(name) + text_of(value) for name, value in labels)
-            )
+            text = b"\x11" + labels_text(labels)
             text += b"".join(varint(number) for number in newest) + uvarint(len(samples))
             texts.append(text + b"".join(varint(time) + varint(value) for time, value in samples))
         return texts
@@ -187,8 +238,8 @@ class Batch:
     def text(self):
         text = b"\x01" + uvarint(len(self.runs()))
         for labels, samples in self.runs():
-            text += uvarint(len(labels)) + b"".join(text_of(name) + text_of(value) for name, value in labels)
-            text += uvarint(len(samples)) + b"".join(varint(time) + varint(value) for time, value in samples)
+            text += labels_text(labels) + uvarint(len(samples))
+            text += b"".join(varint(time) + varint(value) for time, value in samples)
         return text
 
     def line(self):

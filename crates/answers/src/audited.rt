@@ -1,4 +1,4 @@
-//! The answer of a snapshot to a query: what is told of each part, and the rows of all.
+//! The answer of a snapshot to a query: what it says of each part, and the rows of all.
 
 ghost use Rattle.std.specs.Prelude.{◌≡◌, ◌≤◌, IfOk, OnOk, drop, length};
 ghost use Rattle.labels.specs.Rows.{AreRows};
@@ -19,14 +19,14 @@ use series_merge::{MergedRows, merged_rows};
 use std::alloc::{AllocError, Global};
 use std::thread::Threads;
 
-/// What is told of each part, in the order of the parts, and the rows of all of them.
+/// What an answer says of each part, in the order of the parts, and the rows of all of them.
 #[derive(Drop)]
 pub struct AuditedAnswer {
     pub(crate) parts: Vec<AnsweredPart>,
     pub(crate) merged: MergedRows,
 }
 
-/// The rows that are told of a part.
+/// The rows that an answer has of a part.
 fn rows_told(part: &AnsweredPart) -> &[Row]
     ensures { result.now ≡ rows_told part.now }
 {
@@ -36,7 +36,7 @@ fn rows_told(part: &AnsweredPart) -> &[Row]
     }
 }
 
-/// How many parts stand before the first that has rows.
+/// How many parts come before the first that has rows.
 fn count_before_rows(parts: &[AnsweredPart]) -> usize
     ensures within { result ≤ length parts.now }
     ensures next { HasRowsNext (drop result parts.now) (first_rows parts.now) }
@@ -65,7 +65,7 @@ fn first_rows(parts: &[AnsweredPart]) -> &[Row]
 }
 
 impl AuditedAnswer {
-    /// What is told of each part, in the order of the parts.
+    /// What the answer says of each part, in the order of the parts.
     pub fn parts(&self) -> &[AnsweredPart]
         ensures { result.now ≡ self.now.parts.items }
     {
@@ -82,8 +82,8 @@ impl AuditedAnswer {
         }
     }
 
-    /// How many parts stand before the one that alone has rows: all, where none or several have
-    /// some.
+    /// How many parts come before the only part that has rows. If none or several have rows, it is
+    /// the number of all parts.
     pub(crate) fn count_before_rows(&self) -> usize
         ensures within { result ≤ length self.now.parts.items }
         ensures next { HasRowsNext (drop result self.now.parts.items) (rows_of self.now) }
@@ -112,7 +112,7 @@ fn audited_answer(
     Ok(AuditedAnswer { parts, merged })
 }
 
-/// The audited answer to a query, one part searched after another.
+/// The audited answer to a query. One part is searched after another.
 pub fn answer(
     alloc: Global,
     snapshot: &Snapshot,
@@ -126,8 +126,8 @@ pub fn answer(
     audited_answer(alloc, snapshot, query, answers)
 }
 
-/// The audited answer to a query, one part searched after another, the rows of a part's many
-/// matches made by several threads: that of [`answer`] but for the moves.
+/// The audited answer to a query. One part is searched after another, and several threads make the
+/// rows of a part's many matches. The answer is that of [`answer`] but for the moves.
 pub fn answer_in_turn<R: Threads + Sync>(
     rt: &R,
     alloc: Global,
@@ -142,8 +142,8 @@ pub fn answer_in_turn<R: Threads + Sync>(
     audited_answer(alloc, snapshot, query, answers)
 }
 
-/// The audited answer to a query, each part searched by a worker of its own: that of [`answer`] but
-/// for the moves.
+/// The audited answer to a query. A worker of its own searches each part. The answer is that of
+/// [`answer`] but for the moves.
 pub fn answer_by_workers<R: Threads + Sync>(
     rt: &R,
     alloc: Global,

@@ -1,6 +1,6 @@
 //! The text of an answer.
 //!
-//! Each item of a list is written with a comma before it; the first comma then becomes the opening
+//! Each item of a list is written with a comma before it. The first comma then becomes the opening
 //! bracket.
 
 ghost use Rattle.std.specs.Prelude.{◌≡◌, ◌+◌, ◌++◌, ◌∷◌, OnOk, IfOk, codes, length};
@@ -28,7 +28,7 @@ use labels::Row;
 use std::alloc::{AllocError, Global};
 use std::thread::Threads;
 
-/// About as many bytes as a certificate takes: an interval with its separator 80.
+/// About as many bytes as a certificate takes: an interval with its separator takes 80.
 fn room_of_certificate(answer: &PartAnswer) -> usize {
     let intervals = answer.cover.certificate.len();
     intervals.saturating_mul(80).saturating_add(256)
@@ -133,7 +133,7 @@ fn text_of_all<R: Threads + Sync>(
     told_once(alloc, front, rows)
 }
 
-/// The same, where the rows of several parts are many: several threads write those of each.
+/// The same if the rows of several parts are many: several threads write those of each.
 fn long_text_of_all<R: Threads + Sync>(
     rt: &R,
     alloc: Global,
@@ -150,7 +150,7 @@ fn long_text_of_all<R: Threads + Sync>(
 /// Room that a caller has at hand for the text of an answer. What it holds is dropped.
 #[derive(Drop)]
 pub struct Rooms {
-    /// For what is told beside rows.
+    /// For what an answer says beside rows.
     pub text: Vec<u8>,
     /// For rows that one thread writes.
     pub rows: Vec<u8>,
@@ -166,8 +166,8 @@ impl Rooms {
     }
 }
 
-/// The text of an answer as [`body`] gives it, in pieces, which up to four threads write where it
-/// is long. Rows that are those of one part are written once, and stand once in memory.
+/// The text of an answer as [`body`] gives it, in pieces. If it is long, up to four threads write
+/// them. If all rows are those of one part, they are written once, and are in memory once.
 pub fn answer_text<R: Threads + Sync>(
     rt: &R,
     alloc: Global,
@@ -188,8 +188,8 @@ pub fn answer_text<R: Threads + Sync>(
     }
 }
 
-/// How many bytes pieces have behind so many others. Where no number is large enough, there is no
-/// memory.
+/// How many bytes these pieces and the ones before them have, if those before have `before` bytes.
+/// If no number is large enough, there is no memory.
 fn length_in(pieces: &[Vec<u8>], before: usize) -> Result<usize, AllocError>
     ensures { IfOk result (λ n. n ≡ before + length (joined pieces.now)) }
 {
@@ -203,7 +203,7 @@ fn length_in(pieces: &[Vec<u8>], before: usize) -> Result<usize, AllocError>
     Ok(length)
 }
 
-/// How many bytes the text of an answer has. Where no number is large enough, there is no memory.
+/// How many bytes the text of an answer has. If no number is large enough, there is no memory.
 pub fn length_of(text: &AnswerText) -> Result<usize, AllocError>
     ensures { IfOk result (λ n. n ≡ length (whole_of text.now)) }
 {
@@ -230,9 +230,9 @@ pub fn append_text(out: &mut Vec<u8>, text: &AnswerText) -> Result<(), AllocErro
     Ok(())
 }
 
-/// The text of the answer to a query: what is told of each part, and the rows of all, as compact
-/// JSON with the members in the order of their names. It takes time and memory as its length, and
-/// at most a few allocations beside one for each part.
+/// The text of the answer to a query: what it says of each part, and the rows of all. It is compact
+/// JSON with the members in the order of their names. It takes time and memory in proportion to its
+/// length, and at most a few allocations beside one for each part.
 pub fn body(alloc: Global, parts: &[AnsweredPart], rows: &[Row]) -> Result<Vec<u8>, AllocError>
     ensures { IfOk result (λ text. text.items ≡ body_text parts.now rows.now) }
 {

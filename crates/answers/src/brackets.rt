@@ -5,8 +5,8 @@ ghost use Rattle.answers.specs.AfterCommas.{with_bracket};
 
 use std::alloc::AllocError;
 
-/// Puts the opening bracket in place of the comma at `start`, or at the end where nothing stands
-/// there.
+/// Puts the opening bracket in place of the comma at `start`, or at the end if there is nothing at
+/// `start`.
 pub(crate) fn open_list(out: &mut Vec<u8>, start: usize, first: u8) -> Result<(), AllocError>
     requires { start ≤ vec_len out.old }
     ensures { OnOk result (out.new.items

@@ -13,7 +13,7 @@ use std::fmt;
 pub enum AskError {
     /// `S1`: the pass has no snapshot.
     Snapshot(SnapshotError),
-    /// No memory.
+    /// There is no memory.
     Memory,
 }
 

@@ -1,4 +1,4 @@
-//! The headline: the audited answer of a store that others change all the while.
+//! The headline: the audited answer of a store that others change at the same time.
 
 ghost use Rattle.std.specs.Prelude.{◌≡◌, IfOk};
 ghost use mathlib.Core.List.{IsPrefix};
@@ -15,10 +15,11 @@ use std::thread::Threads;
 ///
 /// The list of events that the pass has seen then begins with all that it had seen, and with the
 /// list of each receipt that it learnt. The rows are exactly those of what this list makes of the
-/// opening's content, restricted to the matchers and the range. Each part of that snapshot is told
-/// of, with the certificate that shows its rows to be all; its first blocks are those that the
-/// store opened with, each with its range, its references and its label sets. `S1` where there is
-/// no snapshot, and memory; then the pass knows no less than before. It waits for nobody.
+/// opening's content, restricted to the matchers and the range. The answer reports each part of
+/// that snapshot, with the certificate that shows that its rows are all. The first blocks of the
+/// snapshot are those that the store opened with, each with its range, its references and its label
+/// sets. If there is no snapshot, the error is `S1`, and without memory it is `memory`; then the
+/// pass knows no less than before. It waits for nobody.
 pub fn ask<J: Naming>(
     alloc: Global,
     pass: &mut Pass<J>,
@@ -32,8 +33,8 @@ pub fn ask<J: Naming>(
     Ok(answer(alloc, &snapshot, query)?)
 }
 
-/// The same as [`ask`], with the rows of a part's many matches made by several threads. It waits
-/// for no thread but these.
+/// The same as [`ask`], but several threads make the rows of a part's many matches. It waits for no
+/// thread but these.
 pub fn ask_by<J: Naming, R: Threads + Sync>(
     rt: &R,
     alloc: Global,

@@ -1,18 +1,18 @@
-//! The text of an answer, kept in pieces, so that rows that it tells twice stand in memory once.
+//! The text of an answer, kept in pieces, so that rows that it has twice are in memory once.
 
 ghost use Rattle.std.specs.Prelude.{◌≡◌, ◌≤◌, length, slice_range};
 
-/// From which piece of a text up to which some of its pieces go.
+/// From which piece of a text to which some of its pieces go.
 #[derive(Clone, Copy)]
 pub struct Spot {
     pub(crate) from: usize,
     pub(crate) until: usize,
 }
 
-/// The text of an answer: its first pieces, some of these once more, and a closing brace.
+/// The text of an answer: its first pieces, some of them once more, and a closing brace.
 ///
-/// Where one part alone has rows, they are told twice, of that part and of all parts. The pieces of
-/// their text are then among the first pieces, and are what comes once more.
+/// If only one part has rows, the answer has them twice: as the rows of that part and as those of
+/// all parts. The pieces of their text are then among the first pieces, and they come once more.
 #[derive(Drop)]
 pub struct AnswerText {
     pub(crate) pieces: Vec<Vec<u8>>,

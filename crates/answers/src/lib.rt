@@ -1,12 +1,12 @@
 //! The audited answer to a query, and its text.
 //!
-//! An [`AuditedAnswer`] tells of each part of a snapshot ([`AnsweredPart`]) what it answers, or
-//! that the query skips it, and has the rows of all of them: exactly the rows of the snapshot's
-//! content restricted to the matchers and the range. [`answer`] gives it of a snapshot. [`ask`]
-//! puts a query to a store that others change meanwhile: its answer is that of the next snapshot of
-//! a pass, after all events that the pass had seen or been told of. [`body`] is the text of an
-//! answer, as compact JSON, byte for byte; [`answer_text`] keeps it so that rows that it tells
-//! twice stand in memory once.
+//! An [`AuditedAnswer`] says of each part of a snapshot ([`AnsweredPart`]) what it answers, or that
+//! the query skips it. It has the rows of all parts: exactly the rows of the snapshot's content
+//! restricted to the matchers and the range. [`answer`] gives the answer of a snapshot. [`ask`]
+//! puts a query to a store that others change meanwhile. Its answer is that of the next snapshot of
+//! a pass, after all events that the pass had seen or whose receipts it had learnt. [`body`] is the
+//! text of an answer, as compact JSON, byte for byte. [`answer_text`] keeps it so that rows that it
+//! has twice are in memory once.
 //!
 //! Of a `snapshot` whose head has one sample, 1 at time 10, of the series `up`:
 //!

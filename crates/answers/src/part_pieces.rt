@@ -1,4 +1,5 @@
-//! What is told of parts, in pieces: of a part with many rows several threads write a piece each.
+//! What an answer says of parts, in pieces. If a part has many rows, several threads write a piece
+//! of it each.
 
 ghost use Rattle.std.specs.Prelude.{◌≡◌, ◌∷◌, ◌++◌, IfOk, OnOk, codes};
 ghost use Rattle.serde_json.specs.Written.{compact_text};
@@ -15,7 +16,7 @@ use postings::PartName;
 use std::alloc::{AllocError, Global};
 use std::thread::Threads;
 
-/// What is told of a part before its rows, behind a byte.
+/// What an answer says of a part before its rows, behind a byte.
 fn front_of(alloc: Global, first: u8, answer: &PartAnswer) -> Result<Vec<u8>, AllocError>
     ensures { IfOk result (λ text. text.items ≡ first ∷ searched_front answer.now) }
 {
@@ -25,7 +26,7 @@ fn front_of(alloc: Global, first: u8, answer: &PartAnswer) -> Result<Vec<u8>, Al
     Ok(text)
 }
 
-/// What is told of a part behind its rows.
+/// What an answer says of a part behind its rows.
 fn back_of(alloc: Global, answer: &PartAnswer) -> Result<Vec<u8>, AllocError>
     ensures { IfOk result (λ text. text.items ≡ searched_back answer.now) }
 {
@@ -34,7 +35,7 @@ fn back_of(alloc: Global, answer: &PartAnswer) -> Result<Vec<u8>, AllocError>
     Ok(text)
 }
 
-/// What is told of a part that was searched, behind a byte.
+/// What an answer says of a part that was searched, behind a byte.
 fn searched_in_pieces<R: Threads + Sync>(
     rt: &R,
     alloc: Global,
@@ -51,7 +52,7 @@ fn searched_in_pieces<R: Threads + Sync>(
     Ok(pieces)
 }
 
-/// That a part is skipped, behind a byte.
+/// The text that a part is skipped, behind a byte.
 fn skipped_in_pieces(alloc: Global, first: u8, name: PartName) -> Result<Vec<Vec<u8>>, AllocError>
     ensures { IfOk result (λ pieces.
         joined pieces.items ≡ first ∷ compact_text (skipped_data name)) }
@@ -62,7 +63,7 @@ fn skipped_in_pieces(alloc: Global, first: u8, name: PartName) -> Result<Vec<Vec
     with_pieces(alloc, text, Vec::new(alloc))
 }
 
-/// What is told of a part, behind a byte.
+/// What an answer says of a part, behind a byte.
 fn part_in_pieces<R: Threads + Sync>(
     rt: &R,
     alloc: Global,
@@ -78,7 +79,7 @@ fn part_in_pieces<R: Threads + Sync>(
     }
 }
 
-/// Adds what is told of each part, with a comma before it.
+/// Adds what an answer says of each part, with a comma before it.
 fn push_parts<R: Threads + Sync>(
     rt: &R,
     alloc: Global,
@@ -103,7 +104,7 @@ fn push_text(alloc: Global, pieces: &mut Vec<Vec<u8>>, text: &[u8]) -> Result<()
     Ok(())
 }
 
-/// Adds what is told of each part as a list.
+/// Adds what an answer says of each part as a list.
 fn push_list<R: Threads + Sync>(
     rt: &R,
     alloc: Global,

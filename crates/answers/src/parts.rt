@@ -1,5 +1,5 @@
-//! The text of what is told of each part: its certificate, its rows and its separators, or that it
-//! is skipped.
+//! The text of what an answer says of each part: its certificate, its rows and its separators, or
+//! that it is skipped.
 
 ghost use Rattle.std.specs.Prelude.{◌≡◌, ◌++◌, OnOk, IfOk, string_bytes};
 ghost use Rattle.serde_json.specs.Written.{compact_text};
@@ -99,7 +99,7 @@ fn name_of(alloc: Global, part: PartName) -> Result<String, AllocError>
     }
 }
 
-/// Appends what is told of a part before its rows.
+/// Appends what an answer says of a part before its rows.
 pub(crate) fn append_searched_front(
     alloc: Global,
     out: &mut Vec<u8>,
@@ -116,7 +116,7 @@ pub(crate) fn append_searched_front(
     Ok(())
 }
 
-/// Appends what is told of a part behind its rows.
+/// Appends what an answer says of a part behind its rows.
 pub(crate) fn append_searched_back(out: &mut Vec<u8>, answer: &PartAnswer) -> Result<(), AllocError>
     ensures { OnOk result (out.new.items ≡ out.old.items ++ searched_back answer.now) }
 {
@@ -151,7 +151,7 @@ pub(crate) fn append_skipped(
     Ok(())
 }
 
-/// Appends what is told of a part.
+/// Appends what an answer says of a part.
 fn append_part(alloc: Global, out: &mut Vec<u8>, part: &AnsweredPart) -> Result<(), AllocError>
     ensures { OnOk result (out.new.items ≡ out.old.items ++ compact_text (part_data part.now)) }
 {
@@ -161,7 +161,7 @@ fn append_part(alloc: Global, out: &mut Vec<u8>, part: &AnsweredPart) -> Result<
     }
 }
 
-/// Appends a comma and what is told of a part.
+/// Appends a comma and what an answer says of a part.
 fn append_part_after_comma(
     alloc: Global,
     out: &mut Vec<u8>,
@@ -173,7 +173,7 @@ fn append_part_after_comma(
     append_part(alloc, out, part)
 }
 
-/// Appends what is told of each part, with a comma before it.
+/// Appends what an answer says of each part, with a comma before it.
 pub(crate) fn append_parts_after_commas(
     alloc: Global,
     out: &mut Vec<u8>,
@@ -187,7 +187,7 @@ pub(crate) fn append_parts_after_commas(
     Ok(())
 }
 
-/// Appends what is told of each part as a list.
+/// Appends what an answer says of each part as a list.
 pub(crate) fn append_parts(
     alloc: Global,
     out: &mut Vec<u8>,

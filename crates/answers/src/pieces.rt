@@ -1,4 +1,4 @@
-//! The text of rows in pieces: of many rows several threads write a piece each.
+//! The text of rows in pieces. If the rows are many, several threads write a piece each.
 
 ghost use Rattle.std.specs.Prelude.{◌≡◌, [], ◌++◌, IfOk};
 ghost use Rattle.std.specs.Thread.{IsSync};
@@ -15,10 +15,10 @@ use std::thread::{Threads, join};
 /// How many threads write the rows of one list.
 const THREADS: usize = 4;
 
-/// Rows whose text takes about so many bytes, or more, are written by several threads.
+/// If the text of rows takes about this many bytes or more, several threads write it.
 pub(crate) const LONG: usize = 262_144;
 
-/// About as many bytes as rows take: the labels of most rows 256, and most samples 24.
+/// About as many bytes as rows take. The labels of most rows take 256, and most samples take 24.
 pub(crate) fn room_of_rows(rows: &[Row]) -> usize {
     let mut room = 256usize;
     for row in rows {
@@ -28,8 +28,8 @@ pub(crate) fn room_of_rows(rows: &[Row]) -> usize {
     room
 }
 
-/// A run of rows in one piece: its first byte stands before the first row, commas before the
-/// others, and its last bytes behind them. What the room holds is dropped.
+/// A run of rows in one piece. Its first byte comes before the first row, commas come before the
+/// others, and its last bytes come behind them. What the room holds is dropped.
 fn run_of(
     alloc: Global,
     room: Vec<u8>,
@@ -50,8 +50,8 @@ fn run_of(
     Ok(pieces)
 }
 
-/// A run of rows in as many pieces as threads write it, the calling one among them. Where a thread
-/// can't be started, the calling one does its share.
+/// A run of rows in as many pieces as threads write it, the calling thread among them. If a thread
+/// can't be started, the calling thread does its share.
 #[cycle(runs)]
 fn runs_of<R: Threads + Sync>(
     rt: &R,
@@ -87,8 +87,8 @@ fn runs_of<R: Threads + Sync>(
     Ok(pieces)
 }
 
-/// The text of rows as a list, in pieces: of few rows one piece, in the room that the caller has at
-/// hand, whose bytes are dropped; of many about as many as threads write them.
+/// The text of rows as a list, in pieces. Few rows are one piece, in the room that the caller has
+/// at hand, whose bytes are dropped. Many rows are about as many pieces as threads write them.
 pub(crate) fn rows_in_pieces<R: Threads + Sync>(
     rt: &R,
     alloc: Global,

@@ -12,7 +12,8 @@ use std::alloc::AllocError;
 /// How many samples are placed before they are copied.
 const BLOCK: usize = 64;
 
-/// The room for that many: two brackets, two commas and two numbers of at most 20 bytes for each.
+/// The room for a block of samples: each takes two brackets, two commas and two numbers of at most
+/// 20 bytes.
 pub const ROOM: usize = 2816;
 
 #[inline(always)]

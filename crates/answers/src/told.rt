@@ -22,7 +22,7 @@ pub(crate) fn with_pieces(
     Ok(all)
 }
 
-/// The text of an answer whose last rows stand behind a text.
+/// The text of an answer whose last rows come behind a text.
 pub(crate) fn told_once(
     alloc: Global,
     text: Vec<u8>,
@@ -36,7 +36,7 @@ pub(crate) fn told_once(
     Ok(AnswerText::new(pieces, again))
 }
 
-/// The text of an answer whose last rows stand behind pieces.
+/// The text of an answer whose last rows come behind pieces.
 pub(crate) fn told_behind(
     pieces: Vec<Vec<u8>>,
     rows: Vec<Vec<u8>>,
@@ -50,7 +50,7 @@ pub(crate) fn told_behind(
     Ok(AnswerText::new(pieces, again))
 }
 
-/// The text of an answer that tells rows twice, with a text before them and one between.
+/// The text of an answer that has rows twice, with a text before them and one between.
 pub(crate) fn told_twice(
     alloc: Global,
     text: Vec<u8>,

@@ -17,7 +17,7 @@ use std::io::Write;
 use store_joiner::{ChangeFault, add_to_store};
 
 /// The blocks in directories, in their order, and what their values mean. All must have values of
-/// as many digits, which mean the same.
+/// the same number of digits, which mean the same.
 fn open_blocks<B: OpensOwn>(
     alloc: Global,
     own: &B,
@@ -46,7 +46,8 @@ fn open_all(alloc: Global, blocks: Vec<Block>) -> Result<Snapshot, Fault> {
     Ok(opening)
 }
 
-/// That the values of blocks, all of which mean the same, mean something else than the store's.
+/// The fault that the values of blocks, all of which mean the same, mean something else than the
+/// store's.
 fn other_meaning(alloc: Global, directories: &[&str]) -> Fault {
     let first = match directories.first() {
         Some(directory) => *directory,
@@ -87,10 +88,10 @@ fn line_of(alloc: Global, data: &str, added: usize, total: usize) -> Result<Stri
     format!(in alloc; "{data}: {added} {noun} added, {total} in all\n")
 }
 
-/// Adds blocks of this project to a store that no server keeps, before its own: where both have a
-/// sample of one series at one time, the store's stands. Their values must mean what its own mean;
-/// a store that begins so has whole numbers. What is in the journal is saved first. A crash at any
-/// moment leaves the store as it was, or with all of them.
+/// Adds blocks of this project to a store that no server keeps, before its own. If both have a
+/// sample of one series at one time, the store's is kept. Their values must mean what its own mean.
+/// A store that begins this way has whole numbers. What is in the journal is saved first. A crash
+/// at any moment leaves the store as it was, or with all of them.
 pub(crate) fn add<W: Write, E: Write>(
     alloc: Global,
     host: &HostRuntime,

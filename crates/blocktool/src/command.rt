@@ -123,7 +123,7 @@ was, or with each BLOCK. A line tells what was done:
   DIR: 2 blocks added, 5 in all
 
 A BLOCK is refused as by `querier check`: B2, I1 to I15, C1 to C8, T1 to T5, B1; a DIR as by
-`querier serve`: J1 to J4, J8 to J18.
+`querier serve`: J1 to J4, J8 to J20.
 
 Exit status: 0 done; 1 refused, with the reason on standard error; 2 a fault of the words; 3 cannot
 read, write or lock; 4 no memory
@@ -140,7 +140,7 @@ them takes the journal's name, and the others are removed. A crash at any moment
 it was, or joined. A line tells what was done:
   DIR: 63 blocks joined into 1
 
-A DIR is refused as by `querier serve`: J1 to J4, J8 to J18.
+A DIR is refused as by `querier serve`: J1 to J4, J8 to J20.
 
 Exit status: 0 done; 1 refused, with the reason on standard error; 2 a fault of the words; 3 cannot
 read, write or lock; 4 no memory
@@ -161,7 +161,7 @@ read or write; 4 no memory
 
 Example: blocktool list mine/0001 mine/0002";
 
-/// What `--version` tells behind the name.
+/// What `--version` prints behind the name.
 const VERSION: &str = "0.1.0 (rattle-kit-13f)";
 
 const IMPORT: [Word<'static>; 8] = [

@@ -56,7 +56,7 @@ fn count_all(lists: &[Vec<Row>]) -> u64
     count
 }
 
-/// The rows of all inputs in a range, of which the later wins.
+/// The rows of all inputs in a range. The later input wins.
 fn rows_joined<I: Input>(
     alloc: Global,
     inputs: &[I],
@@ -74,7 +74,8 @@ fn rows_joined<I: Input>(
     Ok(rows)
 }
 
-/// Writes rows as the output of the next number, and its line; nothing where there is no row.
+/// Writes rows as the output of the next number, and its line. It writes nothing if there is no
+/// row.
 fn write_rows<D: Disk, W: Write>(
     alloc: Global,
     rows: PartRows,
@@ -107,7 +108,7 @@ fn write_rows<D: Disk, W: Write>(
     Ok(())
 }
 
-/// Lets the inputs go where they are needed no more.
+/// Lets the inputs go if they are needed no more.
 fn let_go<I: Drop>(inputs: &mut Vec<I>, is_last: bool)
     ensures { is_last ≡ false → inputs.new.items ≡ inputs.old.items }
 {
@@ -116,8 +117,8 @@ fn let_go<I: Drop>(inputs: &mut Vec<I>, is_last: bool)
     }
 }
 
-/// Writes the output of a range and its line; nothing where there is no row. `outputs` counts them.
-/// Where it is the last the inputs are let go before it is written.
+/// Writes the output of a range and its line, or nothing if there is no row. `outputs` counts the
+/// outputs. If the output is the last, the inputs are let go before it is written.
 fn convert_one<I: Input + Drop, D: Disk, W: Write>(
     alloc: Global,
     inputs: &mut Vec<I>,
@@ -148,7 +149,7 @@ fn is_last_of(at: usize, tiles: &[Stretch]) -> bool
     at + 1 >= tiles.len()
 }
 
-/// Writes the outputs of ranges of times, one after another, and the line of each, and gives what
+/// Writes the outputs of ranges of times, one after another, and the line of each. Returns what
 /// became of the samples. The inputs are let go before the last is written.
 pub(crate) fn convert<I: Input + Drop, D: Disk, W: Write>(
     alloc: Global,
@@ -159,7 +160,7 @@ pub(crate) fn convert<I: Input + Drop, D: Disk, W: Write>(
     out: &mut W,
 ) -> Result<Account, Fault>
     // Each output has exactly the rows of what the inputs hold together in its range, in which the
-    // later input wins; nothing else is written.
+    // later input wins. Nothing else is written.
     ensures { IfOk result (λ account. AreConverted I.may_give D.did inputs.items
         target.now.into.now target.now.values tiles.now account disk.old disk.new) }
 {

@@ -33,7 +33,7 @@ pub enum Fault {
     /// The values of the block in this directory mean something else.
     Meaning(String),
     /// The block in this directory has this whole number at this time, which is beyond 2^53 and
-    /// stands for no double of its own.
+    /// represents no double of its own.
     Beyond(String, i64, i64),
     /// A value is refused.
     Value {
@@ -102,7 +102,7 @@ impl Fault {
         }
     }
 
-    /// Tells the fault in a line, or how the program is used.
+    /// Reports the fault in a line, or says how the program is used.
     pub fn tell<W: Write>(&self, to: &mut W) -> io::Result<()> {
         match self {
             Fault::Words(error) => write!(to, "{error}"),

@@ -44,12 +44,12 @@ fn is_block_name(name: &str) -> bool {
     count == 26
 }
 
-/// Whether a directory stands at a path.
+/// Whether there is a directory at a path.
 fn is_directory<R: Files>(rt: &R, path: &str) -> bool {
     Path::new(path).is_dir(rt)
 }
 
-/// Adds the block that an entry of a folder is; a directory that is none is told.
+/// Adds the block that an entry of a folder is. A directory that is no block is reported.
 fn place<R: Files + AllocGlobal, E: Write>(
     alloc: Global,
     rt: &R,
@@ -70,7 +70,7 @@ fn place<R: Files + AllocGlobal, E: Write>(
     Ok(())
 }
 
-/// The blocks in a folder, the one with the least time first.
+/// The blocks in a folder. The block with the least time comes first.
 fn blocks_in<R: Files + AllocGlobal + Clone + Drop, E: Write>(
     alloc: Global,
     rt: &R,
@@ -92,8 +92,8 @@ fn blocks_in<R: Files + AllocGlobal + Clone + Drop, E: Write>(
     Ok(placed)
 }
 
-/// Adds the directories of the blocks that a path names: its own, if an index stands in it, or else
-/// those of the blocks in it, the one with the least time first.
+/// Adds the directories of the blocks that a path names: its own, if there is an index in it, or
+/// else those of the blocks in it. The block with the least time comes first.
 fn find_in<R: Files + AllocGlobal + Clone + Drop, E: Write>(
     alloc: Global,
     rt: &R,

@@ -134,7 +134,7 @@ fn read_said(
     }
 }
 
-// The same as a form asks for it.
+// What a text says, as a form asks for it.
 fn said_as(
     alloc: Global,
     options: &Options<'_>,
@@ -164,7 +164,7 @@ fn said_by(
         (reading_of options.now.form) text.now) }
     ensures allowed { IfOk result (λ said.
         AreAllowed (rest_of options.now.form) options.now.times said.others.items) }
-    // The text's refusal is told, or that of its first value that is not allowed.
+    // The error is the text's refusal, or that of its first value that is not allowed.
     ensures refused { IfErr result (IsTextRefused text_in.entry.format options.now.form text.now
         options.now.times) }
 {

@@ -25,7 +25,7 @@ fn open_all<'a, R: Files + AllocGlobal>(
     Ok(sources)
 }
 
-/// Makes blocks out of the blocks of Prometheus that paths name, of which the later wins.
+/// Makes blocks out of the blocks of Prometheus that paths name. The later block wins.
 pub(crate) fn from_prometheus<R: Files + AllocGlobal + Clone + Drop, W: Write, E: Write>(
     alloc: Global,
     rt: &R,

@@ -69,7 +69,7 @@ fn rows_in(alloc: Global, text: &[u8]) -> Result<Vec<Row>, Fault>
 }
 
 fn said_in(alloc: Global, rows: &[Row]) -> Result<Said, AllocError>
-    // Of several samples of one series at one time the later is kept.
+    // If there are several samples of one series at one time, the later is kept.
     ensures { IfOk result (λ said. IsSameOf rows.now said.listed.rows.items) }
 {
     Ok(Said {
@@ -82,7 +82,7 @@ fn said_in(alloc: Global, rows: &[Row]) -> Result<Said, AllocError>
     })
 }
 
-/// Makes blocks out of rows, of which the later win.
+/// Makes blocks out of rows. The later rows win.
 pub(crate) fn from_rows<R: Files + AllocGlobal + Clone + Drop, I: Read, W: Write, E: Write>(
     alloc: Global,
     rt: &R,

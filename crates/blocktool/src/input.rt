@@ -14,7 +14,7 @@ use std::alloc::Global;
 
 /// What gives rows in a range of times, and counts what it read.
 pub(crate) trait Input {
-    /// Of this range it may give these rows, and counts go from these to those.
+    /// It may give these rows of this range. Its counts then go from the first tally to the second.
     ghost may_give: { Self → StretchValue → List RowValue → TallyValue → TallyValue → Type 0 };
 
     /// The rows in a closed range of times, each with samples.
@@ -29,7 +29,7 @@ pub(crate) trait Input {
     fn count(&self, alloc: Global, counts: &mut Counts) -> Result<Counted, Fault>;
 }
 
-/// The shortest range of times with two.
+/// The shortest range of times that has two.
 pub(crate) fn joined(span: Option<Stretch>, other: Stretch) -> Option<Stretch> {
     Some(match span {
         Some(span) => Stretch {

@@ -7,7 +7,7 @@ use std::fs::File;
 use store_folder::{RollFault, StartCause, StartError};
 use store_joiner::ChangeFault;
 
-/// Locks the folder of a store until what is given back is dropped.
+/// Locks the folder of a store until what is returned is dropped.
 pub(crate) fn lock_store(alloc: Global, host: &HostRuntime, data: &str) -> Result<File, Fault> {
     let path = format!(in alloc; "{data}/lock")?;
     match lock(host, path.as_str()) {
@@ -17,7 +17,7 @@ pub(crate) fn lock_store(alloc: Global, host: &HostRuntime, data: &str) -> Resul
     }
 }
 
-/// That a folder has no store that can be read.
+/// The fault that a folder has no store that can be read.
 fn no_store(alloc: Global, data: &str) -> Fault {
     match format!(in alloc; "{data}/journal") {
         Ok(path) => Fault::CannotRead(path),

@@ -59,8 +59,8 @@ fn names_of(alloc: Global, pairs: &[(&str, &str)]) -> Result<String, AllocError>
     Ok(text)
 }
 
-/// Lists what the blocks in directories have: for each its range, series, samples, how many are
-/// deleted and how many bytes it has, and for each name of labels how many values.
+/// Lists what the blocks in directories have. For each block these are its range, series, samples,
+/// how many are deleted and how many bytes it has, and for each name of labels how many values.
 pub(crate) fn list<R: Files + AllocGlobal, W: Write>(
     alloc: Global,
     rt: &R,

@@ -1,15 +1,14 @@
 //! The program `blocktool`: it makes blocks for `querier` and `auditor` out of other programs'
 //! data, and changes stores that no server keeps.
 //!
-//! `run` does what the words after the program's name ask for. An `Input` gives rows in a range
-//! of times and counts what it read; `conversion` makes of several inputs, of which the later wins,
-//! one output after another. `from_prometheus` finds blocks of Prometheus (`folder`), opens them
+//! `run` does what the words after the program's name ask for. An `Input` gives rows in a range of
+//! times and counts what it read. `conversion` makes one output after another of several inputs, of
+//! which the later wins. `from_prometheus` finds blocks of Prometheus (`folder`), opens them
 //! (`prometheus`) as inputs and plans into how many outputs their times are cut. Values are kept as
-//! a `form` says. What is refused, and with which status a line ends, is said by `fault` and
-//! `program`.
+//! a `form` says. `fault` and `program` say what is refused, and with which status a line ends.
 //!
-//! It stands on `prometheus_block` for what is read, on `imported_values` for values, on
-//! `block_outputs` and `block_folder` for what is written, and on `clap` for words.
+//! It uses `prometheus_block` for what is read, `imported_values` for values, `block_outputs` and
+//! `block_folder` for what is written, and `clap` for words.
 #![tactic(auto)]
 
 mod adding;

@@ -72,7 +72,7 @@ impl Opened {
 
 /// What opens blocks of this project by the names of their directories.
 pub(crate) trait OpensOwn {
-    /// In the directory of this name it may find this block.
+    /// It may find this block in the directory of this name.
     ghost may_open: { Self → List ℕ → OpenedBlock → Type 0 };
 
     /// Opens the block in a directory.
@@ -80,7 +80,7 @@ pub(crate) trait OpensOwn {
         ensures { IfOk result (λ opened. may_open self.now directory.now opened) };
 }
 
-/// The directories of the host. Of what their files have no clause tells.
+/// The directories of the host. No clause says what their files have.
 impl<R: Files + AllocGlobal> OpensOwn for R {
     ghost may_open = { λ host directory opened. Unit {0} };
 
@@ -112,7 +112,7 @@ fn refused(alloc: Global, directory: &str, error: BlockError) -> Fault {
     }
 }
 
-/// The digits that a `meta.json` says, none where it says nothing of them.
+/// The digits that a `meta.json` says, or none if it says nothing of them.
 fn digits_in(alloc: Global, meta: &[u8]) -> u32 {
     let Ok(meta) = Value::from_slice(alloc, meta) else {
         return 0;
@@ -171,7 +171,7 @@ fn count_stored<R: Files + AllocGlobal>(
     }
 }
 
-/// Opens the block in a directory. Where something is deleted its files are read twice.
+/// Opens the block in a directory. If something is deleted, its files are read twice.
 pub(crate) fn open_own<R: Files + AllocGlobal>(
     alloc: Global,
     rt: &R,

@@ -15,7 +15,7 @@ use prometheus_block::Counted;
 use std::alloc::Global;
 use std::io::Write;
 
-/// The most outputs: one answer takes no more blocks.
+/// The most outputs. One answer takes no more blocks.
 const MOST_OUTPUTS: usize = 63;
 
 /// What is to be written.
@@ -27,7 +27,7 @@ pub(crate) struct Plan {
     pub(crate) tiles: Vec<Stretch>,
 }
 
-/// The first and the last time that inputs may have in a range; the range, where they have none.
+/// The first and the last time that inputs may have in a range, or the range if they have none.
 fn span_of<I: Input>(inputs: &[I], times: Stretch) -> Stretch {
     let mut span = None;
     for input in inputs {
@@ -63,7 +63,7 @@ pub(crate) fn plan_for<I: Input>(alloc: Global, inputs: &[I], times: Stretch) ->
     Ok(Plan { counted, tiles })
 }
 
-/// Writes the outputs that are planned, and the line of each, and gives what became of the samples.
+/// Writes the outputs that are planned, and the line of each. Returns what became of the samples.
 /// The inputs are let go before the last is written.
 pub(crate) fn make_outputs<I: Input + Drop, D: Disk, W: Write>(
     alloc: Global,
@@ -73,7 +73,8 @@ pub(crate) fn make_outputs<I: Input + Drop, D: Disk, W: Write>(
     target: &Target<'_>,
     out: &mut W,
 ) -> Result<Summary, Fault>
-    // The outputs are those of the planned times, and each sample that was counted is told once.
+    // The outputs are those of the planned times, and each sample that was counted is reported
+    // once.
     ensures { IfOk result (λ summary. Makes I.may_give D.did inputs.items target.now.into.now
         target.now.values plan.now.tiles.items plan.now.counted summary disk.old disk.new) }
 {

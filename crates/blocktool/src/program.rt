@@ -56,17 +56,17 @@ fn execute<I: Read, W: Write, E: Write>(
 pub struct Ending {
     /// The exit status.
     pub status: u8,
-    /// Whether the fault was told, where there is one: an error is the second writer's.
+    /// Whether the fault was reported, if there is one. An error is the second writer's.
     pub told: io::Result<()>,
 }
 
 /// Does what the words after the program's name ask for.
 ///
-/// Standard output has a line for each output and one that tells what became of every sample. The
-/// status is 0 where all was done, 1 for a refusal, 2 for a fault of the words, 3 for what cannot
-/// be read or written, and 4 for want of memory; a line on the second writer says why. It also
-/// tells what is passed over and, if it is a terminal, what the program is at. The reader is
-/// standard input, which is read only if the words name no file of text.
+/// Standard output has a line for each output and one that reports what became of every sample. The
+/// status is 0 if all was done, 1 for a refusal, 2 for a fault of the words, 3 for what cannot be
+/// read or written, and 4 for want of memory. A line on the second writer says why. The second
+/// writer also gets what is passed over and, if it is a terminal, what the program is at. The
+/// reader is standard input, which is read only if the words name no file of text.
 pub fn run<I: Read, W: Write, E: Write>(
     alloc: Global,
     rt: &HostRuntime,

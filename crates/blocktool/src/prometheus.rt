@@ -39,7 +39,7 @@ fn read_segment<R: Files + AllocGlobal>(
     fs::read(rt, path.as_str())
 }
 
-/// What the files of a host hold, no clause can say.
+/// No clause can say what the files of a host hold.
 impl<'a, R: Files + AllocGlobal> ReadSegments for Segments<'a, R> {
     ghost use Rattle.std.specs.Prelude.{⊤};
 
@@ -118,7 +118,7 @@ pub(crate) fn open_source<'a, R: Files + AllocGlobal>(
     })
 }
 
-/// Adds the value of a label, as it stands between quotes.
+/// Adds the value of a label, as it is written between quotes.
 fn push_value(text: &mut String, value: &str) -> Result<(), AllocError> {
     for c in value.chars() {
         match c {

@@ -106,8 +106,8 @@ fn check_small(alloc: Global, directory: &str, rows: &[Row]) -> Result<(), Fault
     Ok(())
 }
 
-/// Takes the values of a block as doubles: those that are whole numbers, without digits after the
-/// point, stand for themselves.
+/// Takes the values of a block as doubles. Those that are whole numbers, without digits after the
+/// point, represent themselves.
 fn take_as_doubles(
     alloc: Global,
     opened: &Opened,
@@ -145,8 +145,8 @@ fn meaning_of(
 }
 
 impl Inputs {
-    /// Takes a block more, by its rows that have a sample. Where doubles are asked for, its values
-    /// are taken as doubles; else they must mean what those before it mean.
+    /// Takes a further block, by its rows that have a sample. If doubles are asked for, its values
+    /// are taken as doubles. Otherwise they must mean what the values of the blocks before it mean.
     fn take(
         &mut self,
         alloc: Global,
@@ -188,8 +188,8 @@ fn open_all<B: OpensOwn>(
     Ok(inputs)
 }
 
-/// Makes blocks of the samples of blocks that are not deleted, of which the later wins. Where
-/// doubles are asked for, whole numbers become the doubles that they are.
+/// Makes blocks of the samples of blocks that are not deleted. The later sample wins. If doubles
+/// are asked for, whole numbers become the doubles that they are.
 pub(crate) fn rewrite<R: Files + AllocGlobal + Clone + Drop, W: Write, E: Write>(
     alloc: Global,
     rt: &R,

@@ -21,7 +21,7 @@ use std::io::Write;
 use std::rt::Files;
 
 /// Rows whose times ascend, of which the first counts, samples with other values, and those of the
-/// rows that were rounded; and how many samples had an exemplar, which is left.
+/// rows that were rounded. It has also the number of samples that had an exemplar, which is left.
 #[derive(Drop)]
 pub(crate) struct Said {
     pub(crate) listed: Listed,
@@ -37,7 +37,7 @@ fn count_within(samples: &[Left], times: Stretch) -> u64
     samples.iter().filter(|sample| times.has(sample.t)).count() as u64
 }
 
-// Counts what of samples with other values, and of those that were rounded, lies in a range.
+// Counts which samples with other values, and which of those that were rounded, lie in a range.
 fn tell(said: &Said, times: Stretch, tally: &mut Tally)
     ensures { IsTold said.now.others.items said.now.rounded.items times tally.old tally.new }
 {
@@ -47,7 +47,7 @@ fn tell(said: &Said, times: Stretch, tally: &mut Tally)
     tally.rounded = tally.rounded.saturating_add(rounded);
 }
 
-// The rows in a range; the samples with other values that lie in it are counted.
+// The rows in a range. The samples with other values that lie in it are counted.
 fn rows_said(
     alloc: Global,
     said: &Said,
@@ -84,7 +84,7 @@ impl Input for Said {
     }
 }
 
-/// What was said, and an empty input behind it: of several inputs the rows are put in order.
+/// What was said, and an empty input behind it, since the rows of several inputs are put in order.
 fn inputs_of(alloc: Global, said: Said) -> Result<Vec<Said>, AllocError>
     ensures { IfOk result (λ inputs. AreInputsOf said inputs.items) }
 {

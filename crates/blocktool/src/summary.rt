@@ -8,9 +8,9 @@ use block_folder::Values;
 use prometheus_block::Counted;
 use std::alloc::{AllocError, Global};
 
-/// How many samples were read, and what became of them: each is told in exactly one of the other
-/// counts. Those that were rounded are told among the kept and the hidden, and once more.
-/// Histograms are none.
+/// How many samples were read, and what became of them. Each is counted in exactly one of the other
+/// counts. Those that were rounded are counted among the kept and the hidden, and once more.
+/// Histograms are not samples.
 #[derive(Clone, Copy, Debug, PartialEq, Eq, Drop)]
 pub(crate) struct Summary {
     read: u64,
@@ -25,10 +25,10 @@ pub(crate) struct Summary {
 }
 
 impl Summary {
-    /// Of so many samples, by what became of those that the outputs' times have. `None` where these
-    /// are more than there are: an input changed while it was read.
+    /// The summary of the counted samples, by what became of those that the outputs' times have. It
+    /// is `None` if these are more than there are, as an input changed while it was read.
     pub(crate) fn of(counted: Counted, account: Account) -> Option<Summary>
-        // Each sample that was read is told once.
+        // Each sample that was read is reported once.
         ensures { IfSome result (IsSummaryOf counted account) }
     {
         let Account { tally, hidden } = account;
@@ -52,7 +52,7 @@ impl Summary {
         })
     }
 
-    /// The summary as a line, in which so many exemplars are told beside the histograms.
+    /// The summary as a line, which reports this many exemplars beside the histograms.
     pub(crate) fn line_of(
         &self,
         alloc: Global,

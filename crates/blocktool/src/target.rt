@@ -1,4 +1,4 @@
-//! Where outputs are written, and what is told of them.
+//! Where outputs are written, and what is reported of them.
 
 use crate::fault::Fault;
 use block_folder::Values;
@@ -8,8 +8,8 @@ use std::fs;
 use std::io::{self, ErrorKind, Write};
 use std::rt::Files;
 
-/// The directory for outputs, how many digits after the point their values have, and what these
-/// mean.
+/// The directory for outputs, how many digits after the point their values have, and what the
+/// values mean.
 #[derive(Clone, Copy, Drop)]
 pub(crate) struct Target<'a> {
     pub(crate) into: &'a str,

@@ -1,9 +1,9 @@
-//! What the program tells of its progress.
+//! What the program reports of its progress.
 
 use crate::fault::Fault;
 use std::io::Write;
 
-/// Where the program tells what it passes over and, on a terminal, what it is at.
+/// Where the program reports what it passes over and, on a terminal, what it is at.
 #[derive(Drop)]
 pub(crate) struct Teller<'a, E> {
     pub(crate) err: &'a mut E,
@@ -12,13 +12,13 @@ pub(crate) struct Teller<'a, E> {
 }
 
 impl<'a, E: Write> Teller<'a, E> {
-    /// Tells what is so of a path.
+    /// Reports something of a path.
     pub(crate) fn tell(&mut self, path: &str, what: &str) -> Result<(), Fault> {
         writeln!(self.err, "{path} {what}")?;
         Ok(())
     }
 
-    /// Tells what the program is at, if somebody looks on.
+    /// Reports what the program is at, if somebody looks on.
     pub(crate) fn is_at(&mut self, what: &str) -> Result<(), Fault> {
         if self.is_terminal {
             writeln!(self.err, "{what}")?;

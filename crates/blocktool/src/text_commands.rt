@@ -163,7 +163,7 @@ fn reply_in<'a>(found: &ArgMatches<'a>) -> Option<Line<'a>> {
     Some(Line::ToOpenMetrics(reply))
 }
 
-/// What the words of one of these commands ask for.
+/// What the words of such a command ask for.
 pub(crate) fn text_line_in<'a>(found: &ArgMatches<'a>) -> Option<Line<'a>> {
     if let Some(found) = found.subcommand_matches("from-openmetrics") {
         return text_in(found);

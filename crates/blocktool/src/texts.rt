@@ -20,7 +20,7 @@ fn all_of<I: Read>(alloc: Global, input: &mut I) -> Result<Vec<u8>, Fault>
     }
 }
 
-/// The bytes of a file, or all that a reader gives where no file is named.
+/// The bytes of a file, or all that a reader gives if no file is named.
 pub(crate) fn read_text<R: Files + AllocGlobal, I: Read>(
     alloc: Global,
     rt: &R,

@@ -18,9 +18,9 @@ use std::rt::Files;
 /// How values are written.
 #[derive(Clone, Copy, Drop)]
 pub(crate) enum Shown {
-    /// As decimals with so many digits after the point.
+    /// As decimals with this many digits after the point.
     Decimals(Digits),
-    /// As the doubles for which they stand.
+    /// As the doubles that they represent.
     Doubles,
 }
 
@@ -67,7 +67,7 @@ fn doubles_of(alloc: Global, reply: &Reply) -> Result<Vec<u8>, Fault>
     }
 }
 
-/// The text of the merged rows of a reply, whose values have so many digits after the point.
+/// The text of the merged rows of a reply, whose values have this many digits after the point.
 fn text_of_reply(alloc: Global, reply: &[u8], digits: Digits) -> Result<Vec<u8>, Fault>
     // What is read as the reply's merged rows is what is written, sample for sample.
     ensures { IfOk result (λ text. IsTextOfReply digits reply.now text.items) }
@@ -77,7 +77,7 @@ fn text_of_reply(alloc: Global, reply: &[u8], digits: Digits) -> Result<Vec<u8>,
     Ok(text)
 }
 
-/// The text of the merged rows of a reply, whose values stand for doubles.
+/// The text of the merged rows of a reply, whose values represent doubles.
 fn doubles_of_reply(alloc: Global, reply: &[u8]) -> Result<Vec<u8>, Fault>
     ensures { IfOk result (λ text. IsDoublesOfReply reply.now text.items) }
 {

@@ -40,7 +40,7 @@ pub(crate) enum Kind {
     One,
 }
 
-/// An option `--NAME VALUE`, or a text that stands without an option.
+/// An option `--NAME VALUE`, or a text that is written without an option.
 #[derive(Clone, Copy, Drop)]
 pub(crate) struct Word<'a> {
     pub(crate) name: &'a str,
@@ -66,7 +66,7 @@ fn positional<'a>(alloc: Global, word: Word<'a>) -> Arg<'a> {
         .help(word.help)
 }
 
-/// An option that tells what values mean.
+/// An option that says what values mean.
 fn meaning<'a>(alloc: Global, word: Word<'a>) -> Result<Arg<'a>, AllocError> {
     choice(alloc, word, MEANINGS.as_slice()).conflicts_with_all(OF_PARTS.as_slice())
 }
@@ -99,7 +99,7 @@ pub(crate) fn with_words<'a>(
     Ok(command)
 }
 
-/// A command with this name, what its help tells before and after its words, and these words.
+/// A command with this name, what its help says before and after its words, and these words.
 pub(crate) fn command_of<'a>(
     alloc: Global,
     name: &'a str,

@@ -10,8 +10,8 @@ use std::alloc::Global;
 use std::io::Write;
 use std::rt::Files;
 
-/// Writes the outputs that are planned, the line of each, and the line of all samples, in which so
-/// many exemplars are told.
+/// Writes the outputs that are planned, the line of each, and the line of all samples, which
+/// reports this many exemplars.
 pub(crate) fn write_planned<
     I: Input + Drop,
     R: Files + AllocGlobal + Clone + Drop,

@@ -14,7 +14,7 @@ pub struct Directories {
     files: Vec<(String, Vec<u8>)>,
 }
 
-/// The bytes of a file so far, and where the next are put.
+/// The bytes of a file until now, and where the next are put.
 #[derive(Drop)]
 struct Draft {
     bytes: Vec<u8>,
@@ -66,7 +66,7 @@ impl Draft {
     }
 }
 
-/// The files of a directory, as changes name them, and where they stand.
+/// The files of a directory, as changes name them, and where they are.
 const NAMES: [(&str, &str); 4] = [
     ("meta:", "meta.json"),
     ("index:", "index"),
@@ -150,7 +150,7 @@ impl Directories {
     }
 }
 
-/// What these files hold, no clause says.
+/// No clause says what these files hold.
 impl ReadFiles for Directories {
     ghost use Rattle.std.specs.Prelude.{⊤};
 

@@ -1,9 +1,9 @@
-//! Readers and writers over memory, which fail when they are told to.
+//! Readers and writers over memory, which fail when they are asked to.
 
 use query_http::Outlet;
 use requests::{Fault, Inlet};
 
-/// Bytes that come at most so many at a time, in so many reads; each further read fails.
+/// Bytes that come at most `at_most` at a time, in `reads` reads. Each further read fails.
 #[derive(Drop)]
 pub struct Script<'a> {
     pub rest: &'a [u8],
@@ -33,7 +33,7 @@ impl Inlet for Script<'_> {
     }
 }
 
-/// What was written, at most so many bytes at a time, with room for so many more.
+/// What was written, at most `at_most` bytes at a time, with room for `room` more.
 #[derive(Drop)]
 pub struct Sink {
     pub bytes: Vec<u8>,

@@ -20,7 +20,7 @@ pub struct Told {
     err: Vec<u8>,
 }
 
-/// What `auditor` gives for these words over these files, where it reads this.
+/// What `auditor` gives for these words over these files, if it reads this.
 fn audited_by(alloc: Global, files: &Directories, words: &[String], mut input: &[u8]) -> Told {
     let mut out = Vec::new(alloc);
     let mut err = Vec::new(alloc);
@@ -32,7 +32,8 @@ fn audited_by(alloc: Global, files: &Directories, words: &[String], mut input: &
     }
 }
 
-/// What `querier` gives for the words of a line over these files, or `auditor`, if it begins so.
+/// What `querier` gives for the words of a line over these files, or `auditor` if the line begins
+/// with its name.
 pub fn told_by<
     Q: Wait + Threads + Net<Listener = TcpListener, Stream = TcpStream> + Clock + Eprint + Sync,
 >(rt: &Q, alloc: Global, files: &Directories, line: &Line<'_>) -> Told {
@@ -51,7 +52,7 @@ pub fn told_by<
     }
 }
 
-/// What the lines of a case want, and whether they tell all of it.
+/// What the lines of a case want, and whether they say all of it.
 fn wanted_by(alloc: Global, lines: &[&str]) -> Option<(Told, bool)> {
     let mut told = Told {
         status: 0,
@@ -90,7 +91,8 @@ fn input_of(alloc: Global, lines: &[&str]) -> Option<Vec<u8>> {
     Some(input)
 }
 
-/// Whether bytes are what is wanted, or have it somewhere; where nothing is wanted, there is none.
+/// Whether bytes are what is wanted, or have it somewhere. If nothing is wanted, there are no
+/// bytes.
 fn fits(came: &[u8], wanted: &[u8], whole: bool) -> bool {
     match (str::from_utf8(came), str::from_utf8(wanted)) {
         (Ok(came), Ok(wanted)) if !whole && !wanted.is_empty() => came.contains(wanted),
@@ -98,8 +100,8 @@ fn fits(came: &[u8], wanted: &[u8], whole: bool) -> bool {
     }
 }
 
-/// A command line, the files that it is tried over, if they are its own, what the program reads,
-/// and what it is to give.
+/// A command line, the files that it is tried over if they are its own, what the program reads, and
+/// what it is to give.
 #[derive(Drop)]
 pub struct Line<'a> {
     text: &'a str,
@@ -119,7 +121,7 @@ impl Line<'_> {
         }
     }
 
-    /// Counts it: whether what it gave is what is wanted.
+    /// Counts whether what it gave is what is wanted.
     pub fn judge(&self, report: &mut Report, came: &Told) {
         let passed = fits(&came.out, &self.wanted.out, self.whole)
             && fits(&came.err, &self.wanted.err, self.whole)
@@ -128,7 +130,7 @@ impl Line<'_> {
     }
 }
 
-/// The command line that these lines tell, and what it is to give.
+/// The command line that these lines spell, and what it is to give.
 pub fn line_of<'a>(alloc: Global, text: &'a str, lines: &[&'a str]) -> Option<Line<'a>> {
     let words = words_of(alloc, text)?;
     let (wanted, whole) = wanted_by(alloc, lines)?;

@@ -1,9 +1,9 @@
-//! The program `case_files`: it reads files of cases, does what each case asks, and prints each
-//! that goes otherwise, with what was wanted and what came.
+//! The program `case_files`. It reads files of cases and does what each case asks. It prints each
+//! case that goes otherwise, with what was wanted and what came.
 //!
 //! The words are the names of the files, in the order in which they are read. A file is read
-//! paragraph by paragraph; a line that begins with `#` is a comment. A paragraph is of one kind,
-//! which the first word of its first line tells:
+//! paragraph by paragraph. A line that begins with `#` is a comment. A paragraph is of one kind,
+//! which the first word of its first line says:
 //!
 //! - `file PATH PIECE..`: a file in memory. A piece is hexadecimal digits, `text:TEXT`,
 //!   `like:PATH` (the bytes of another file), `@N` (what follows is put at byte N), `first:N` (what
@@ -13,19 +13,19 @@
 //!   `querier check` says of the directory with its index changed so. Several files may be
 //!   changed: `meta:`, `index:`, `chunks:`, `tombstones:`.
 //! - `$ WORD..`: what `querier` gives for these words over the files in memory: `| LINE` is a line
-//!   of standard output, `! LINE` one of standard error, `? N` the status, 0 if it is not told, and
-//!   `|~ TEXT` and `!~ TEXT` stand somewhere in the output. If the first word is `auditor`, the
+//!   of standard output, `! LINE` one of standard error, `? N` the status, 0 if it is not given,
+//!   and `|~ TEXT` and `!~ TEXT` are somewhere in the output. If the first word is `auditor`, the
 //!   others are those of `auditor`, which reads the lines `< LINE`.
 //! - `store DIR..`: a store over these blocks, and connections to it, each cut into pieces in three
 //!   ways. `> GET TARGET`, `> POST PATH BODY` and `> select FROM TO SELECTOR` are requests,
-//!   `>> TEXT` is one byte for byte; then comes its reply, `< STATUS BODY`, or `<< TEXT` byte for
-//!   byte, or `<~ TEXT`, which stands somewhere in a reply of success, or `<-`, none. `x> ..` is a
-//!   request of which one read fails, each in turn, and nothing comes; `x< ..` is a reply that is
+//!   `>> TEXT` is one byte for byte. Then comes its reply: `< STATUS BODY`, or `<< TEXT` byte for
+//!   byte, or `<~ TEXT`, which is somewhere in a reply of success, or `<-`, none. `x> ..` is a
+//!   request of which one read fails, each in turn, and nothing comes. `x< ..` is a reply that is
 //!   cut short at each of its bytes in turn.
 //!
 //! In texts `<CR>`, `<LF>` and `<FF>` (two hexadecimal digits) are bytes, and `<8 times>a<end>` is
-//! `aaaaaaaa`. The last lines tell how many cases of each file passed; a case of a connection
-//! counts once for each way.
+//! `aaaaaaaa`. The last lines say how many cases of each file passed. A case of a connection counts
+//! once for each way.
 #![tactic(auto)]
 
 mod directories;

@@ -43,7 +43,7 @@ fn push_checks<'a>(
     Some(())
 }
 
-/// Adds the files or the cases of a paragraph; nothing where it is not understood.
+/// Adds the files or the cases of a paragraph. Returns nothing if it is not understood.
 fn read_paragraph<'a>(
     alloc: Global,
     directories: &mut Directories,
@@ -72,7 +72,7 @@ fn read_paragraph<'a>(
     cases.push(Case::Session(session)).ok()
 }
 
-/// The cases of a file; a paragraph that is not understood is told.
+/// The cases of a file. A paragraph that is not understood is reported.
 pub fn cases_of<'a>(
     alloc: Global,
     directories: &mut Directories,

@@ -1,9 +1,9 @@
-//! How many cases passed, and what is told of each other.
+//! How many cases passed, and what is reported of each other case.
 
 use std::alloc::{AllocError, Global};
 use std::str;
 
-/// How many cases passed, how many failed, and what is told of those.
+/// How many cases passed, how many failed, and what is reported of those that failed.
 #[derive(Drop)]
 pub struct Report {
     pub passed: u64,
@@ -28,7 +28,7 @@ impl Report {
         }
     }
 
-    /// Counts a case; of one that failed it tells what was wanted and what came.
+    /// Counts a case. Of a case that failed it reports what was wanted and what came.
     pub fn count(&mut self, passed: bool, case: &str, wanted: &[u8], came: &[u8]) {
         if passed {
             self.passed = self.passed.saturating_add(1);

@@ -10,7 +10,7 @@ use crate::steps::{Step, Way};
 use block::Block;
 use commands::open_blocks;
 use query_http::{Served, serve_one};
-use snapshots::{Committer, Naming, Pass, Seat, Store};
+use snapshots::{Committer, Naming, Open, OpenNaming, Pass, Seat, Store};
 use std::alloc::Global;
 use std::marker::Brand;
 use std::str;
@@ -20,8 +20,8 @@ use std::thread::Threads;
 /// The pieces that connections give and take: whole, of seven bytes, and of one.
 const PIECES: [usize; 3] = [usize::MAX, 7, 1];
 
-/// How a connection gives and takes bytes: at most so many at a time, in so many reads, and with
-/// room for so many.
+/// How a connection gives and takes bytes. The numbers are how many at most at a time, in how many
+/// reads, and with room for how many.
 type Edge = (usize, usize, usize);
 
 /// A committer of a store, with the pass and the seat of one worker.
@@ -33,7 +33,7 @@ struct Opened<J: Naming, C: Wait + Drop> {
 }
 
 /// How a connection is served, and what is written.
-fn serve<J: Naming, C: Wait + Drop>(
+fn serve<J: OpenNaming, C: Wait + Drop>(
     rt: &(impl Wait + Threads + Sync),
     alloc: Global,
     store: &mut Opened<J, C>,
@@ -71,7 +71,7 @@ fn serve<J: Naming, C: Wait + Drop>(
     (served, bytes)
 }
 
-/// Whether a text stands in the bytes of a reply of success.
+/// Whether a text is in the bytes of a reply of success.
 fn has(bytes: &[u8], text: &[u8]) -> bool {
     match (str::from_utf8(bytes), str::from_utf8(text)) {
         (Ok(bytes), Ok(text)) => bytes.starts_with("HTTP/1.1 200 OK\r\n") && bytes.contains(text),
@@ -93,7 +93,7 @@ fn went(step: &Step<'_>, number: usize, served: Served, bytes: &[u8]) -> bool {
     }
 }
 
-/// How many connections a step has, of pieces of so many bytes.
+/// How many connections a step has, of pieces of this many bytes.
 fn count_of(step: &Step<'_>, at_most: usize) -> usize {
     match step.way {
         Way::CutShort => step.text.len(),
@@ -103,7 +103,7 @@ fn count_of(step: &Step<'_>, at_most: usize) -> usize {
 }
 
 /// Makes the connections of a step, up to the first that goes otherwise.
-fn make<J: Naming, C: Wait + Drop>(
+fn make<J: OpenNaming, C: Wait + Drop>(
     rt: &(impl Wait + Threads + Sync),
     alloc: Global,
     store: &mut Opened<J, C>,
@@ -141,7 +141,7 @@ fn hold<J: Naming, R: Wait + Threads + Sync>(
     requires book { store.seen.book ≡ J.book }
     requires opening { opening_of (map part_in blocks.items) ≡ J.opening }
 {
-    let opened = store.open::<J, &R>(rt, alloc, blocks, 1, 1);
+    let opened = store.open::<Open<J>, &R>(rt, alloc, blocks, 1, 1);
     let (committer, mut passes, mut seats) = opened.ok()?;
     let (pass, seat) = passes.pop().zip(seats.pop())?;
     let mut store = Opened {

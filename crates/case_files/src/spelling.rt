@@ -3,7 +3,7 @@
 use std::alloc::Global;
 use std::mem;
 
-/// Bytes, and where those begin that are repeated, how often.
+/// Bytes, and where those that are repeated begin, and how often.
 #[derive(Drop)]
 struct Spelled {
     bytes: Vec<u8>,
@@ -41,7 +41,7 @@ impl Spelled {
     }
 }
 
-/// The bytes that a text spells, in which words stand between angles.
+/// The bytes that a text spells, in which words are written between angles.
 pub fn spell(alloc: Global, text: &str) -> Option<Vec<u8>> {
     let mut spelled = Spelled {
         bytes: Vec::new(alloc),
@@ -67,7 +67,7 @@ pub fn spell(alloc: Global, text: &str) -> Option<Vec<u8>> {
     None
 }
 
-/// The words of a line, between spaces; a space may stand between quotes.
+/// The words of a line, between spaces. A space may be written between quotes.
 pub fn words_of(alloc: Global, line: &str) -> Option<Vec<String>> {
     let line = String::from_utf8(spell(alloc, line)?).ok()?;
     let mut words = Vec::new(alloc);

@@ -7,14 +7,14 @@ use std::mem;
 /// How the connections of a step go, which bring one text and are to get another.
 #[derive(Clone, Copy, PartialEq, Eq)]
 pub enum Way {
-    /// The one connection gets the text.
+    /// The only connection gets the text.
     Replied,
-    /// The one connection gets a reply of success, in which the text stands.
+    /// The only connection gets a reply of success, in which the text is.
     RepliedWith,
-    /// The one connection is closed.
+    /// The only connection is closed.
     Closed,
-    /// Of connections that take a byte more each, each gets so many of the text, and its writer
-    /// fails.
+    /// Of connections that take a byte more each, each gets as many bytes of the text as it takes,
+    /// and its writer fails.
     CutShort,
     /// Of connections that give a piece more each, each gets nothing, and its reader fails.
     Unread,
@@ -83,8 +83,8 @@ fn reply_of(alloc: Global, text: &str) -> Option<Vec<u8>> {
     with_body(alloc, head.as_str(), &body)
 }
 
-/// How the connections go that a line ends, and what they are to get; nothing where the line is no
-/// reply.
+/// How the connections that a line ends go, and what they are to get. There is nothing if the line
+/// is no reply.
 fn wanted_by(alloc: Global, line: &str) -> Option<(Way, Vec<u8>)> {
     if line == "<-" {
         return Some((Way::Closed, Vec::new(alloc)));

@@ -11,7 +11,7 @@ use Rattle.std.specs.Int.{int_min, int_max}
 use Rattle.std.specs.List.{Contains, fold}
 use Rattle.std.specs.Prelude.{is_ok, true, false, if◌then◌else◌}
 use Rattle.labels.specs.Labels.{Labels}
-use Rattle.event_journal.specs.Holding.{contents_with}
+use Rattle.event_journal.specs.Holding.{Stands}
 use Rattle.head.specs.Worlds.{Event}
 use Rattle.head_record.specs.Saved.{Saved}
 use Rattle.head_record.specs.Spelling.{head_texts}
@@ -212,8 +212,8 @@ lines_next es i number e lines new line within is same each one made =
 
 -- the listing of a journal that begins with a head
 pub summed_up : (file : List ℕ) (saved : Saved) (events : List Event) (len : ℕ)
-    (lines front text : List ℕ) → IsJournalOf file saved events
-    → len ≡ length (file_of (contents_with (head_texts saved) events)) → AreLines 0 events lines
+    (lines front text : List ℕ) (is : IsJournalOf file saved events)
+    → len ≡ length (file_of (head_texts saved ++ is.stands.contents)) → AreLines 0 events lines
     → front ≡ head_line saved
     → text ≡ front ++ (lines ++ summary_line (length events) len (length file))
     → IsListing file text
@@ -228,8 +228,27 @@ summed_up file saved events len lines front text is counted each head made =
         record {
           lines = lines;
           each = each;
+          stands = is.stands;
           is = ap (λ (n : ℕ). lines ++ summary_line (length events) n (length file)) counted;
         },
         made ∙ ap (λ (f : List ℕ). f ++ rest) head,
       ),
+    )
+
+-- the listing of a journal of events alone
+pub plain_summed_up : (file : List ℕ) (events : List Event) (len : ℕ) (lines text : List ℕ)
+    (stands : Stands [] file events) → len ≡ length (file_of stands.contents)
+    → AreLines 0 events lines → text ≡ lines ++ summary_line (length events) len (length file)
+    → IsListing file text
+plain_summed_up file events len lines text stands counted each made =
+    inr (
+      events,
+      stands,
+      record {
+        lines = lines;
+        each = each;
+        stands = stands;
+        is = made
+            ∙ ap (λ (n : ℕ). lines ++ summary_line (length events) n (length file)) counted;
+      },
     )

@@ -15,7 +15,7 @@ use Rattle.head.specs.Heads.{HeadSeries}
 use Rattle.head_record.specs.Saved.{Saved}
 use Rattle.head_record.specs.Spelling.{head_texts}
 use Rattle.journal.specs.Records.{file_of}
-use Rattle.event_journal.specs.Holding.{Stands, contents_with}
+use Rattle.event_journal.specs.Holding.{Stands}
 use Rattle.store_folder.specs.Journals.{DeniesJournal, IsJournalOf}
 use Rattle.store_folder.specs.Plain.{DeniesPlain, begins_plain}
 use Rattle.store_folder.specs.declared.error.StartError.TheVariants as start
@@ -162,8 +162,9 @@ pub record AreEventLines (front : List (List ℕ)) (file text : List ℕ) (event
     : Type 0 where
   pub lines : List ℕ
   pub each : AreLines 0 events lines
+  pub stands : Stands front file events
   pub is : text
-      ≡ lines ++ summary_line (length events) (length (file_of (contents_with front events)))
+      ≡ lines ++ summary_line (length events) (length (file_of (front ++ stands.contents)))
       (length file)
 
 -- the text lists what a file stands for: a head and the events after it, or events alone

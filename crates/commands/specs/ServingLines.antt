@@ -94,7 +94,7 @@ pub record IsServingIn (rows : List Row) (serving : Serving) : Type 0 where
   pub read_only : IsFlagIn (one_of (codes "read-only") rows) serving.read_only
   pub guard : option_map (λ file. file.now) serving.guard ≡ first_of (codes "guard") rows
   pub folder : option_map (λ folder. folder.now) serving.folder ≡ first_of (codes "data") rows
-  pub journal : IsCountIn (one_of (codes "journal-mb") rows) 64 serving.journal_mb
+  pub journal : IsCountIn (one_of (codes "journal-mb") rows) 8 serving.journal_mb
 
 -- the directories that arguments name, and whether they are read quietly
 pub record IsReadingIn (rows : List Row) (reading : Reading) : Type 0 where

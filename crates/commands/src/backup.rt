@@ -1,4 +1,4 @@
-//! A store that is kept, copied beside its server.
+//! A store that is kept, copied while its server may run.
 
 ghost use Rattle.std.specs.Prelude.{◌≡◌, ◌⊎◌, IfErr, IfOk, OnOk, string_bytes};
 ghost use Rattle.commands.specs.Backing.{IsBackedUp, IsBackupFault, IsCopyFault, backup_line};
@@ -29,7 +29,7 @@ fn line_of(alloc: Global, out: &str, copied: Copied) -> Result<String, AllocErro
     format!(in alloc; "{out}: {blocks} blocks, {events} events\n")
 }
 
-/// Refuses a folder that is there and is not empty: `O6`.
+/// Refuses a folder that is there and is not empty, with `O6`.
 fn check_empty(alloc: Global, host: &HostRuntime, folder: &str) -> Result<(), Fault>
     ensures { IfErr result (λ fault. IsFolderFault folder.now fault
         ⊎ (fault ≡ Fault.Refused Refusal.NotEmpty)) }
@@ -102,8 +102,9 @@ fn copy(alloc: Global, host: &HostRuntime, from: &str, out: &str) -> Result<Copi
     Ok(copied)
 }
 
-/// Copies the store that is kept in a folder to another one, which must not be there, or be empty,
-/// and tells how many blocks and events the copy has. A server may keep the store meanwhile.
+/// Copies the store that is kept in a folder to another folder, and reports how many blocks and
+/// events the copy has. The other folder must not be there, or must be empty. A server may keep the
+/// store meanwhile.
 pub(crate) fn backup<F: ReadFiles, W: Write>(
     alloc: Global,
     files: &F,

@@ -31,7 +31,7 @@ use clap::{Arg, ArgAction, ArgMatches, Command, Error, value_parser};
 use labels::{MAX_TIME, MIN_TIME};
 use std::alloc::{AllocError, Global};
 
-/// A selector, and a closed range of times in milliseconds, as they were written: neither is
+/// A selector, and a closed range of times in milliseconds, as they were written. Neither is
 /// checked.
 #[derive(Clone, Copy, Drop)]
 pub struct Selection<'a> {
@@ -43,21 +43,21 @@ pub struct Selection<'a> {
 /// How a store is served, as it was written.
 #[derive(Clone, Copy, Drop)]
 pub struct Serving<'a> {
-    /// The port of 127.0.0.1; 0 for any that is free.
+    /// The port of 127.0.0.1, or 0 for any that is free.
     pub port: u64,
     /// How many workers there are, each a thread.
     pub workers: u64,
-    /// After how many connections a worker ends; the greatest number stands for never.
+    /// After how many connections a worker ends. The greatest number means never.
     pub requests: u64,
-    /// For how many seconds a client may be silent; 0 for ever.
+    /// For how many seconds a client may be silent, or 0 for ever.
     pub idle_seconds: u64,
-    /// The port of 127.0.0.1 for what a Prometheus sends and asks; 0 for none.
+    /// The port of 127.0.0.1 for what a Prometheus sends and asks, or 0 for none.
     pub prometheus_port: u64,
     /// How many workers serve that port, each a thread.
     pub prometheus_workers: u64,
-    /// The port of 127.0.0.1 for those that ask how the server stands; 0 for none.
+    /// The port of 127.0.0.1 for those that ask for the state of the server, or 0 for none.
     pub status_port: u64,
-    /// At multiples of how many milliseconds the server cuts by itself; 0 for never.
+    /// At multiples of how many milliseconds the server cuts by itself, or 0 for never.
     pub cut_every: u64,
     /// How many milliseconds behind the newest sample and the clock a cut of its own lies at least.
     pub cut_after: u64,
@@ -65,7 +65,7 @@ pub struct Serving<'a> {
     pub read_only: bool,
     /// The file with the token of each `POST`, if requests are guarded.
     pub guard: Option<&'a str>,
-    /// The folder in which the store is kept, if it is; then there are no directories.
+    /// The folder in which the store is kept, if it is kept. Then there are no directories.
     pub folder: Option<&'a str>,
     /// With how many MB of changes its journal is begun anew.
     pub journal_mb: u64,
@@ -75,7 +75,7 @@ pub struct Serving<'a> {
 #[derive(Drop)]
 pub struct Reading<'a> {
     pub directories: Vec<&'a str>,
-    /// Whether no terminal is told how far it is read.
+    /// Whether no progress is written to a terminal.
     pub quiet: bool,
 }
 
@@ -329,7 +329,7 @@ fn querier<'a>(alloc: Global) -> Result<Command<'a>, AllocError>
     add(command, backup(alloc))
 }
 
-/// The time that an option gives, or another where it is not used.
+/// The time that an option gives, or another if it is not used.
 fn time_in(found: &ArgMatches<'_>, name: &str, other: i64) -> i64
     ensures { IsTimeIn (one_of name.now (rows_of (found_of found.now))) other result }
 {
@@ -339,7 +339,7 @@ fn time_in(found: &ArgMatches<'_>, name: &str, other: i64) -> i64
     }
 }
 
-/// The number that an option gives, or another where it is not used.
+/// The number that an option gives, or another if it is not used.
 fn count_in(found: &ArgMatches<'_>, name: &str, other: u64) -> u64
     ensures { IsCountIn (one_of name.now (rows_of (found_of found.now))) other result }
 {
@@ -395,7 +395,7 @@ fn serving_in<'a>(found: &ArgMatches<'a>) -> Serving<'a>
     let status_port = count_in(found, "status-port", 0);
     let cut_every = count_in(found, "cut-every", 0);
     let cut_after = count_in(found, "cut-after", cut_every - cut_every / 2);
-    let journal_mb = count_in(found, "journal-mb", 64);
+    let journal_mb = count_in(found, "journal-mb", 8);
     Serving {
         port,
         workers,
@@ -432,14 +432,14 @@ fn reading_in<'a>(alloc: Global, found: &ArgMatches<'a>) -> Result<Reading<'a>, 
     })
 }
 
-/// Whether directories stand beside the folder of a store.
+/// Whether directories are given beside the folder of a store.
 fn has_both(serving: Serving<'_>, reading: &Reading<'_>) -> bool
     ensures { result ≡ has_both serving.entry reading.now }
 {
     serving.folder.is_some() && !reading.directories.is_empty()
 }
 
-/// What `serve` asks for; none where directories stand beside the folder of a store.
+/// What `serve` asks for, or none if directories are given beside the folder of a store.
 fn serve_line<'a>(alloc: Global, found: &ArgMatches<'a>) -> Result<Option<Line<'a>>, AllocError>
     ensures { IfOk result (λ line. IsFoundServe (rows_of (found_of found.now)) line) }
 {
@@ -451,7 +451,7 @@ fn serve_line<'a>(alloc: Global, found: &ArgMatches<'a>) -> Result<Option<Line<'
     Ok(Some(Line::Serve(serving, reading)))
 }
 
-/// What a found subcommand asks for; none where there is none, or where `serve` is to serve
+/// What a found subcommand asks for, or none if there is no subcommand, or if `serve` is to serve
 /// directories and the store of a folder.
 fn line_in<'a>(alloc: Global, found: &ArgMatches<'a>) -> Result<Option<Line<'a>>, AllocError>
     ensures { IfOk result (λ line. IsFoundLine (subcommand_rows_of found.now) line) }

@@ -1,4 +1,4 @@
-//! The line of `demo`, and the store that it asks: two seats commit six series to it, in two
+//! The line of `demo`, and the store that it asks. Two seats commit six series to the store, in two
 //! batches.
 
 ghost use Rattle.std.specs.Prelude.{◌≡◌, ◌<◌, ◌≤◌, ◌+◌, true, [], ◌++◌, ◌∷◌, length, string_bytes};
@@ -22,7 +22,9 @@ use answers::{AuditedAnswer, ask};
 use head::AppendError;
 use labels::{LabelSet, Sample};
 use matchers::{Matcher, Op, Query};
-use snapshots::{Appender, Committer, Naming, Pass, Receipt, Seat, SnapshotError, Store};
+use snapshots::{
+    Appender, Committer, Naming, Open, OpenNaming, Pass, Receipt, Seat, SnapshotError, Store,
+};
 use std::alloc::{AllocError, Global};
 use std::io::Write;
 use std::marker::Brand;
@@ -132,7 +134,7 @@ pub fn query(alloc: Global, from: i64, to: i64) -> Result<Query, Fault>
 }
 
 /// Commits a batch under a seat.
-fn commit<J: Naming, R: Wait>(
+fn commit<J: OpenNaming, R: Wait>(
     rt: &R,
     committer: &Committer<J, &R>,
     seat: &mut Seat<J>,
@@ -149,7 +151,7 @@ fn commit<J: Naming, R: Wait>(
 }
 
 /// Commits the first batch under a seat.
-fn commit_first<J: Naming, R: Wait>(
+fn commit_first<J: OpenNaming, R: Wait>(
     rt: &R,
     alloc: Global,
     committer: &Committer<J, &R>,
@@ -164,7 +166,7 @@ fn commit_first<J: Naming, R: Wait>(
 }
 
 /// Commits the second batch under a seat.
-fn commit_second<J: Naming, R: Wait>(
+fn commit_second<J: OpenNaming, R: Wait>(
     rt: &R,
     alloc: Global,
     committer: &Committer<J, &R>,
@@ -202,7 +204,7 @@ fn answer_told<J: Naming>(
 }
 
 /// Two seats commit a batch each, and a pass that learns both receipts is asked.
-fn answer_by<J: Naming, R: Wait>(
+fn answer_by<J: OpenNaming, R: Wait>(
     rt: &R,
     alloc: Global,
     committer: &Committer<J, &R>,
@@ -243,7 +245,13 @@ fn answer_of<J: Naming, R: Wait>(
     ensures ok { IfOk result (λ answer. IsAnswerAfter demo_events query.now answer) }
     ensures err { IfErr result (λ fault. IsDemoFault fault) }
 {
-    let (committer, mut passes, mut seats) = store.open::<J, &R>(rt, alloc, Vec::new(alloc), 1, 2)?;
+    let (committer, mut passes, mut seats) = store.open::<Open<J>, &R>(
+        rt,
+        alloc,
+        Vec::new(alloc),
+        1,
+        2,
+    )?;
     let mut pass = last_of(&mut passes);
     let mut second_seat = last_of(&mut seats);
     let mut first_seat = last_of(&mut seats);
@@ -259,11 +267,11 @@ fn answer_of<J: Naming, R: Wait>(
 }
 
 /// The audited answer to `up{job="a"}` from 0 to 100, of a store to which two seats commit a batch
-/// each: a pass that learnt both receipts is asked.
+/// each. A pass that learnt both receipts is asked.
 ///
-/// Besides memory, `O4` and `S1` and a refusal of a batch are answered where the store answers
-/// them. `S1` stands too for a pass that sees other events than the two, which does not occur:
-/// nobody else has the store.
+/// Besides memory, `O4` and `S1` and a refusal of a batch are answered if the store answers them.
+/// `S1` also means a pass that sees other events than the two. That does not occur, since nobody
+/// else has the store.
 pub fn demo_answer<R: Wait>(rt: &R, alloc: Global) -> Result<AuditedAnswer, Fault>
     ensures ok { IfOk result (IsAnswerAfter demo_events (demo_query (pos 0) (pos 100))) }
     ensures err { IfErr result (λ fault. IsDemoFault fault) }

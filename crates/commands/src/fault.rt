@@ -37,7 +37,7 @@ pub enum Refusal {
     Open(OpenError),
     /// A snapshot of a store: `S1`.
     Snapshot(SnapshotError),
-    /// The folder of a store that is kept: `J1` to `J4`, `J8` to `J18`.
+    /// The folder of a store that is kept: `J1` to `J4`, `J8` to `J20`.
     Start(StartError),
     /// `O5`: the port of Prometheus is for a store whose values are doubles, and those of the store
     /// that a folder has are whole numbers.
@@ -70,9 +70,9 @@ impl Refusal {
         }
     }
 
-    /// The place of the fault, from 0: in a selector in bytes, in a batch the number of the sample,
-    /// in a journal the byte (`J1` to `J4`) or how many contents of its head or events are before
-    /// it, of a block the number of its folder (`J15`, `J16`).
+    /// The place of the fault, from 0. In a selector it is in bytes. In a batch it is the number of
+    /// the sample. In a journal it is the byte (`J1` to `J4`) or how many contents of its head or
+    /// events are before it. Of a block it is the number of its folder (`J15`, `J16`).
     pub fn place(&self) -> Option<usize>
         ensures { result ≡ refusal_place self.now }
     {
@@ -115,7 +115,7 @@ pub enum Fault {
     CannotRead(String),
     /// A writer refused.
     CannotWrite,
-    /// What stands at this path cannot be written.
+    /// What is at this path cannot be written.
     CannotWriteAt(String),
     /// Another process has locked this folder.
     Locked(String, Holder),
@@ -146,8 +146,8 @@ impl Fault {
         }
     }
 
-    /// Tells the fault in a line, as `refused M4 at 7` or `cannot read DIR/index`, or how the
-    /// program is used.
+    /// Reports the fault in a line, as `refused M4 at 7` or `cannot read DIR/index`, or says how
+    /// the program is used.
     pub fn tell<W: Write>(&self, to: &mut W) -> io::Result<()>
         ensures { OnOk result
             (IfSome (line_of self.now) (Appends (W.contents to.old) (W.contents to.new))) }

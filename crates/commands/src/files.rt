@@ -49,16 +49,16 @@ impl Error for ReadError {}
 
 /// What gives the bytes of files to any thread: the file system of the host, or files in memory.
 pub trait ReadFiles: Sync {
-    /// What reading a path may find: the bytes of a file, or nothing where it cannot be read.
+    /// What reading a path may find: the bytes of a file, or nothing if it cannot be read.
     ghost may_read: { Self → List ℕ → Option (List ℕ) → Type 0 };
 
-    /// The first bytes of the file at a path, at most so many.
+    /// The first bytes of the file at a path, at most `most`.
     fn read_file(&self, alloc: Global, path: &str, most: usize) -> Result<Vec<u8>, ReadError>
         ensures ok { IfOk result (λ bytes.
             AreFirstBytes (may_read self.now) path.now most bytes.items) }
         ensures err { IfErr result (λ error. IsReadFailure (may_read self.now) path.now error) };
 
-    /// The same of a file that its owner alone may read; files in memory have no other readers.
+    /// The same of a file that only its owner may read. Files in memory have no other readers.
     fn read_secret(&self, alloc: Global, path: &str, most: usize) -> Result<Vec<u8>, ReadError>
         ensures ok { IfOk result (λ bytes.
             AreFirstBytes (may_read self.now) path.now most bytes.items) }
@@ -67,16 +67,16 @@ pub trait ReadFiles: Sync {
         self.read_file(alloc, path, most)
     }
 
-    /// Is told of which directory the files are read next: nothing that is read depends on it.
+    /// Learns of which directory the files are read next. Nothing that is read depends on it.
     fn begin(&self, _directory: &str) {}
 
-    /// The host that has the files: a store is kept there. Files in memory are on none.
+    /// The host that has the files. A store is kept there. Files in memory are on no host.
     fn host(&self) -> Option<&HostRuntime> {
         None
     }
 }
 
-/// The first bytes that a reader gives, at most so many, in a list that is made with this room.
+/// The first bytes that a reader gives, at most `most`, in a list that is made with this room.
 fn first_of<R: Read + Drop>(
     alloc: Global,
     reader: R,
@@ -93,7 +93,7 @@ fn first_of<R: Read + Drop>(
     Ok(bytes)
 }
 
-/// The first bytes of the file of the host at a path, at most so many.
+/// The first bytes of the file of the host at a path, at most `most`.
 fn first_of_file(alloc: Global, rt: &HostRuntime, path: &str, most: usize) -> io::Result<Vec<u8>>
     ensures { IfOk result (λ bytes. length bytes.items ≤ most) }
 {
@@ -102,7 +102,7 @@ fn first_of_file(alloc: Global, rt: &HostRuntime, path: &str, most: usize) -> io
     first_of(alloc, file, room as usize, most)
 }
 
-/// The same of a file that its owner alone may read.
+/// The same of a file that only its owner may read.
 fn first_of_secret(alloc: Global, rt: &HostRuntime, path: &str, most: usize) -> io::Result<Vec<u8>>
     ensures { IfOk result (λ bytes. length bytes.items ≤ most) }
 {
@@ -113,7 +113,7 @@ fn first_of_secret(alloc: Global, rt: &HostRuntime, path: &str, most: usize) -> 
     first_of(alloc, file, 0, most)
 }
 
-/// What the host's files hold, no clause can say.
+/// No clause can say what the host's files hold.
 impl ReadFiles for HostRuntime {
     ghost use Rattle.std.specs.Prelude.{⊤};
 
@@ -150,7 +150,7 @@ pub enum FileName {
 }
 
 impl FileName {
-    /// Where the file stands in its directory.
+    /// Where the file is in its directory.
     fn text(self) -> &'static str
         ensures { result.now ≡ text_of self }
     {
@@ -173,8 +173,8 @@ impl FileName {
     }
 }
 
-/// The bytes of the files of a block, and what opening its index gave. Of a file that is longer
-/// than it may be, they are the first that show it.
+/// The bytes of the files of a block, and what opening its index gave. If a file is longer than it
+/// may be, they are its first bytes, as many as show that.
 #[derive(Drop)]
 pub struct BlockFiles {
     pub meta: Vec<u8>,
@@ -230,8 +230,8 @@ fn read_index<T: Threads + Sync, F: ReadFiles>(
 }
 
 /// Reads the files of the block in a directory, each once: the meta, the index, the chunks and the
-/// tombstones, up to the first that cannot be read. The index is opened, by up to four threads,
-/// while another reads the chunks.
+/// tombstones, up to the first that cannot be read. Up to four threads open the index while another
+/// thread reads the chunks.
 pub fn read_block<T: Threads + Sync, F: ReadFiles>(
     rt: &T,
     alloc: Global,

@@ -13,10 +13,10 @@ own; 2 a fault of the words; 3 cannot read or write; 4 no memory
 
 Example: querier select 'up{job=\"a\"}' data/0001";
 
-/// What `--version` tells behind the name: no build knows its commit.
+/// What `--version` prints behind the name. No build knows its commit.
 pub(crate) const VERSION: &str = "0.1.0 (rattle-kit-13f)";
 
-/// The version, and the one of the kit, as the status port tells them.
+/// The version, and the version of the kit, as the status port reports them.
 pub(crate) const OWN_VERSION: &str = "0.1.0";
 
 pub(crate) const KIT_VERSION: &str = "rattle-kit-13f";
@@ -102,7 +102,7 @@ pub(crate) const DATA: &str =
     "A folder that keeps each change; it is made if there is none [default: none]";
 
 pub(crate) const JOURNAL_MB: &str =
-    "After how many MB the journal of --data is begun anew, 1 to 1048576 [default: 64]";
+    "After how many MB the journal of --data is begun anew, 1 to 1048576 [default: 8]";
 
 pub(crate) const PATH: &str = "A journal, or the folder of --data that it stands in";
 
@@ -125,6 +125,7 @@ Refusals, the first that holds, with its place; nothing is printed then:
   J1 at 0, J2 at 4   no journal, or of another version
   J3, J4 at BYTE     damage before the last record: a checksum or a length that is wrong
   J8 to J14 at N     the content behind N others is none of a head, or behind N changes no change
+  J19, J20 at N      the change behind N others has a number of no series, or a second one of one
 
 docs/FORMATS.md of the project explains each code.
 
@@ -155,7 +156,7 @@ It takes memory for the whole store, as a start of the server does.
 Refusals:
   O6                 OUT is not empty
   O7                 the server began its journal anew each of five times while it was read
-  J1 to J4, J8 to J14, J15 to J18
+  J1 to J4, J8 to J14, J15 to J20
                      the store is refused, as by `querier serve`
 
 Exit status: 0 done; 1 refused, with the code on standard error; 2 a fault of the words; 3 a file
@@ -178,9 +179,9 @@ DIR/journal`. If one of these is a cut, or there are some and the journal is lon
 --journal-mb, or after a cut by an eighth of it, and tells `rolled the journal`.
 Directories beside --data are a fault of the words. If the server cannot make sure that a change is
 kept, it is refused with H11 (503): no reader of this run sees it, but if the journal closed, the
-next start may find it. What is damaged is refused and left as it is: with J1 to J4 or J8 to J14
-(`querier journal --help` tells these), J15 at N if a file of DIR/blocks/N is missing, J16 at N if
-they are no block, J17 if no store has what the journal begins with, or J18 at N if the change
+next start may find it. What is damaged is refused and left as it is: with J1 to J4, J8 to J14, J19
+or J20 (`querier journal --help` tells these), J15 at N if a file of DIR/blocks/N is missing, J16 at
+N if they are no block, J17 if no store has what the journal begins with, or J18 at N if the change
 behind N others is one that those do not admit. DIR/lock is locked as long as the server runs.
 
   GET /select?selector=up%7Bjob%3D%22a%22%7D&from=0&to=100

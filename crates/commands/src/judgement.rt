@@ -20,7 +20,7 @@ const THREADS: usize = 16;
 /// What the files of a directory are judged to be.
 #[derive(Clone, Copy, Debug, PartialEq, Eq, Drop)]
 pub enum Judgement {
-    /// A block with so many series, and so many samples that are not deleted.
+    /// A block with this many series, and this many samples that are not deleted.
     Sound { series: usize, samples: u64 },
     /// No block, and the first check that fails.
     Refused(BlockError),
@@ -52,8 +52,8 @@ impl fmt::Display for Judgement {
     }
 }
 
-/// The block that files are, or the first check that fails: that of the meta, and then those of the
-/// other files.
+/// The block that files are, or the first check that fails. The checks are that of the meta, and
+/// then those of the other files.
 pub fn open<T: Threads + Sync>(
     rt: &T,
     alloc: Global,

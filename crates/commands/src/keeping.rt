@@ -37,7 +37,7 @@ use block_folder::Values;
 use data_folder::{Folder, HostFolder, RollError};
 use guard::Rules;
 use server::{Shift, Workers, report_opening};
-use snapshots::{Naming, Store};
+use snapshots::{Naming, Open, Store};
 use std::alloc::Global;
 use std::io::Write;
 use std::marker::Brand;
@@ -54,7 +54,7 @@ use store_folder::{
 /// How many bytes one MB of a journal has.
 const MB: u64 = 1_048_576;
 
-/// That what stands in a folder cannot be read: the folder of a block, or the journal.
+/// The fault that what is in a folder cannot be read: the folder of a block, or the journal.
 pub(crate) fn unreadable(alloc: Global, folder: &str, error: StartError) -> Fault
     ensures { IsDataFault folder.now result }
 {
@@ -68,7 +68,7 @@ pub(crate) fn unreadable(alloc: Global, folder: &str, error: StartError) -> Faul
     }
 }
 
-/// That the journal in a folder is not there.
+/// The fault that the journal in a folder is not there.
 pub(crate) fn no_journal(alloc: Global, folder: &str) -> Fault
     ensures { IsDataFault folder.now result }
 {
@@ -78,7 +78,7 @@ pub(crate) fn no_journal(alloc: Global, folder: &str) -> Fault
     }
 }
 
-/// That the journal in a folder cannot be written.
+/// The fault that the journal in a folder cannot be written.
 fn unwritable(alloc: Global, folder: &str) -> Fault
     ensures { IsDataFault folder.now result }
 {
@@ -88,8 +88,8 @@ fn unwritable(alloc: Global, folder: &str) -> Fault
     }
 }
 
-/// That a folder that has no journal has no blocks either: who has lost a journal shall not lose
-/// the blocks as well. Nothing is changed.
+/// Checks that a folder that has no journal has no blocks either. Whoever has lost a journal shall
+/// not lose the blocks as well. Nothing is changed.
 fn check_nothing<H: Folder>(alloc: Global, disk: &mut H, folder: &str) -> Result<(), Fault>
     requires { H.sound disk.old ≡ true }
     ensures none { OnOk result (ListsNumber H.lists disk.new false) }
@@ -104,7 +104,7 @@ fn check_nothing<H: Folder>(alloc: Global, disk: &mut H, folder: &str) -> Result
 }
 
 /// The store that a folder has, if it has one. `None` only if it has no blocks either. Nothing is
-/// changed, but that a journal of events alone is given a head.
+/// changed, but a journal of events alone is given a head.
 fn read_data<H: Folder>(
     alloc: Global,
     disk: &mut H,
@@ -113,8 +113,9 @@ fn read_data<H: Folder>(
     requires { H.sound disk.old ≡ true }
     ensures read { IfOk result (IsRead H.shows H.kept H.sound disk.new) }
     ensures none { result ≡ Ok None → ListsNumber H.lists disk.new false }
-    // Of a folder that tells what its files have, whatever is answered: nothing is changed, unless
-    // the journal is one of events alone; then a crash leaves it as it was, or with a head.
+    // These hold of a folder that says what its files have, whatever is answered. Nothing is
+    // changed, unless the journal is one of events alone. Then a crash leaves it as it was, or with
+    // a head.
     ensures whole { TellsFiles H.shows → (x : Option (List ℕ)) → H.shows disk.old journal_name x
         → may_be_plain x ≡ false
         → Untouched H.shows H.kept H.moment H.left_since disk.old disk.new }
@@ -154,7 +155,7 @@ fn read_host<F: ReadFiles>(
     Ok(found)
 }
 
-/// Reads as [`read_host`] does, and answers those beside that watch.
+/// Reads as [`read_host`] does, and meanwhile answers those that watch.
 fn read_watched<R: Threads + Clock + Sync, F: ReadFiles>(
     rt: &R,
     alloc: Global,
@@ -183,7 +184,7 @@ fn read_watched<R: Threads + Clock + Sync, F: ReadFiles>(
     read
 }
 
-/// Reads as [`read_host`] does, and answers those beside that watch, if any can.
+/// Reads as [`read_host`] does, and meanwhile answers those that watch, if any can.
 fn read_beside<R: Threads + Clock + Sync, F: ReadFiles>(
     rt: &R,
     alloc: Global,
@@ -200,12 +201,13 @@ fn read_beside<R: Threads + Clock + Sync, F: ReadFiles>(
     }
 }
 
-/// Tells that a journal was begun.
+/// Reports that a journal was begun.
 fn tell_begun<R: Eprint>(rt: &R, folder: &str) {
     let _ = eprintln!(rt; "began {folder}/journal");
 }
 
-/// Tells what a start recovered: the blocks that the head names, if there are any, and the events.
+/// Reports what a start recovered: the blocks that the head names, if there are any, and the
+/// events.
 fn tell_recovered<R: Eprint>(rt: &R, journal: &FoundJournal) {
     let (blocks, events) = (journal.head.places().len(), journal.events.len());
     if blocks > 0 {
@@ -223,18 +225,18 @@ fn tell_recovered<R: Eprint>(rt: &R, journal: &FoundJournal) {
     };
 }
 
-/// Tells that a journal was begun anew.
+/// Reports that a journal was begun anew.
 fn tell_rolled<R: Eprint>(rt: &R, folder: &str, blocks: usize, series: usize) {
     let noun = if blocks == 1 { "block" } else { "blocks" };
     let _ = eprintln!(rt; "rolled {folder}/journal: {blocks} {noun}, {series} series");
 }
 
-/// Tells that a journal was not begun anew, and goes on.
+/// Reports that a journal was not begun anew, and goes on.
 fn tell_not_rolled<R: Eprint>(rt: &R, folder: &str, fault: RollFault) {
     let _ = eprintln!(rt; "did not roll {folder}/journal: {fault}");
 }
 
-/// Saves a store, if that is worth it, and tells what came of it.
+/// Saves a store, if that is worth it, and reports what came of it.
 fn roll_data<R: Eprint, N: Beginning, H: Folder + Drop>(
     rt: &R,
     alloc: Global,
@@ -284,7 +286,7 @@ fn not_started(alloc: Global, folder: &str, error: StartError) -> Fault
     }
 }
 
-/// Begins the store of a folder that has none, whose values mean this, and tells it.
+/// Begins the store of a folder that has none, and reports it. The values of the store mean this.
 fn begin_data<R: Eprint, N: Beginning, H: Folder + Drop>(
     rt: &R,
     alloc: Global,
@@ -312,7 +314,7 @@ fn begin_data<R: Eprint, N: Beginning, H: Folder + Drop>(
     }
 }
 
-/// Goes on with the store that was found in a folder, tells it, and saves it if that is worth it.
+/// Goes on with the store that was found in a folder, reports it, and saves it if that is worth it.
 fn resume_data<R: Eprint, N: Beginning, H: Folder + Drop>(
     rt: &R,
     alloc: Global,
@@ -370,7 +372,7 @@ fn start_data<R: Eprint, N: Beginning, H: Folder + Drop>(
     }
 }
 
-/// Starts a store as [`start_data`] does, and answers those beside that watch.
+/// Starts a store as [`start_data`] does, and meanwhile answers those that watch.
 fn start_watched<
     R: Threads + Clock + Eprint + Sync,
     N: Beginning + Send,
@@ -422,7 +424,7 @@ fn start_watched<
     started
 }
 
-/// Starts a store as [`start_data`] does, and answers those beside that watch, if any can.
+/// Starts a store as [`start_data`] does, and meanwhile answers those that watch, if any can.
 fn start_beside<
     R: Threads + Clock + Eprint + Sync,
     N: Beginning + Send,
@@ -460,7 +462,7 @@ fn start_beside<
 }
 
 /// Serves a store that was kept, under the rules that the options ask for, until each worker has
-/// ended: what each has done.
+/// ended. Returns what each has done.
 fn serve_kept<
     'a,
     J: Naming + Send + Sync,
@@ -504,7 +506,7 @@ fn serve_kept<
     let seats = seats_of(serving);
     let passes = passes_of(serving);
     let found = (snapshot, keeper);
-    let opened = Workers::<J, &R, StoreKeeper<N, H>>::resume(
+    let opened = Workers::<Open<J>, &R, StoreKeeper<N, H>>::resume(
         rt, alloc, store, found, passes, seats,
     )?;
     let workers = with_roles(alloc, opened, serving)?;
@@ -517,8 +519,8 @@ struct DataPath<'a> {
     path: &'a str,
 }
 
-/// Serves the store that was found in a folder, or that begins there, as [`serve_kept`] does: how
-/// many connections each worker served.
+/// Serves the store that was found in a folder, or that begins there, as [`serve_kept`] does.
+/// Returns how many connections each worker served.
 fn serve_found<
     N: Beginning + Send + Sync,
     H: Folder + Drop + Send,
@@ -567,7 +569,7 @@ fn serve_found<
     Ok(counts)
 }
 
-/// What the values of a store mean that begins.
+/// What the values of a store that begins mean.
 fn asked_values(serving: Serving<'_>) -> Values
     ensures { result ≡ asked_values serving.entry }
 {
@@ -578,7 +580,7 @@ fn asked_values(serving: Serving<'_>) -> Values
     }
 }
 
-/// Refuses the port of Prometheus over a store of whole numbers: `O5`.
+/// Refuses the port of Prometheus over a store of whole numbers, with `O5`.
 fn allow_port(found: &Option<FoundStore>, serving: Serving<'_>) -> Result<(), Fault>
     ensures meant { OnOk result
         (IsMeant serving.entry (first_of (asked_values serving.entry) found.now).values) }
@@ -631,8 +633,8 @@ fn serve_folder<
     )
 }
 
-/// Serves the store that is kept in a folder of the host: how many connections each worker served.
-/// The folder is made if there is none, and locked until each has ended.
+/// Serves the store that is kept in a folder of the host. Returns how many connections each worker
+/// served. The folder is made if there is none, and is locked until each worker has ended.
 pub(crate) fn serve_data<
     R: Wait + Threads + Net<Listener = TcpListener, Stream = TcpStream> + Clock + Eprint + Sync,
     F: ReadFiles,

@@ -2,15 +2,15 @@
 //!
 //! `run` does what the words after the program's name ask for, over files, two writers and a host.
 //! `demo` opens an empty store, to which two seats commit a batch each, and writes the answer of a
-//! pass that learnt both receipts to `up{job="a"}` from 0 to 100 as one line of JSON: of each part
-//! its rows and the certificate that shows them to be all, and the rows of all parts. `select` asks
-//! any selector the same of the blocks in directories, which `opening` opens. What is written is
-//! the text of an audited answer, byte for byte, and a line feed (`demo`, `write_answer`,
-//! `select`). `check` verifies blocks completely and writes a line for each: `files` says what is
-//! read of a directory, `judgement` what that is judged to be, and `check` which lines are
-//! written. What is refused, and with which status a line ends, is said by `fault` and `run`.
-//! `serve` serves the blocks in directories, under an empty head, to HTTP clients; `backup` copies a
-//! store that it keeps. A terminal is told by `progress` which directory is read.
+//! pass that learnt both receipts to `up{job="a"}` from 0 to 100 as one line of JSON. The line has
+//! the rows of each part with the certificate that shows that they are all, and the rows of all
+//! parts. `select` asks the blocks in directories, which `opening` opens, any selector in the same
+//! way. What is written is the text of an audited answer, byte for byte, and a line feed (`demo`,
+//! `write_answer`, `select`). `check` verifies blocks completely and writes a line for each.
+//! `files` says what is read of a directory, `judgement` what that is judged to be, and `check`
+//! which lines are written. `fault` and `run` say what is refused, and with which status a line
+//! ends. `serve` serves the blocks in directories, under an empty head, to HTTP clients. `backup`
+//! copies a store that `serve` keeps. `progress` says on a terminal which directory is read.
 //!
 //! ```
 //! let words = [
@@ -24,10 +24,10 @@
 //! assert_eq!(rt; err.as_slice(), b"refused M6\n".as_slice());
 //! ```
 //!
-//! It stands on `server` for workers, on `answers` for answers and their text, on `snapshots`
-//! for the store of the demo, on `block` for what a block is, on `clap` for words, and on `labels`,
-//! `matchers`, `index_reader` and `head`. Certificates are the partition certificates of Barbay and
-//! Kenyon, SODA 2002.
+//! It uses `server` for workers, `answers` for answers and their text, `snapshots` for the store of
+//! the demo, `block` for what a block is, `clap` for words, and `labels`, `matchers`,
+//! `index_reader` and `head`. Certificates are the partition certificates of Barbay and Kenyon,
+//! SODA 2002.
 #![tactic(auto)]
 
 mod backup;

@@ -48,7 +48,7 @@ fn read_alone<F: ReadFiles>(alloc: Global, files: &F, path: &str) -> Result<Vec<
     }
 }
 
-/// The bytes of the journal that stands in a folder, if there is one; else of the file itself.
+/// The bytes of the journal that is in a folder, if there is one, or else of the file itself.
 fn read_at<F: ReadFiles>(alloc: Global, files: &F, path: &str) -> Result<Vec<u8>, Fault>
     ensures ok { IfOk result (λ bytes. IsFileAt (F.may_read files.now) path.now bytes.items) }
     ensures err { IfErr result (λ fault. IsUnreadJournal (F.may_read files.now) path.now fault) }
@@ -73,7 +73,7 @@ fn op_text(op: Op) -> &'static str
     }
 }
 
-/// Appends a text as it stands between quotes.
+/// Appends a text as it is written between quotes.
 fn append_written(out: &mut Vec<u8>, text: &str) -> Result<(), AllocError>
     ensures { OnOk result (out.new.items ≡ out.old.items ++ written text.now) }
 {
@@ -208,14 +208,14 @@ fn append_batch(
     append_batch_line(alloc, out, number, samples)
 }
 
-/// What stands before the matchers in the line of a deletion.
+/// What comes before the matchers in the line of a deletion.
 fn deletion_start(alloc: Global, number: usize) -> Result<String, AllocError>
     ensures { IfOk result (λ start. string_bytes start ≡ deletion_start number) }
 {
     format!(in alloc; "{number} deletion ")
 }
 
-/// What stands behind them.
+/// What comes behind them.
 fn deletion_end(alloc: Global, from: i64, to: i64) -> Result<String, AllocError>
     ensures { IfOk result (λ end. string_bytes end ≡ deletion_end from to) }
 {
@@ -313,7 +313,7 @@ fn head_start(alloc: Global, floor: i64, blocks: usize) -> Result<String, AllocE
     format!(in alloc; "head: floor {floor}, {blocks} blocks, ")
 }
 
-/// How many series a head has, and how many samples these have, as the end of its line.
+/// How many series a head has, and how many samples these series have, as the end of its line.
 fn head_end(alloc: Global, series: usize, samples: u64) -> Result<String, AllocError>
     ensures { IfOk result (λ end. string_bytes end ≡ head_end series samples) }
 {
@@ -347,7 +347,7 @@ fn append_events(
     text.extend_from_slice(last.as_bytes())
 }
 
-/// That a journal is refused, or memory failed.
+/// The fault that a journal is refused, or that there is no memory.
 fn not_read(error: JournalFault) -> Fault
     ensures { result ≡ read_fault error }
 {
@@ -376,7 +376,7 @@ fn listing_of(alloc: Global, file: &[u8]) -> Result<Vec<u8>, Fault>
 }
 
 /// Lists what the journal at a path holds: a line for its head, a line for each event, and one that
-/// sums it up. The path is that of the journal, or of the folder that it stands in.
+/// sums it up. The path is that of the journal, or of the folder that it is in.
 pub fn list<F: ReadFiles, W: Write>(
     alloc: Global,
     files: &F,

@@ -1,4 +1,4 @@
-//! The folder of a store that is kept: its lock, and where its files stand.
+//! The folder of a store that is kept: its lock, and where its files are.
 
 ghost use Rattle.std.specs.Prelude.{◌≡◌, ◌++◌, codes, decimal, string_bytes, IfOk, IfErr};
 ghost use Rattle.commands.specs.Keeping.{path_in, IsFolderFault};
@@ -24,7 +24,7 @@ pub(crate) fn block_path_in(alloc: Global, folder: &str, number: u64) -> Result<
     format!(in alloc; "{folder}/blocks/{number}")
 }
 
-/// That what stands at a path cannot be written.
+/// The fault that what is at a path cannot be written.
 pub(crate) fn cannot_write(alloc: Global, path: &str) -> Fault
     ensures { IsWriteFault path.now result }
 {
@@ -34,7 +34,7 @@ pub(crate) fn cannot_write(alloc: Global, path: &str) -> Fault
     }
 }
 
-/// That what stands at a path cannot be read.
+/// The fault that what is at a path cannot be read.
 pub(crate) fn cannot_read(alloc: Global, path: &str) -> Fault
     ensures { IsReadFault path.now result }
 {
@@ -44,7 +44,7 @@ pub(crate) fn cannot_read(alloc: Global, path: &str) -> Fault
     }
 }
 
-/// The folder that another stands in.
+/// The folder that another folder is in.
 fn parent_of(folder: &str) -> &str {
     match folder.trim_end_matches('/').rsplit_once('/') {
         Some(("", _)) => "/",
@@ -53,14 +53,14 @@ fn parent_of(folder: &str) -> &str {
     }
 }
 
-/// Syncs a folder: what was made and renamed in it stays.
+/// Syncs a folder, so that what was made and renamed in it stays.
 fn sync_folder(host: &HostRuntime, folder: &str) -> io::Result<()> {
     File::open(host, folder)?.sync_all()
 }
 
-/// Makes a folder if nothing stands there, and syncs the one that it stands in, whoever made it: a
-/// start that made it may have ended before that. If it was there, nothing fails by that sync,
-/// since whoever may pass the folder above may not always open it.
+/// Makes a folder if there is nothing at its path, and syncs the folder that it is in, whoever made
+/// it. A start that made it may have ended before the sync. If the folder was there, nothing fails
+/// by that sync, since whoever may pass the folder above may not always open it.
 fn make_folder(host: &HostRuntime, folder: &str) -> io::Result<()> {
     let stood = match fs::create_dir(host, folder) {
         Ok(()) => false,
@@ -85,7 +85,7 @@ fn lock_folder(alloc: Global, host: &HostRuntime, folder: &str) -> Result<File, 
     }
 }
 
-/// Makes a folder where there is none, and locks it until what is given back is dropped.
+/// Makes a folder if there is none, and locks it until what is returned is dropped.
 pub(crate) fn lock_data(alloc: Global, host: &HostRuntime, folder: &str) -> Result<File, Fault>
     ensures { IfErr result (IsFolderFault folder.now) }
 {

@@ -16,7 +16,7 @@ use snapshots::OpenError;
 use std::alloc::Global;
 use std::thread::{Threads, join};
 
-/// How many threads open directories beside each other, one for each of four processors.
+/// How many threads open directories at the same time, one for each of four processors.
 const THREADS: usize = 4;
 
 /// Reads the files in a directory and makes every check of a block.
@@ -33,8 +33,8 @@ fn open_one<T: Threads + Sync, F: ReadFiles>(
     Ok(open(rt, alloc, block)?)
 }
 
-/// The blocks in these directories, in their order, up to the first that is at fault: one after
-/// another.
+/// The blocks in these directories, in their order, up to the first that is at fault. They are
+/// opened one after another.
 fn open_each<T: Threads + Sync, F: ReadFiles>(
     rt: &T,
     alloc: Global,
@@ -54,8 +54,8 @@ fn open_each<T: Threads + Sync, F: ReadFiles>(
     Ok(blocks)
 }
 
-/// The same by at most so many threads, the calling one among them. The first directory at fault is
-/// answered, also where a later one is found at fault before it.
+/// The same by at most this many threads, the calling one among them. The first directory at fault
+/// is answered, also if a later one is found at fault before it.
 #[cycle(halves)]
 fn open_among<T: Threads + Sync, F: ReadFiles>(
     rt: &T,
@@ -93,8 +93,8 @@ fn open_among<T: Threads + Sync, F: ReadFiles>(
 
 /// The blocks in these directories, in their order, at most 63.
 ///
-/// Each directory is read and verified completely, up to four beside each other; the first at fault
-/// is answered. `O3` comes after the last of them, where there are more than 63.
+/// Each directory is read and verified completely, up to four at the same time. The first at fault
+/// is answered. `O3` comes after the last of them, if there are more than 63.
 pub fn open_blocks<T: Threads + Sync, F: ReadFiles>(
     rt: &T,
     alloc: Global,

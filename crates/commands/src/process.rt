@@ -1,4 +1,4 @@
-//! The process, as the system tells of it.
+//! The process, as the system reports it.
 
 use crate::files::ReadFiles;
 use server::Memory;
@@ -7,14 +7,14 @@ use std::alloc::Global;
 /// How many bytes a page of memory has.
 const PAGE: u64 = 4096;
 
-/// The process, of which the files of the system tell.
+/// The process, as the files of the system report it.
 #[derive(Drop)]
 pub(crate) struct Process<'a, F> {
     pub(crate) alloc: Global,
     pub(crate) files: &'a F,
 }
 
-/// The number that begins a text, of at most 15 digits; 0 where none does.
+/// The number that begins a text, of at most 15 digits, or 0 if none does.
 fn number_in(text: &[u8]) -> u64 {
     let mut number = 0u64;
     for digit in text

@@ -1,4 +1,4 @@
-//! What is told of progress.
+//! What is reported of progress.
 
 ghost use Rattle.std.specs.Prelude.{◌≡◌, ◌&&◌, not, vec_len};
 
@@ -7,13 +7,13 @@ use crate::files::{ReadError, ReadFiles};
 use std::alloc::Global;
 use std::sync::atomic::{AtomicU64, Ordering};
 
-/// Files of which somebody who looks on is told which directory is read, on the host's own
-/// standard error, and how far that is.
+/// Files with a report of their reading. The report says on the host's own standard error which
+/// directory is read, and how far that is.
 #[derive(Drop)]
 pub(crate) struct Followed<'a, R, F> {
     rt: &'a R,
     files: &'a F,
-    /// Whether it is told.
+    /// Whether it is reported.
     is_told: bool,
     /// How many directories there are.
     count: usize,
@@ -22,7 +22,8 @@ pub(crate) struct Followed<'a, R, F> {
 }
 
 impl<'a, R, F> Followed<'a, R, F> {
-    /// The files, of which is told if there is a terminal and they are not to be read quietly.
+    /// The files. Their reading is reported if there is a terminal and they are not to be read
+    /// quietly.
     pub(crate) fn new(
         rt: &'a R,
         files: &'a F,
@@ -43,7 +44,7 @@ impl<'a, R, F> Followed<'a, R, F> {
     }
 }
 
-/// What is read is what the files hold, whether or not it is told of.
+/// What is read is what the files hold, whether or not it is reported.
 impl<R: Eprint + Sync, F: ReadFiles> ReadFiles for Followed<'_, R, F> {
     ghost may_read = { λ followed. F.may_read followed.files.now };
 

@@ -13,7 +13,7 @@ use std::alloc::{AllocError, Global};
 /// The most bytes of a token.
 const MAX_TOKEN: usize = 4096;
 
-/// The most bytes that are read of its file: a longer file leaves more than a token has.
+/// The most bytes that are read of its file. A longer file leaves more than a token has.
 const MAX_FILE: usize = MAX_TOKEN + 2;
 
 /// The bytes without the end of a line behind them.
@@ -33,7 +33,7 @@ fn cannot_read(alloc: Global, path: &str) -> Result<Fault, AllocError>
     Ok(Fault::CannotRead(path.to_string(alloc)?))
 }
 
-/// The token that the file at a path holds, and its owner alone may read.
+/// The token that the file at a path holds. Only the owner of the file may read it.
 fn token_at<F: ReadFiles>(alloc: Global, files: &F, path: &str) -> Result<Token, Fault>
     ensures ok { IfOk result (IsTokenAt (F.may_read files.now) path.now) }
     ensures err { IfErr result (IsTokenFault path.now) }

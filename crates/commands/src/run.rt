@@ -104,7 +104,7 @@ fn execute<
 pub struct Ending {
     /// The exit status.
     pub status: u8,
-    /// Whether the fault was told, where there is one: an error is the second writer's.
+    /// Whether the fault was reported, if there is one. An error is the second writer's.
     pub told: io::Result<()>,
 }
 
@@ -119,7 +119,7 @@ fn status_of(end: &Result<Outcome, Fault>) -> u8
     }
 }
 
-/// Tells the fault that an end is, and of another end nothing.
+/// Reports the fault that an end is, and nothing of another end.
 fn tell<E: Write>(end: &Result<Outcome, Fault>, to: &mut E) -> io::Result<()>
     ensures { IsTold end.now result (E.contents to.old) (E.contents to.new) }
 {
@@ -129,16 +129,17 @@ fn tell<E: Write>(end: &Result<Outcome, Fault>, to: &mut E) -> io::Result<()>
     }
 }
 
-/// Does what the words after the program's name ask for, tells why where it ends before that is
-/// done, and gives the exit status.
+/// Does what the words after the program's name ask for, and returns the exit status. If it ends
+/// before that is done, it reports why.
 ///
-/// 0 where it is done; 1 for a refusal, with its code on the second writer, or in the lines of a
-/// check; 2 for a fault of the words, with the usage on the second writer; 3 where a file cannot be
-/// read or written, a folder not be locked or a port not be listened on, which is named there, the
-/// first writer fails, or a server loses its listener or cannot make a thread; 4 where memory
-/// fails. The store of the demo waits for nobody else's threads; a server waits for clients, and
-/// tells what becomes of them, and what it recovered, on the host's own standard error. If that is
-/// a terminal, it is also told there which directory is read.
+/// The status is 0 if it is done. It is 1 for a refusal, with its code on the second writer, or in
+/// the lines of a check. It is 2 for a fault of the words, with the usage on the second writer. It
+/// is 3 if a file cannot be read or written, a folder cannot be locked or a port cannot be listened
+/// on, which is named on the second writer. It is also 3 if the first writer fails, or if a server
+/// loses its listener or cannot make a thread. It is 4 if there is no memory. The store of the demo
+/// waits for nobody else's threads. A server waits for clients, and reports what becomes of them,
+/// and what it recovered, on the host's own standard error. If that is a terminal, the directory
+/// that is read is also reported there.
 pub fn run<
     Q: Wait + Threads + Net<Listener = TcpListener, Stream = TcpStream> + Clock + Eprint + Sync,
     F: ReadFiles,

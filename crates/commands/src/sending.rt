@@ -9,7 +9,7 @@ ghost use Rattle.commands.specs.Sending.{AppendsPrefix};
 use answers::AnswerText;
 use std::io::{self, ErrorKind, Write};
 
-/// Writes a text whole; where the writer fails, a prefix of it was written.
+/// Writes a text whole. If the writer fails, a prefix of it was written.
 fn write_text<W: Write>(out: &mut W, text: &[u8]) -> io::Result<()>
     ensures ok { OnOk result (Appends (W.contents out.old) (W.contents out.new) text.now) }
     ensures err { OnErr result (AppendsPrefix (W.contents out.old) (W.contents out.new) text.now) }
@@ -29,7 +29,7 @@ fn write_text<W: Write>(out: &mut W, text: &[u8]) -> io::Result<()>
     Err(io::Error::from(ErrorKind::Interrupted))
 }
 
-/// Writes a text whole and passes it on; where the writer fails, a prefix of it was written.
+/// Writes a text whole and passes it on. If the writer fails, a prefix of it was written.
 pub fn send<W: Write>(out: &mut W, text: &[u8]) -> io::Result<()>
     ensures ok { OnOk result (Appends (W.contents out.old) (W.contents out.new) text.now) }
     ensures err { OnErr result (AppendsPrefix (W.contents out.old) (W.contents out.new) text.now) }
@@ -38,7 +38,7 @@ pub fn send<W: Write>(out: &mut W, text: &[u8]) -> io::Result<()>
     out.flush()
 }
 
-/// Writes pieces whole, one after another; where the writer fails, a prefix of all together was
+/// Writes pieces whole, one after another. If the writer fails, a prefix of all together was
 /// written.
 fn write_pieces<W: Write>(out: &mut W, pieces: &[Vec<u8>]) -> io::Result<()>
     ensures ok { OnOk result (Appends (W.contents out.old) (W.contents out.new) (joined pieces.now)) }
@@ -53,7 +53,7 @@ fn write_pieces<W: Write>(out: &mut W, pieces: &[Vec<u8>]) -> io::Result<()>
     Ok(())
 }
 
-/// Writes two lists of pieces whole, one after the other; where the writer fails, a prefix of both
+/// Writes two lists of pieces whole, one after the other. If the writer fails, a prefix of both
 /// together was written.
 fn write_both<W: Write>(out: &mut W, first: &[Vec<u8>], second: &[Vec<u8>]) -> io::Result<()>
     ensures ok { OnOk result (Appends (W.contents out.old) (W.contents out.new)
@@ -65,8 +65,9 @@ fn write_both<W: Write>(out: &mut W, first: &[Vec<u8>], second: &[Vec<u8>]) -> i
     write_pieces(out, second)
 }
 
-/// Writes the text of an answer and a line feed whole, and passes them on; where the writer fails,
-/// a prefix of them was written. What the answer tells twice is written twice from where it stands.
+/// Writes the text of an answer and a line feed whole, and passes them on. If the writer fails, a
+/// prefix of them was written. What the answer has twice is written twice from its one place in
+/// memory.
 pub(crate) fn send_answer<W: Write>(out: &mut W, answer: &AnswerText) -> io::Result<()>
     ensures ok { OnOk result (Appends (W.contents out.old) (W.contents out.new)
         (whole_of answer.now ++ codes "\n")) }

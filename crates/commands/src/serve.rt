@@ -33,7 +33,7 @@ use keeper::Keeper;
 use server::{
     Listeners, Schedule, ServeError, Shift, Terms, Watch, Workers, report_opening, serve_watched,
 };
-use snapshots::{Naming, Store};
+use snapshots::{Naming, Open, OpenNaming, Store};
 use std::alloc::{AllocError, Global};
 use std::io::Write;
 use std::marker::Brand;
@@ -65,7 +65,7 @@ fn line_of(alloc: Global, port: u16) -> Result<String, AllocError>
     format!(in alloc; "listening {port}\n")
 }
 
-/// Tells the port of a listener in a line.
+/// Reports the port of a listener in a line.
 fn tell_port<W: Write>(
     alloc: Global,
     listener: &TcpListener,
@@ -103,13 +103,13 @@ fn terms_of(serving: Serving<'_>) -> Terms
 /// The listeners beside that of the first port, as far as the options ask for them.
 #[derive(Clone, Copy)]
 pub(crate) struct Doors<'a> {
-    /// For those that ask how the server stands.
+    /// For those that ask for the state of the server.
     pub status: Option<&'a TcpListener>,
     /// For what a Prometheus sends and asks.
     pub prometheus: Option<&'a TcpListener>,
 }
 
-/// What those are told of that ask at a listener.
+/// What is reported to those that ask at a listener.
 pub(crate) fn watch_at<'a, F>(
     listener: &'a TcpListener,
     process: &'a Process<'a, F>,
@@ -122,10 +122,10 @@ pub(crate) fn watch_at<'a, F>(
     }
 }
 
-/// Runs workers, and answers those beside that watch, if any can.
+/// Runs workers, and meanwhile answers those that watch, if any can.
 fn run_workers<
     'a,
-    J: Naming + Send + Sync,
+    J: OpenNaming + Send + Sync,
     K: Keeper + Drop + Send,
     R: Wait + Threads + Clock + Eprint + Sync,
     F: ReadFiles,
@@ -188,9 +188,10 @@ pub(crate) fn passes_of(serving: Serving<'_>) -> usize
     }
 }
 
-/// The workers of the first port, of as many as there are seats: so many others serve the port of
-/// Prometheus, and one seat is for the cuts of the server itself, if the options ask for them.
-pub(crate) fn with_roles<J: Naming, C: Wait + Drop, K: Keeper + Drop>(
+/// The workers of the first port, of as many as there are seats. The others serve the port of
+/// Prometheus, as many as the options ask for. One seat is for the cuts of the server itself, if
+/// the options ask for them.
+pub(crate) fn with_roles<J: OpenNaming, C: Wait + Drop, K: Keeper + Drop>(
     alloc: Global,
     workers: Workers<J, C, K>,
     serving: Serving<'_>,
@@ -210,11 +211,11 @@ pub(crate) fn with_roles<J: Naming, C: Wait + Drop, K: Keeper + Drop>(
     }
 }
 
-/// Serves by these workers, under the rules that the options ask for, until each of them has ended:
-/// what each has done.
+/// Serves by these workers, under the rules that the options ask for, until each of them has ended.
+/// Returns what each has done.
 pub(crate) fn serve_workers<
     'a,
-    J: Naming + Send + Sync,
+    J: OpenNaming + Send + Sync,
     K: Keeper + Drop + Send,
     R: Wait + Threads + Net<Listener = TcpListener, Stream = TcpStream> + Clock + Eprint + Sync,
     F: ReadFiles,
@@ -245,7 +246,7 @@ pub(crate) fn serve_workers<
 }
 
 /// Serves a store over these blocks, under the rules that the options ask for, until each worker
-/// has ended: what each has done.
+/// has ended. Returns what each has done.
 fn serve_blocks<
     'a,
     J: Naming + Send + Sync,
@@ -276,7 +277,7 @@ fn serve_blocks<
 {
     let seats = seats_of(serving);
     let passes = passes_of(serving);
-    let opened = Workers::<J, &R>::open(rt, alloc, store, blocks, passes, seats)?;
+    let opened = Workers::<Open<J>, &R>::open(rt, alloc, store, blocks, passes, seats)?;
     let workers = with_roles(alloc, opened, serving)?;
     serve_workers(rt, alloc, files, workers, rules, doors, serving, out)
 }
@@ -311,7 +312,7 @@ fn listen_prometheus<R: Net<Listener = TcpListener, Stream = TcpStream>>(
     Ok(Some(listen(rt, serving.prometheus_port)?))
 }
 
-/// Opens blocks as [`open_blocks`] does, and answers those beside that watch.
+/// Opens blocks as [`open_blocks`] does, and meanwhile answers those that watch.
 fn open_watched<R: Threads + Clock + Sync, F: ReadFiles>(
     rt: &R,
     alloc: Global,
@@ -346,7 +347,7 @@ fn open_watched<R: Threads + Clock + Sync, F: ReadFiles>(
     blocks
 }
 
-/// Opens blocks, and answers those beside that watch, if any can.
+/// Opens blocks, and meanwhile answers those that watch, if any can.
 fn open_beside<R: Threads + Clock + Sync, F: ReadFiles>(
     rt: &R,
     alloc: Global,
@@ -378,7 +379,7 @@ pub(crate) fn counts_of(alloc: Global, shifts: &[Shift<'_>]) -> Result<Vec<u64>,
 }
 
 /// Serves a store over the blocks in these directories, and over them an empty head, as
-/// [`serve_blocks`] does: how many connections each worker served.
+/// [`serve_blocks`] does. Returns how many connections each worker served.
 fn serve_directories<
     R: Wait + Threads + Net<Listener = TcpListener, Stream = TcpStream> + Clock + Eprint + Sync,
     F: ReadFiles,
@@ -410,14 +411,16 @@ fn serve_directories<
     Ok(counts)
 }
 
-/// Serves a store until each worker has ended: how many connections each served, as many as were
-/// asked for. It is the one that is kept in a folder, if the options name one; else it is one over
-/// the blocks in these directories, with an empty head over them.
+/// Serves a store until each worker has ended. Returns how many connections each worker served,
+/// which is as many as were asked for. The store is that which is kept in a folder, if the options
+/// name one. Otherwise it is a store over the blocks in these directories, with an empty head over
+/// them.
 ///
-/// The rules are read, and the status port and that of Prometheus are listened on; the folder is
-/// locked and its journal replayed, or the directories are opened as by `select`; then the store is
-/// opened, the port listened on, and `listening P` written. `O5` if the port of Prometheus is asked
-/// for and the folder has a store of whole numbers, which is then as it was.
+/// The rules are read first, and the status port and that of Prometheus are listened on. Then the
+/// folder is locked and its journal replayed, or the directories are opened as by `select`. Then
+/// the store is opened, the port is listened on, and `listening P` is written. It refuses with `O5`
+/// if the port of Prometheus is asked for and the folder has a store of whole numbers, which then
+/// stays as it was.
 pub fn serve<
     R: Wait + Threads + Net<Listener = TcpListener, Stream = TcpStream> + Clock + Eprint + Sync,
     F: ReadFiles,

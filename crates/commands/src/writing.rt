@@ -34,8 +34,8 @@ fn text_of<T: Threads + Sync>(
     answer_text(rt, alloc, Rooms::none(alloc), answer)
 }
 
-/// Writes the audited answer to a query as one line, and nothing else. Each part is searched by a
-/// worker of its own, and up to four threads write a long text.
+/// Writes the audited answer to a query as one line, and nothing else. A worker of its own searches
+/// each part, and up to four threads write a long text.
 pub fn write_answer<T: Threads + Sync, W: Write>(
     rt: &T,
     alloc: Global,

@@ -2,6 +2,7 @@
 
 use crate::folder::Folder;
 use journal::{Medium, MediumError};
+use name_table::NameTable;
 
 /// The name of the journal.
 pub const JOURNAL: &str = "journal";
@@ -11,10 +12,13 @@ pub const JOURNAL: &str = "journal";
 pub struct JournalFile<F: Folder + Drop> {
     /// The folder.
     pub folder: F,
+    /// The label sets that the contents of the journal have named.
+    pub names: NameTable,
 }
 
 impl<F: Folder + Drop> Medium for JournalFile<F> {
-    ghost use Rattle.std.specs.Prelude.{Some};
+    ghost use Rattle.std.specs.Prelude.{◌≡◌, Some, refl};
+    ghost use Rattle.std.proofs.Common.{◌∙◌};
     ghost use Rattle.data_folder.specs.JournalFile.{journal_name, JournalLeft};
     ghost use Rattle.data_folder.specs.JournalLaws.{StaysBeside, all_stays, left_now, then_stays};
 
@@ -31,14 +35,17 @@ impl<F: Folder + Drop> Medium for JournalFile<F> {
     ghost left_since = { λ m t bytes. JournalLeft F.left_since m.folder t bytes };
 
     ghost beside = { λ a b.
-        StaysBeside F.shows F.kept F.moment F.left_since a.folder b.folder };
+        StaysBeside F.shows F.kept F.moment F.left_since a.folder b.folder
+        × (b.names ≡ a.names) };
 
-    ghost stays = { λ m. all_stays F.shows F.kept F.moment F.left_since m.folder };
+    ghost stays = { λ m. (all_stays F.shows F.kept F.moment F.left_since m.folder, refl) };
 
-    ghost goes_on = { λ a b c first second.
-        then_stays F.shows F.kept F.moment F.left_since
-        (λ f t u left le fits had. F.earlier f t u left le fits had)
-        a.folder b.folder c.folder first second };
+    ghost goes_on = { λ a b c first second. (
+      then_stays F.shows F.kept F.moment F.left_since
+          (λ f t u left le fits had. F.earlier f t u left le fits had)
+          a.folder b.folder c.folder first.0 second.0,
+      second.1 ∙ first.1,
+    ) };
 
     ghost only_now = { λ m bytes n left shown kept had.
         left_now n bytes left (had.0 journal_name) had.2

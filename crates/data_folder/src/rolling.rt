@@ -1,6 +1,6 @@
 //! A journal that is begun anew.
 
-ghost use Rattle.std.specs.Prelude.{◌≡◌, ℕ, List, None, true, false, Err, IfOk, IfErr, OnOk, OnErr};
+ghost use Rattle.std.specs.Prelude.{◌≡◌, ℕ, List, [], None, true, false, Err, IfOk, IfErr, OnOk, OnErr};
 ghost use Rattle.std.specs.Prelude.{IsErrOf, MatchResult};
 ghost use Rattle.std.specs.List.{AllByRecursion};
 ghost use Rattle.journal.specs.Group.{IsJournalText};
@@ -12,6 +12,8 @@ ghost use Rattle.data_folder.specs.States.{AreThere, IsApart, IsNoneOrNew, IsOld
 use crate::folder::Folder;
 use crate::journal_file::{JOURNAL, JournalFile};
 use journal::{Journal, MediumError};
+use name_table::NameTable;
+use std::alloc::Global;
 
 /// The journal in the making.
 pub const NEXT: &str = "journal.next";
@@ -44,6 +46,9 @@ pub fn roll<F: Folder + Drop>(
         → Keeps F.shows F.kept F.sound contents journal.old.medium.folder journal.old.len
         → journal.new.closed ≡ false
         → Keeps F.shows F.kept F.sound contents journal.new.medium.folder journal.new.len) }
+    // The new one has named nothing.
+    ensures named { OnOk result (journal.new.medium.names ≡ []) }
+    ensures names { OnErr result (journal.new.medium.names ≡ journal.old.medium.names) }
     ensures closed { IsErrOf result RollError.Closed → journal.old.closed ≡ true }
     ensures not_written { IsErrOf result RollError.NotWritten
         → (journal.new.closed ≡ false) × (F.failed journal.new.medium.folder ≡ true) }
@@ -76,6 +81,7 @@ pub fn roll<F: Folder + Drop>(
             }
             Ok(()) => {
                 journal.len = text.len();
+                journal.medium.names.forget(0);
                 Ok(())
             }
         },
@@ -85,6 +91,7 @@ pub fn roll<F: Folder + Drop>(
 /// Begins the journal of a folder that has none, by a text that is a whole journal. An `Err` gives
 /// the folder back: a start finds no journal in it, or this one.
 pub fn begin<F: Folder + Drop>(
+    alloc: Global,
     folder: F,
     text: &[u8],
 ) -> Result<Journal<JournalFile<F>>, (MediumError, F)>
@@ -94,6 +101,7 @@ pub fn begin<F: Folder + Drop>(
     ensures keeps { IfOk result (λ j. (new : List (List ℕ)) → IsJournalText new text.now
         → Keeps F.shows F.kept F.sound new j.medium.folder j.len) }
     ensures open { IfOk result (λ j. j.closed ≡ false) }
+    ensures named { IfOk result (λ j. j.medium.names ≡ []) }
     ensures failed { IfErr result (λ e. F.failed e.1 ≡ true) }
     // A crash at any moment of the call leaves no journal, or this one, whole.
     ensures any_moment { (new : List (List ℕ)) → IsJournalText new text.now → MatchResult result
@@ -110,7 +118,10 @@ pub fn begin<F: Folder + Drop>(
         Ok(()) => match folder.replace(NEXT, JOURNAL) {
             Err(error) => Err((error, folder)),
             Ok(()) => Ok(Journal {
-                medium: JournalFile { folder },
+                medium: JournalFile {
+                    folder,
+                    names: NameTable::new(alloc),
+                },
                 len: text.len(),
                 closed: false,
             }),

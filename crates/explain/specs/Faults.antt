@@ -4,7 +4,8 @@ use Rattle.std.specs.Fmt.{with_newline}
 use Rattle.audit_command.specs.Faults as audits
 use Rattle.store_command.specs.Faults as stores
 use Rattle.explain.specs.declared.fault.Fault.{Fault}
-use Rattle.explain.specs.declared.fault.Fault.TheVariants.{Audit, NoSeries, NoMeaning, Beside, Store}
+use Rattle.explain.specs.declared.fault.Fault.TheVariants.{Audit, NoSeries, NoMeaning, Beside}
+use Rattle.explain.specs.declared.fault.Fault.TheVariants.{Store}
 
 -- the exit status
 abbrev pub status_of : Fault → ℕ

@@ -14,7 +14,8 @@ use Rattle.explain.specs.Faults.{status_of, line_of}
 use Rattle.explain.specs.Showing.{IsAnswer, IsAnswerFault}
 use Rattle.explain.specs.declared.command.Asked.{Asked}
 use Rattle.explain.specs.declared.fault.Fault.{Fault}
-use Rattle.explain.specs.declared.fault.Fault.TheVariants.{Audit, NoSeries, NoMeaning, Beside, Store}
+use Rattle.explain.specs.declared.fault.Fault.TheVariants.{Audit, NoSeries, NoMeaning, Beside}
+use Rattle.explain.specs.declared.fault.Fault.TheVariants.{Store}
 
 -- the page was written, and nothing else; it claims that no series is missing, or it does not
 pub record IsWritten (reads : Host) (input : Option (List ℕ)) (asked : Asked)

@@ -215,8 +215,8 @@ pub record IsAnswer (reads : Host) (input : Option (List ℕ)) (asked : Asked) (
   pub has_read : HasRead reads input asked found
   pub page_of_found : IsPageOfFound asked found page
 
--- no directory stands beside a store, the query is accepted, and so is the series that somebody asks
--- about
+-- no directory stands beside a store, the query is accepted, and so is the series that somebody
+-- asks about
 pub record IsNamed (asked : Asked) : Type 0 where
   pub one_aim : IsOneAim asked
   pub query : IsAllowed asked.audit
@@ -260,8 +260,8 @@ pub record IsUnjudged (reads : Host) (input : Option (List ℕ)) (asked : Asked)
 
 -- Why no page is written: by directories beside a store; by the query, if there are none; by the
 -- series that is asked about, if the query is accepted too; by what is said of the values, if that
--- is; by the reply, if all are; by what is named, if there is a reply too; or by the writer, if there
--- is a page.
+-- is; by the reply, if all are; by what is named, if there is a reply too; or by the writer, if
+-- there is a page.
 pub data IsAnswerFault (reads : Host) (input : Option (List ℕ)) (asked : Asked)
     (fault : Fault) : Type 0 where
   by_aim : IsBeside asked fault → IsAnswerFault reads input asked fault

@@ -7,8 +7,8 @@ use std::alloc::Global;
 use store_audit::{StateReport, StoreJudgement, judge_store};
 use whole_audit::StateLine;
 
-/// Twelve samples of six series, a cut at 20, one more sample, the same again, and a deletion of what
-/// `{job="a"}` has.
+/// Twelve samples of six series, a cut at 20, one more sample, the same again, and a deletion of
+/// what `{job="a"}` has.
 #[rattlefmt::skip]
 const JOURNAL: &[u8] = &[
     0x46, 0x5A, 0x4C, 0x4A, 0x01, 0x00, 0x00, 0x00, 0xA4, 0x2D, 0xB6, 0x69, 0x7E, 0x01, 0x06, 0x02,
@@ -51,6 +51,10 @@ const BEHIND_A_DELETION: &str =
 /// The first with another value at 20, in the head and in the rows.
 const WITH_ANOTHER_VALUE: &str =
     r#"{"parts":[{"intervals":[{"from":1,"until":2,"verdict":"match"},{"from":2,"until":4,"verdict":1},{"from":4,"until":6,"verdict":0},{"from":6,"until":4294967296,"verdict":"match"}],"part":"head","rows":[{"labels":{"__name__":"up","job":"a"},"samples":[[10,1],[20,7]]},{"labels":{"__name__":"up","job":"a","zone":"x"},"samples":[[10,6],[20,6]]}],"separators":[1,2,4,6]}],"rows":[{"labels":{"__name__":"up","job":"a"},"samples":[[10,1],[20,7]]},{"labels":{"__name__":"up","job":"a","zone":"x"},"samples":[[10,6],[20,6]]}]}"#;
+
+/// The first with rows that lack a sample.
+const WITH_A_SAMPLE_LESS: &str =
+    r#"{"parts":[{"intervals":[{"from":1,"until":2,"verdict":"match"},{"from":2,"until":4,"verdict":1},{"from":4,"until":6,"verdict":0},{"from":6,"until":4294967296,"verdict":"match"}],"part":"head","rows":[{"labels":{"__name__":"up","job":"a"},"samples":[[10,1],[20,1]]},{"labels":{"__name__":"up","job":"a","zone":"x"},"samples":[[10,6],[20,6]]}],"separators":[1,2,4,6]}],"rows":[{"labels":{"__name__":"up","job":"a"},"samples":[[10,1]]},{"labels":{"__name__":"up","job":"a","zone":"x"},"samples":[[10,6],[20,6]]}]}"#;
 
 /// The block behind the deletion, beside the head before it.
 const OF_TWO_STATES: &str =
@@ -104,4 +108,21 @@ fn other_replies_are_right_of_none(rt: HostRuntime) {
     assert_eq!(rt; found_at(rt.alloc(), WITH_ANOTHER_VALUE, 0, 100, 0), None);
     assert_eq!(rt; found_at(rt.alloc(), OF_TWO_STATES, 0, 100, 0), None);
     assert_eq!(rt; found_at(rt.alloc(), AT_FIRST, 0, 100, 2), None);
+}
+
+/// After how many events the state before `since` is of which the reply is right, if it is right of
+/// none from there on.
+fn earlier_at(alloc: Global, reply: &str, from: i64, to: i64, since: usize) -> Option<usize> {
+    report_of(alloc, &query_of(alloc, from, to)?, reply, since)?.earlier
+}
+
+#[test]
+fn a_state_before_is_told_of_a_reply_that_is_right_of_it_alone(rt: HostRuntime) {
+    assert_eq!(rt; earlier_at(rt.alloc(), AT_FIRST, 0, 100, 2), Some(1));
+    assert_eq!(rt; earlier_at(rt.alloc(), BEHIND_A_CUT, 0, 100, 5), Some(2));
+    assert_eq!(rt; earlier_at(rt.alloc(), WITHOUT_A_BLOCK, 30, 40, 5), Some(4));
+    assert_eq!(rt; earlier_at(rt.alloc(), AT_FIRST, 0, 100, 1), None);
+    assert_eq!(rt; earlier_at(rt.alloc(), WITH_ANOTHER_VALUE, 0, 100, 2), None);
+    assert_eq!(rt; earlier_at(rt.alloc(), WITH_A_SAMPLE_LESS, 0, 100, 2), None);
+    assert_eq!(rt; earlier_at(rt.alloc(), OF_TWO_STATES, 0, 100, 6), None);
 }

@@ -38,7 +38,7 @@ pair = both string string
 pair_reads : Reads pair pair_at
 pair_reads = both_reads string string string_at string_at string_reads string_reads
 
-labels_reads : Reads form.labels labels_at
+pub labels_reads : Reads form.labels labels_at
 labels_reads =
     such_reads (list pair) (list_at pair_at) (list_reads pair pair_at pair_reads) form.is_label_set
 

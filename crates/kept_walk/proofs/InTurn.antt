@@ -2,7 +2,7 @@
 use Rattle.std.proofs.Common.{◌≡◌, ℕ, zero, suc, ◌+◌, ◌<◌, ◌≤◌, List, [], ◌∷◌, ◌++◌, length}
 use Rattle.std.proofs.Common.{take, get_or, refl, sym, ap, subst, ◌∙◌, arith, Vec, Result, Err}
 use Rattle.std.specs.declared.alloc.Global.{Global}
-use Rattle.std.specs.List.{AllZip, Contains}
+use Rattle.std.specs.List.{AllZip}
 use Rattle.std.proofs.lemmas.List.{map-append, take_all}
 use Rattle.std.proofs.lemmas.Grind.{take_at_read}
 use Rattle.journal.specs.Contents.{contents_in}
@@ -53,16 +53,6 @@ module _ {A : Type 0} (R : List ℕ → A → Type 0) where
   none_is vs i d content lt is none xs all =
       let one = one_of vs i d xs lt all in
       none one.0 (subst (λ (c : List ℕ). R c one.0) (sym is) one.1)
-
-  -- the one at a place, and that it is among those
-  pub placed : (front : List (List ℕ)) (last : List ℕ) (rest : List (List ℕ)) (xs : List A)
-      → AllZip R (front ++ last ∷ rest) xs → (x : A) × (R last x) × Contains xs x
-  placed [] last rest [] all = absurd all
-  placed [] last rest (x ∷ xs) all = (x, all.0, (0, omega arith, refl))
-  placed (c ∷ front) last rest [] all = absurd all
-  placed (c ∷ front) last rest (x ∷ xs) all =
-      let later = placed front last rest xs all.1 in
-      (later.0, later.1, (suc later.2.0, omega (arith, later.2.1), later.2.2))
 
   -- where a content spells one thing, contents spell one list
   pub unique : ((c : List ℕ) (x y : A) → R c x → R c y → x ≡ y) → (cs : List (List ℕ))

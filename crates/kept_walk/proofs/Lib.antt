@@ -1,11 +1,16 @@
+pub mod ByNumber
 pub mod Contents
 pub mod Counts
+pub mod FromNames
 pub mod InTurn
+pub mod Known
 pub mod LabelSets
 pub mod Loops
+pub mod LoopsBy
 pub mod NextTo
 pub mod OneHead
 pub mod OneStore
 pub mod Readers
 pub mod Refusing
+pub mod States
 pub mod Stops

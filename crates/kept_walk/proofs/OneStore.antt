@@ -3,20 +3,20 @@ use Rattle.std.proofs.Common.{◌≡◌, ◌≢◌, ℕ, true, false, List, [], 
 use Rattle.std.proofs.Common.{refl, sym, ap, subst, ◌∙◌, inl, inr, length}
 use Rattle.std.specs.Prelude.{IfOk, IfErr}
 use Rattle.std.specs.List.{Contains}
-use Rattle.wire.proofs.Steps.{same_value}
 use Rattle.journal.specs.Records.{Recovers}
-use Rattle.kept_walk.specs.Contents.{AreContents, AreEvents, BeginsWithHead, IsKept, SpellsEvent}
+use Rattle.kept_walk.specs.Contents.{AreContents, AreEvents, AreFrom, BeginsWithHead, IsKept}
+use Rattle.kept_walk.specs.Contents.{SpellsBy, SpellsEvent}
 use Rattle.kept_walk.specs.Contents.{begins_event, head_kind, of_events}
 use Rattle.kept_walk.specs.Fields as form
 use Rattle.kept_walk.specs.Kept.{Event, batch, deletion, cut, Store}
+use Rattle.kept_walk.specs.Numbered.{Names}
 use Rattle.kept_walk.specs.Refusals.{Denies, FindsStore, GivesStore, HasRefusedMatcher, StandBehind}
 use Rattle.kept_walk.specs.Refusals.{IsNoEvent, IsRefusedEvent, StopsAt}
 use Rattle.kept_walk.specs.declared.error.KeptError.{KeptError}
 use Rattle.kept_walk.specs.declared.error.KeptError.TheVariants as errors
 use Rattle.kept_walk.specs.declared.kept.Values.{Values}
 use Rattle.kept_walk.specs.declared.kept.Values.TheVariants.{Whole, Doubles}
-use Rattle.kept_walk.proofs.Contents.{event_read}
-use Rattle.kept_walk.proofs.InTurn.{placed, unique}
+use Rattle.kept_walk.proofs.FromNames.{one_by, one_from, placed_from}
 use Rattle.kept_walk.proofs.OneHead.{one_head, one_store}
 
 abbrev Contents : Type 0
@@ -46,12 +46,19 @@ event_begins content others (deletion matchers from to) s =
 event_begins content others (cut time) s =
     ap (λ (c : List ℕ). begins_event (c ∷ others)) s.text
 
+begins_so : (names : Names) (content : List ℕ) (others : Contents) (event : Event) (after : Names)
+    → SpellsBy names content event after → begins_event (content ∷ others) ≡ true
+begins_so names content others event after (inl s) = event_begins content others event s.0
+begins_so names content others event after (inr s) =
+    ap (λ (c : List ℕ). begins_event (c ∷ others)) s.2.text
+
 events_begin : (contents : Contents) (events : List Event) → events ≢ []
     → AreEvents contents events → begins_event contents ≡ true
 events_begin [] [] some all = absurd (some refl)
-events_begin [] (e ∷ events) some all = absurd all
-events_begin (c ∷ contents) [] some all = absurd all
-events_begin (c ∷ contents) (e ∷ events) some all = event_begins c contents e all.0
+events_begin [] (e ∷ events) some all = absurd all.1
+events_begin (c ∷ contents) [] some all = absurd all.1
+events_begin (c ∷ contents) (e ∷ events) some all =
+    begins_so [] c contents e all.1.0 all.1.1
 
 apart : {X : Type 0} (contents : Contents) → begins_event contents ≡ true
     → begins_event contents ≡ false → X
@@ -59,12 +66,9 @@ apart contents t f = absurd (let e : true ≡ false = sym t ∙ f in cc)
 
 -- one store
 
-one_event : (c : List ℕ) (x y : Event) → SpellsEvent c x → SpellsEvent c y → x ≡ y
-one_event c x y a b = same_value x y (sym (event_read c x a) ∙ event_read c y b)
-
 one_list : (contents : Contents) (xs ys : List Event) → AreEvents contents xs
     → AreEvents contents ys → xs ≡ ys
-one_list = unique SpellsEvent one_event
+one_list contents xs ys a b = (one_from [] contents xs ys a.0 b.0 a.1 b.1).0
 
 pub one_of_contents : (contents : Contents) (a b : Store) → AreContents contents a
     → AreContents contents b → a ≡ b
@@ -94,12 +98,12 @@ events_behind contents store behind (inr x) (inl y) =
 events_behind contents store behind (inr x) (inr y) =
     subst (λ (cs : Contents). AreEvents cs store.events) (sym y.1) x.2
 
-last_of : (P : List ℕ → Type 0) (behind : Contents) (at : ℕ) (events : List Event)
+last_of : (P : Names → List ℕ → Type 0) (behind : Contents) (at : ℕ) (events : List Event)
     (s : StopsAt P behind at) → AreEvents behind events
-    → (e : Event) × SpellsEvent s.last e × Contains events e
+    → (e : Event) × (after : Names) × SpellsBy s.names s.last e after × Contains events e
 last_of P behind at events s all =
-    placed SpellsEvent s.front s.last s.rest events
-    (subst (λ (cs : Contents). AreEvents cs events) s.whole all)
+    placed_from [] s.front s.last s.rest events s.events all.0 s.names
+    (subst (λ (cs : Contents). AreFrom [] cs events all.0) s.whole all.1) s.before
 
 no_head : (contents : Contents) (store : Store) → AreContents contents store
     → begins_event contents ≡ false
@@ -117,12 +121,13 @@ only_store contents store (Err errors.Head) are h = no_head contents store are h
 only_store contents store (Err (errors.Change at)) are h =
     let all = events_behind contents store h.0 are h.1 in
     let last = last_of IsNoEvent h.0 at store.events h.2 all in
-    h.2.stop last.0 last.1
+    h.2.stop last.0 last.1 last.2
 only_store contents store (Err (errors.Matcher at)) are h =
     let all = events_behind contents store h.0 are h.1 in
     let last = last_of IsRefusedEvent h.0 at store.events h.2 all in
     let said = h.2.stop in
-    (last.0, last.2, subst HasRefusedMatcher (one_event h.2.last said.0 last.0 said.1 last.1) said.2)
+    let same = one_by h.2.names h.2.last said.0 last.0 said.1 last.1 said.2 last.2 in
+    (last.0, last.3, subst HasRefusedMatcher same.0 said.3)
 
 -- of a file
 

@@ -236,7 +236,7 @@ pub record Spells {A : Type 0} (form : Form A) (bytes : List ℕ) (a : A) : Type
   pub text : bytes ≡ form.text a
   pub fits : form.fits a
 
-ended : {A : Type 0} (x : A × List ℕ) (a : A) → if_ended x ≡ Ok a → (x.0 ≡ a) × (x.1 ≡ [])
+pub ended : {A : Type 0} (x : A × List ℕ) (a : A) → if_ended x ≡ Ok a → (x.0 ≡ a) × (x.1 ≡ [])
 ended (b, []) a h = (same_value b a h, refl)
 ended (b, c ∷ rest) a h = absurd cc
 

@@ -1,14 +1,15 @@
 -- Where a loop over the contents of events stops.
-use Rattle.std.proofs.Common.{◌≡◌, ℕ, suc, ◌<◌, List, ◌∷◌, ◌++◌, map, length, take, drop, get_or}
+use Rattle.std.proofs.Common.{◌≡◌, ℕ, suc, ◌<◌, List, [], ◌∷◌, ◌++◌, map, length, take, drop, get_or}
 use Rattle.std.proofs.Common.{Err, sym, ap, ◌∙◌, arith, Vec}
 use Rattle.std.specs.declared.alloc.Global.{Global}
 use Rattle.std.proofs.Math.Seq.{drop-cons}
 use Rattle.std.proofs.lemmas.List.{length-map, map-append, take-append-drop}
-use Rattle.std.proofs.lemmas.Slice.Zip.{AllZip-long}
 use Rattle.journal.specs.Contents.{contents_in}
-use Rattle.kept_walk.specs.Contents.{AreEvents, SpellsEvent}
+use Rattle.kept_walk.specs.Contents.{AreFrom}
 use Rattle.kept_walk.specs.Kept.{event_of}
+use Rattle.kept_walk.specs.Numbered.{Names}
 use Rattle.kept_walk.specs.Refusals.{DeniesEvents, FindsChange, StopsAt, refused_at}
+use Rattle.kept_walk.proofs.FromNames.{from_long}
 use Rattle.kept_walk.specs.declared.fault.EventFault.{EventFault}
 use Rattle.kept_walk.specs.declared.fault.EventFault.TheVariants as faults
 use Rattle.kept_walk.specs.declared.kept.Change.{Change}
@@ -16,11 +17,11 @@ use Rattle.kept_walk.specs.declared.kept.Change.{Change}
 abbrev Bytes : Type 0
 Bytes = Vec ℕ Global
 
-module _ (vs : List Bytes) (i : ℕ) (d : Bytes) (content : List ℕ) (changes : List Change) (at : ℕ)
-    (lt : i < length vs) (is : content ≡ (get_or vs i d).items)
-    (so_far : AreEvents (contents_in (take i vs)) (map event_of changes))
+module _ (vs : List Bytes) (i : ℕ) (d : Bytes) (content : List ℕ) (changes : List Change)
+    (names : Names) (at : ℕ) (lt : i < length vs) (is : content ≡ (get_or vs i d).items)
+    (so_far : AreFrom [] (contents_in (take i vs)) (map event_of changes) names)
     (counted : at ≡ length changes) where
-  stops : (P : List ℕ → Type 0) → P content → StopsAt P (contents_in vs) at
+  stops : (P : Names → List ℕ → Type 0) → P names content → StopsAt P (contents_in vs) at
   stops P p =
       let items = λ (v : Bytes). v.items in
       let front = contents_in (take i vs) in
@@ -31,6 +32,7 @@ module _ (vs : List Bytes) (i : ℕ) (d : Bytes) (content : List ℕ) (changes :
         last = content;
         rest = contents_in (drop (suc i) vs);
         events = map event_of changes;
+        names = names;
         whole = ap contents_in split
             ∙ (map-append items (take i vs) (get_or vs i d ∷ drop (suc i) vs)
             ∙ ap (λ (c : List ℕ). front ++ c ∷ contents_in (drop (suc i) vs)) (sym is));
@@ -39,13 +41,13 @@ module _ (vs : List Bytes) (i : ℕ) (d : Bytes) (content : List ℕ) (changes :
           arith,
           counted,
           length-map changes event_of,
-          AllZip-long SpellsEvent front (map event_of changes) so_far,
+          from_long [] front (map event_of changes) names so_far,
         );
         stop = p;
       }
 
-  pub denied : (fault : EventFault) → FindsChange content (Err fault)
+  pub denied : (fault : EventFault) (after : Names) → FindsChange names content after (Err fault)
       → DeniesEvents (contents_in vs) (refused_at at fault)
-  denied faults.Memory h = tt
-  denied faults.Form h = stops _ h
-  denied faults.Matcher h = stops _ h
+  denied faults.Memory after h = tt
+  denied faults.Form after h = stops _ h
+  denied faults.Matcher after h = stops _ h

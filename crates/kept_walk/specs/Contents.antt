@@ -1,5 +1,6 @@
 -- Which head and which events the contents of a journal are.
-use Rattle.std.specs.Prelude.{◌≡◌, ◌≢◌, ◌⊎◌, ◌+◌, ℕ, ℤ, negsuc, Bool, true, false, ◌&&◌, List, []}
+use Rattle.std.specs.Prelude.{◌≡◌, ◌≢◌, ◌⊎◌, ◌+◌, ℕ, ℤ, pos, negsuc, Bool, true, false, ◌&&◌}
+use Rattle.std.specs.Prelude.{List, []}
 use Rattle.std.specs.Prelude.{◌∷◌, ◌++◌, length, map, nat_le}
 use Rattle.std.specs.List.{AllZip, list_all}
 use Rattle.labels.specs.Contents.{is_time}
@@ -11,6 +12,7 @@ use Rattle.kept_walk.specs.declared.kept.Values.TheVariants.{Whole, Doubles}
 use Rattle.kept_walk.specs.Fields as form
 use Rattle.kept_walk.specs.Forms.{signed}
 use Rattle.kept_walk.specs.Kept.{Event, batch, deletion, cut, Series, Store}
+use Rattle.kept_walk.specs.Numbered.{AreListed, IsRun, Names}
 
 -- EVENTS
 
@@ -30,7 +32,7 @@ is_bounded (deletion matchers from to) =
     nat_le (length matchers) 16 && is_query_range from to
 is_bounded (cut time) = is_time time
 
--- a kind, 1 to 3, and the fields
+-- a kind, 1 to 3, and the fields: no series is named by number
 abbrev pub event_text : Event → List ℕ
 event_text (batch runs) = 1 ∷ form.runs.text runs
 event_text (deletion matchers from to) = 2 ∷ form.deletion_parts.text (matchers, (from, to))
@@ -47,9 +49,35 @@ pub record SpellsEvent (content : List ℕ) (event : Event) : Type 0 where
   pub fits : HasText event
   pub bounded : is_bounded event ≡ true
 
--- the contents are those of the events, in their order
+-- the content is that of a batch whose series are named by number: the kind 4, and its fields. These
+-- names were given before it, and those after it.
+pub record SpellsNumbered (names : Names) (content : List ℕ) (runs : List Row) (after : Names)
+    : Type 0 where
+  pub fields : List ℕ
+  pub last : ℤ
+  pub text : content ≡ 4 ∷ fields
+  pub listed : AreListed IsRun (names, pos 0) runs fields (after, last)
+  pub differ : form.each_next form.differs runs ≡ true
+  pub bounded : is_bounded (batch runs) ≡ true
+
+-- the content is that of the event, after these names
+abbrev pub SpellsBy : Names → List ℕ → Event → Names → Type 0
+SpellsBy names content event after =
+    (SpellsEvent content event × (after ≡ names))
+    ⊎ ((runs : List Row) × (event ≡ batch runs) × SpellsNumbered names content runs after)
+
+-- the contents are those of the events, in their order, each after the names that those before it
+-- gave
+abbrev pub AreFrom : Names → List (List ℕ) → List Event → Names → Type 0
+AreFrom names [] [] after = names ≡ after
+AreFrom names [] (event ∷ events) after = ⊥
+AreFrom names (content ∷ contents) [] after = ⊥
+AreFrom names (content ∷ contents) (event ∷ events) after =
+    (mid : Names) × SpellsBy names content event mid × AreFrom mid contents events after
+
+-- the contents behind a head are those of the events: they begin with no names
 abbrev pub AreEvents : List (List ℕ) → List Event → Type 0
-AreEvents contents events = AllZip SpellsEvent contents events
+AreEvents contents events = (after : Names) × AreFrom [] contents events after
 
 -- HEADS
 
@@ -93,7 +121,7 @@ of_events events = record {
 
 -- whether the first content begins as that of an event
 abbrev pub begins_event : List (List ℕ) → Bool
-begins_event ((kind ∷ content) ∷ contents) = nat_le 1 kind && nat_le kind 3
+begins_event ((kind ∷ content) ∷ contents) = nat_le 1 kind && nat_le kind 4
 begins_event contents = false
 
 -- the contents are a head and the events behind it, or events alone, of a store that had nothing

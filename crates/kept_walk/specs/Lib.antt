@@ -3,6 +3,8 @@ pub mod Contents
 pub mod Fields
 pub mod Forms
 pub mod Kept
+pub mod Numbered
+pub mod NumberedReading
 pub mod Outcome
 pub mod Parts
 pub mod Reading

@@ -1,5 +1,5 @@
 -- What is read, without where it lies in memory.
-use Rattle.std.specs.Prelude.{ℕ, List, [], map, Result, Vec}
+use Rattle.std.specs.Prelude.{ℕ, Bool, false, List, [], ◌∷◌, ◌==◌, map, Result, Vec}
 use Rattle.std.specs.Borrow.{Bor}
 use Rattle.std.specs.declared.alloc.Global.{Global}
 use Rattle.matchers.specs.Views.{MatcherView}
@@ -50,3 +50,8 @@ head_seen x = (head_in x.0, contents_in x.1.now)
 abbrev pub FindsHead : List (List ℕ) → Result (HeadParts × Bor (List Bytes)) Fault → Type 0
 FindsHead contents result =
     Finds head_seen (λ (p : Store × List (List ℕ)). BeginsWithHead contents p.0 p.1) result
+
+-- whether a content is that of a batch by number
+abbrev pub is_numbered : List ℕ → Bool
+is_numbered [] = false
+is_numbered (kind ∷ fields) = kind == 4

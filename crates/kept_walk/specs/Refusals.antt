@@ -1,5 +1,5 @@
 -- When a journal is refused, and where.
-use Rattle.std.specs.Prelude.{◌≡◌, ◌⊎◌, ◌<◌, ⊤, ℕ, true, false, List, ◌∷◌, ◌++◌, length, map}
+use Rattle.std.specs.Prelude.{◌≡◌, ◌⊎◌, ◌<◌, ⊤, ℕ, true, false, List, [], ◌∷◌, ◌++◌, length, map}
 use Rattle.std.specs.Prelude.{Result, Ok, Err, Vec}
 use Rattle.std.specs.List.{Contains}
 use Rattle.std.specs.declared.alloc.Global.{Global}
@@ -11,18 +11,19 @@ use Rattle.journal.specs.Records.{file_of, header, magic, Recovers, Splits}
 use Rattle.journal.specs.Records.{Begins, BeginsOtherwise, HasBadLength, IsDamaged}
 use Rattle.journal.specs.declared.error.JournalError.{JournalError}
 use Rattle.journal.specs.declared.error.JournalError.TheVariants as records
-use Rattle.kept_walk.specs.Contents.{AreContents, AreEvents, BeginsWithHead, begins_event}
-use Rattle.kept_walk.specs.Contents.{SpellsEvent}
+use Rattle.kept_walk.specs.Contents.{AreContents, AreEvents, AreFrom, BeginsWithHead, begins_event}
+use Rattle.kept_walk.specs.Contents.{SpellsBy, SpellsEvent}
 use Rattle.kept_walk.specs.Kept.{Event, batch, deletion, cut, event_of, Store}
+use Rattle.kept_walk.specs.Numbered.{Names}
 use Rattle.kept_walk.specs.declared.fault.EventFault.{EventFault}
 use Rattle.kept_walk.specs.declared.fault.EventFault.TheVariants as faults
 use Rattle.kept_walk.specs.declared.kept.Change.{Change}
 use Rattle.kept_walk.specs.declared.error.KeptError.{KeptError}
 use Rattle.kept_walk.specs.declared.error.KeptError.TheVariants as errors
 
--- the content is that of no event
-abbrev pub IsNoEvent : List ℕ → Type 0
-IsNoEvent content = (event : Event) → SpellsEvent content event → ⊥
+-- the content is that of no event, after these names
+abbrev pub IsNoEvent : Names → List ℕ → Type 0
+IsNoEvent names content = (event : Event) (after : Names) → SpellsBy names content event after → ⊥
 
 -- `Matcher::new` may refuse it: its name is none, or it has a pattern that is too long or that
 -- `regex` may not build
@@ -41,8 +42,10 @@ HasRefusedMatcher (deletion matchers from to) = HasRefused matchers
 HasRefusedMatcher (cut time) = ⊥
 
 -- the content is that of such a deletion
-abbrev pub IsRefusedEvent : List ℕ → Type 0
-IsRefusedEvent content = (event : Event) × SpellsEvent content event × HasRefusedMatcher event
+abbrev pub IsRefusedEvent : Names → List ℕ → Type 0
+IsRefusedEvent names content =
+    (event : Event) × (after : Names) × SpellsBy names content event after
+    × HasRefusedMatcher event
 
 -- the change that was made of an event, or a refusal of one of its matchers
 abbrev pub Builds : Event → Result Change EventFault → Type 0
@@ -51,23 +54,32 @@ Builds event (Err faults.Memory) = ⊤
 Builds event (Err faults.Form) = ⊥
 Builds event (Err faults.Matcher) = HasRefusedMatcher event
 
--- the change that a content spells, or why there is none
-abbrev pub FindsChange : List ℕ → Result Change EventFault → Type 0
-FindsChange content (Ok change) = SpellsEvent content (event_of change)
-FindsChange content (Err faults.Memory) = ⊤
-FindsChange content (Err faults.Form) = IsNoEvent content
-FindsChange content (Err faults.Matcher) = IsRefusedEvent content
+-- the change that a content spells which names no series by number, or why there is none
+abbrev pub FindsPlain : List ℕ → Result Change EventFault → Type 0
+FindsPlain content (Ok change) = SpellsEvent content (event_of change)
+FindsPlain content (Err faults.Memory) = ⊤
+FindsPlain content (Err faults.Form) = (event : Event) → SpellsEvent content event → ⊥
+FindsPlain content (Err faults.Matcher) =
+    (event : Event) × SpellsEvent content event × HasRefusedMatcher event
+
+-- the change that a content spells after these names, with the names after it, or why there is none
+abbrev pub FindsChange : Names → List ℕ → Names → Result Change EventFault → Type 0
+FindsChange names content after (Ok change) = SpellsBy names content (event_of change) after
+FindsChange names content after (Err faults.Memory) = ⊤
+FindsChange names content after (Err faults.Form) = IsNoEvent names content
+FindsChange names content after (Err faults.Matcher) = IsRefusedEvent names content
 
 -- so many contents in front are those of events, and this is so of the next
-pub record StopsAt (P : List ℕ → Type 0) (contents : List (List ℕ)) (at : ℕ) : Type 0 where
+pub record StopsAt (P : Names → List ℕ → Type 0) (contents : List (List ℕ)) (at : ℕ) : Type 0 where
   pub front : List (List ℕ)
   pub last : List ℕ
   pub rest : List (List ℕ)
   pub events : List Event
+  pub names : Names
   pub whole : contents ≡ front ++ last ∷ rest
-  pub before : AreEvents front events
+  pub before : AreFrom [] front events names
   pub counted : at ≡ length front
-  pub stop : P last
+  pub stop : P names last
 
 abbrev pub DeniesEvents : List (List ℕ) → KeptError → Type 0
 DeniesEvents contents errors.Memory = ⊤

@@ -1,17 +1,20 @@
 //! Reading changes.
 
-ghost use Rattle.std.specs.Prelude.{◌≡◌, IfOk, IsErrOf};
+ghost use Rattle.std.specs.Prelude.{◌≡◌, ◌∷◌, false, IfOk, IsErrOf, MatchOption};
 ghost use Rattle.journal.specs.Contents.{contents_in};
-ghost use Rattle.kept_walk.specs.Parts.{event_in, matcher_in, matchers_in};
-ghost use Rattle.kept_walk.specs.Refusals.{Builds, FindsChange, FindsChanges, HasRefused};
+ghost use Rattle.kept_walk.specs.Numbered.{AreBytes};
+ghost use Rattle.kept_walk.specs.Parts.{event_in, is_numbered, matcher_in, matchers_in};
+ghost use Rattle.kept_walk.specs.Refusals.{Builds, FindsChange, FindsChanges, FindsPlain, HasRefused};
 ghost use Rattle.kept_walk.specs.Refusals.{MayBeRefused, refused_at};
 
 use crate::error::KeptError;
 use crate::events::read_event;
 use crate::fault::{EventFault, Fault};
 use crate::kept::Change;
+use crate::numbers::numbered_of;
 use crate::parts::{EventParts, MatcherParts};
 use matchers::{Matcher, MatcherError};
+use name_table::NameTable;
 use std::alloc::Global;
 
 fn built_matcher(alloc: Global, parts: &MatcherParts<'_>) -> Result<Matcher, EventFault>
@@ -55,14 +58,54 @@ fn built(alloc: Global, parts: EventParts<'_>) -> Result<Change, EventFault>
     }
 }
 
-/// The change that a content spells.
-fn read_change(alloc: Global, content: &[u8]) -> Result<Change, EventFault>
-    ensures { FindsChange content.now result }
+/// What stands behind the kind of a batch whose series are named by number.
+fn fields_of(content: &[u8]) -> Option<&[u8]>
+    ensures { MatchOption result (is_numbered content.now ≡ false)
+        (λ fields. content.now ≡ 4 ∷ fields.now) }
+{
+    match content {
+        [4, fields @ ..] => Some(fields),
+        _ => None,
+    }
+}
+
+/// The change that a content spells, which names no series by number.
+fn plain_change(alloc: Global, content: &[u8]) -> Result<Change, EventFault>
+    ensures { FindsPlain content.now result }
 {
     match read_event(alloc, content) {
         Ok(parts) => built(alloc, parts),
         Err(Fault::Memory) => Err(EventFault::Memory),
         Err(Fault::Form) => Err(EventFault::Form),
+    }
+}
+
+/// The batch whose fields these are.
+fn numbered_change(
+    alloc: Global,
+    names: &mut NameTable,
+    fields: &[u8],
+) -> Result<Change, EventFault>
+    requires { AreBytes names.old }
+    ensures found { FindsChange names.old (4 ∷ fields.now) names.new result }
+    ensures bytes { IfOk result (λ change. AreBytes names.new) }
+{
+    match numbered_of(alloc, names, fields) {
+        Ok(runs) => Ok(Change::Batch(runs)),
+        Err(Fault::Memory) => Err(EventFault::Memory),
+        Err(Fault::Form) => Err(EventFault::Form),
+    }
+}
+
+/// The change that a content spells after the names that there are.
+fn read_change(alloc: Global, names: &mut NameTable, content: &[u8]) -> Result<Change, EventFault>
+    requires { AreBytes names.old }
+    ensures found { FindsChange names.old content.now names.new result }
+    ensures bytes { IfOk result (λ change. AreBytes names.new) }
+{
+    match fields_of(content) {
+        Some(fields) => numbered_change(alloc, names, fields),
+        None => plain_change(alloc, content),
     }
 }
 
@@ -82,8 +125,9 @@ pub(crate) fn each_change(alloc: Global, contents: &[Vec<u8>]) -> Result<Vec<Cha
     ensures { FindsChanges (contents_in contents.now) result }
 {
     let mut changes = Vec::new(alloc);
+    let mut names = NameTable::new(alloc);
     for content in contents {
-        match read_change(alloc, content) {
+        match read_change(alloc, &mut names, content) {
             Ok(change) => changes.push(change)?,
             Err(fault) => return Err(refused_at(changes.len(), fault)),
         }

@@ -21,7 +21,7 @@ use wire::Cut;
 const MAX_BATCH: usize = 4_096;
 
 /// Whether runs have at most so many samples.
-fn are_few(runs: &[Row]) -> bool
+pub(crate) fn are_few(runs: &[Row]) -> bool
     ensures { result ≡ nat_le (sample_count runs.now) 4096 }
 {
     let mut left = MAX_BATCH;
@@ -41,7 +41,7 @@ fn is_timed(row: &Row) -> bool
     row.samples().iter().all(|sample| is_time(sample.t()))
 }
 
-fn are_timed(runs: &[Row]) -> bool
+pub(crate) fn are_timed(runs: &[Row]) -> bool
     ensures { result ≡ list_all are_timed runs.now }
 {
     runs.iter().all(|row| is_timed(row))
@@ -112,7 +112,7 @@ fn event_of(alloc: Global, content: &[u8]) -> Result<EventParts<'_>, Fault>
     Ok(event)
 }
 
-/// The event that a content spells, all of it.
+/// The event that a content spells, all of it, which names no series by number.
 pub(crate) fn read_event(alloc: Global, content: &[u8]) -> Result<EventParts<'_>, Fault>
     ensures { Finds event_in (SpellsEvent content.now) result }
 {

@@ -3,8 +3,9 @@
 //! [`Kept::read`] reads the whole file: what the values of the store mean, its floor, the folders
 //! of its blocks, the series of its head ([`KeptSeries`]), and the changes behind the head, each a
 //! [`Change`]. A file that a crash left is read up to its torn end. A journal that begins with an
-//! event has the head of a store that had nothing. What is refused is told with its place
-//! ([`KeptError`]): `J1` to `J4` of the records, `K1` of the head, `K2` of an event.
+//! event has the head of a store that had nothing. Behind the head series may be named by number.
+//! What is refused is told with its place ([`KeptError`]): `J1` to `J4` of the records, `K1` of the
+//! head, `K2` of an event.
 //!
 //! ```
 //! let kept = Kept::read(alloc, &file)?;
@@ -18,8 +19,9 @@
 //! is read; docs/FORMATS.md says the same in words. Whether a store can have such a head, and
 //! whether its events admit each other, is not looked at here.
 //!
-//! It stands on `labels`, `matchers` and `wire`, and on `journal` for records. It shares no reader
-//! of heads and events with the store that writes them.
+//! It stands on `labels`, `matchers` and `wire`, on `journal` for records, and to look names up on
+//! `name_table`, which reads nothing. It shares no reader of heads and events with the store that
+//! writes them.
 #![tactic(auto)]
 
 mod changes;
@@ -30,6 +32,7 @@ mod fields;
 mod heads;
 mod kept;
 mod neighbours;
+mod numbers;
 mod parts;
 mod reading;
 

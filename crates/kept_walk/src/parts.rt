@@ -1,8 +1,11 @@
 //! What is read of contents, before it is put together.
 
+ghost use Rattle.std.specs.Prelude.{◌≡◌};
+
 use crate::kept::{KeptSeries, Values};
 use labels::Row;
 use matchers::Op;
+use std::marker::Model;
 
 /// A matcher that is not built yet.
 #[derive(Drop)]
@@ -37,4 +40,36 @@ pub(crate) struct HeadParts {
     pub(crate) floor: i64,
     pub(crate) folders: Vec<u64>,
     pub(crate) series: Vec<KeptSeries>,
+}
+
+/// The time of the sample before.
+#[derive(Clone, Copy, Drop)]
+pub(crate) struct Time {
+    at: i64,
+}
+
+impl Model for Time {
+    ghost use Rattle.std.specs.Prelude.{ℤ};
+
+    ghost Value = { ℤ };
+
+    ghost view = { λ t. t.at };
+
+    ghost inverse = { λ t. record { at = t } };
+}
+
+impl Time {
+    /// This time.
+    pub(crate) fn new(at: i64) -> Time
+        ensures { result ≡ at }
+    {
+        Time { at }
+    }
+
+    /// It as a number.
+    pub(crate) fn at(self) -> i64
+        ensures { result ≡ self }
+    {
+        self.at
+    }
 }

@@ -22,7 +22,7 @@ fn begins_event(contents: &[Vec<u8>]) -> bool
     ensures { result ≡ begins_event (contents_in contents.now) }
 {
     match contents.first().and_then(|content| content.first()) {
-        Some(kind) => (1..=3).contains(kind),
+        Some(kind) => (1..=4).contains(kind),
         None => false,
     }
 }

@@ -444,5 +444,5 @@ pub fn logged_journal(
         → Keeps logged_shows logged_kept logged_sound new j.medium.folder j.len) }
     ensures open { IfOk result (λ j. j.closed ≡ false) }
 {
-    begin(LoggedFolder::new(alloc, before, failing), text)
+    begin(alloc, LoggedFolder::new(alloc, before, failing), text)
 }

@@ -1,7 +1,7 @@
-//! Tests from outside of the port of Prometheus: what the bytes of a connection do to a store, and
-//! the reply; and of a sift.
+//! Tests from outside of the port of Prometheus and of a sift. The port's are of what the bytes of
+//! a connection do to a store, and of the reply.
 //!
-//! They stand in a crate of their own, since what links a store takes minutes before its first
+//! They are in a crate of their own, since what links a store takes minutes before its first
 //! function. Bodies are those of Python's libsnappy and protobuf.
 #![tactic(auto)]
 

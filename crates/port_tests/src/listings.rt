@@ -5,7 +5,7 @@ ghost use Rattle.std.specs.Prelude.{◌≡◌, []};
 ghost use Rattle.head.specs.Blocks.{opening_of};
 
 use crate::port::{UP, reply_to, request};
-use snapshots::{Naming, Store};
+use snapshots::{Naming, Open, Store};
 use std::alloc::{AllocError, Global};
 use std::marker::Brand;
 use std::sync::Wait;
@@ -19,7 +19,7 @@ const OTHERS: &[u8] = b"\x57\xf0\x56\
     \x0a\x29\x0a\x0e\x0a\x08__name__\x12\x02up\x0a\x08\x0a\x03job\x12\x01b\
     \x12\x0d\x09\x00\x00\x00\x00\x00\x00\x00\x40\x10\xf0\xa2\x04";
 
-/// What stands behind the path of a request without a body.
+/// What comes behind the path of a request without a body.
 const GET: &str = " HTTP/1.1\r\nHost: a\r\n\r\n";
 
 /// Targets, and the body of the reply to each.
@@ -91,7 +91,7 @@ fn replies<J: Naming, R: Wait + Threads + Sync>(
     requires opening { opening_of [] ≡ J.opening }
 {
     let mut all = Vec::new(alloc);
-    let opened = store.open::<J, &R>(rt, alloc, Vec::new(alloc), 1, 1);
+    let opened = store.open::<Open<J>, &R>(rt, alloc, Vec::new(alloc), 1, 1);
     let Ok((committer, mut passes, mut seats)) = opened else {
         return Ok(all);
     };

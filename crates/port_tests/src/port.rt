@@ -6,7 +6,7 @@ ghost use Rattle.head.specs.Blocks.{opening_of};
 use guard::Rules;
 use remote_http::answer;
 use remote_requests::{Came, End};
-use snapshots::{Committer, Naming, Pass, Seat, Store};
+use snapshots::{Committer, Naming, Open, OpenNaming, Pass, Seat, Store};
 use std::alloc::{AllocError, Global};
 use std::marker::Brand;
 use std::sync::Wait;
@@ -41,8 +41,8 @@ pub fn request(alloc: Global, path: &str, body: &[u8]) -> Result<Vec<u8>, AllocE
     Ok(text)
 }
 
-/// The whole reply to these bytes; none if there is no reply.
-pub fn reply_to<J: Naming, C: Wait + Drop, R: Wait + Threads + Sync>(
+/// The whole reply to these bytes, or none if there is no reply.
+pub fn reply_to<J: OpenNaming, C: Wait + Drop, R: Wait + Threads + Sync>(
     rt: &R,
     alloc: Global,
     bytes: &[u8],
@@ -82,7 +82,7 @@ fn replies<J: Naming, R: Wait + Threads + Sync>(
     requires opening { opening_of [] ≡ J.opening }
 {
     let mut all = Vec::new(alloc);
-    let opened = store.open::<J, &R>(rt, alloc, Vec::new(alloc), 1, 1);
+    let opened = store.open::<Open<J>, &R>(rt, alloc, Vec::new(alloc), 1, 1);
     let Ok((committer, mut passes, mut seats)) = opened else {
         return Ok(all);
     };

@@ -1,18 +1,18 @@
 //! What a write keeps beside samples that it leaves out. The bodies are those of
-//! `tests/live/wire.py`, and what is left out is worked out by hand.
+//! `tests/live/wire.py`. What is left out is worked out by hand.
 
 ghost use Rattle.std.specs.Prelude.{◌≡◌, []};
 ghost use Rattle.head.specs.Blocks.{opening_of};
 
 use crate::port::{reply_to, request};
-use snapshots::{Naming, Store};
+use snapshots::{Naming, Open, Store};
 use std::alloc::{AllocError, Global};
 use std::marker::Brand;
 use std::sync::Wait;
 use std::test::Fail;
 use std::thread::Threads;
 
-/// `up{job="a"}` has 5 at 100 and 6 at 120, `up{job="b"}` has 7 at 110.
+/// `up{job="a"}` has 5 at 100 and 6 at 120, and `up{job="b"}` has 7 at 110.
 const FIRST: &[u8] = b"\x5f\xf0\x5e\
     \x0a\x34\x0a\x0e\x0a\x08__name__\x12\x02up\x0a\x08\x0a\x03job\x12\x01a\
     \x12\x0b\x09\x00\x00\x00\x00\x00\x00\x14\x40\x10\x64\
@@ -69,7 +69,7 @@ fn replies<J: Naming, R: Wait + Threads + Sync>(
     requires opening { opening_of [] ≡ J.opening }
 {
     let mut all = Vec::new(alloc);
-    let opened = store.open::<J, &R>(rt, alloc, Vec::new(alloc), 1, 1);
+    let opened = store.open::<Open<J>, &R>(rt, alloc, Vec::new(alloc), 1, 1);
     let Ok((committer, mut passes, mut seats)) = opened else {
         return Ok(all);
     };

@@ -1,4 +1,4 @@
-//! What a request does to a store, and the reply that tells it.
+//! What a request does to a store, and the reply that reports it.
 
 ghost use Rattle.std.specs.Prelude.{◌≡◌, ◌≢◌, ◌++◌, IfOk, OnErr, IfErr, IsTrue};
 ghost use mathlib.Core.List.{IsPrefix};
@@ -28,7 +28,7 @@ use keeper::Keeper;
 use labels::Row;
 use matchers::{Matcher, Query};
 use requests::{Cause, Refusal, Request, Status, append_success_head, done_reply};
-use snapshots::{Committer, Naming, Pass, RowBatch, Seat};
+use snapshots::{Committer, Naming, OpenNaming, Pass, RowBatch, Seat};
 use std::alloc::{AllocError, Global};
 use std::sync::Wait;
 use std::thread::Threads;
@@ -50,8 +50,8 @@ fn change_reply(alloc: Global) -> Result<Reply, AllocError>
     Ok(Reply::new(Status::Done, text))
 }
 
-/// An answer of at most so many bytes is copied behind the first bytes of its reply, which then
-/// goes out in one piece.
+/// An answer of at most this many bytes is copied behind the first bytes of its reply. The reply
+/// then goes out in one piece.
 const SHORT: usize = 65_536;
 
 /// The reply of these first bytes and the answer behind them.
@@ -140,8 +140,8 @@ fn conflict_reply(alloc: Global, error: CommitError) -> Result<Reply, AllocError
     refusal_reply(alloc, &Refusal::Refused(cause))
 }
 
-/// The reply to an event that is not accepted: `H11` where it is not kept, and `H9` where the store
-/// refuses it, unless it is memory that is refused.
+/// The reply to an event that is not accepted: `H11` if it is not kept, and `H9` if the store
+/// refuses it. If memory is refused, there is no reply.
 fn event_refusal_reply(alloc: Global, error: CommitError) -> Result<Reply, AllocError>
     ensures no_memory { IfOk result (λ _. error ≢ Memory) }
     ensures unkept { error ≡ Journal
@@ -158,7 +158,7 @@ fn event_refusal_reply(alloc: Global, error: CommitError) -> Result<Reply, Alloc
 }
 
 /// Publishes a batch of rows. The reply of success is made before.
-fn write<J: Naming, C: Wait + Drop, K: Keeper + Drop>(
+fn write<J: OpenNaming, C: Wait + Drop, K: Keeper + Drop>(
     rt: &impl Wait,
     alloc: Global,
     rows: Vec<Row>,
@@ -184,7 +184,7 @@ fn write<J: Naming, C: Wait + Drop, K: Keeper + Drop>(
 }
 
 /// Publishes a deletion. The reply of success is made before.
-fn delete<J: Naming, C: Wait + Drop, K: Keeper + Drop>(
+fn delete<J: OpenNaming, C: Wait + Drop, K: Keeper + Drop>(
     rt: &impl Wait,
     alloc: Global,
     asked: (Vec<Matcher>, i64, i64),
@@ -211,7 +211,7 @@ fn delete<J: Naming, C: Wait + Drop, K: Keeper + Drop>(
 }
 
 /// Publishes a cut. The reply of success is made before.
-fn cut_at<J: Naming, C: Wait + Drop, K: Keeper + Drop>(
+fn cut_at<J: OpenNaming, C: Wait + Drop, K: Keeper + Drop>(
     rt: &impl Wait,
     alloc: Global,
     at: i64,
@@ -236,9 +236,9 @@ fn cut_at<J: Naming, C: Wait + Drop, K: Keeper + Drop>(
     }
 }
 
-/// Does what a request asks. A change that the store accepts is learnt by the pass, whatever
-/// becomes of the reply.
-pub(crate) fn act<J: Naming, C: Wait + Drop, K: Keeper + Drop>(
+/// Does what a request asks. The pass learns a change that the store accepts, whatever becomes of
+/// the reply.
+pub(crate) fn act<J: OpenNaming, C: Wait + Drop, K: Keeper + Drop>(
     rt: &(impl Wait + Threads + Sync),
     alloc: Global,
     buffers: &mut Buffers,

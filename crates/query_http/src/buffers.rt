@@ -14,12 +14,13 @@ use std::mem;
 pub const MOST_KEPT: usize = 1_048_576;
 
 /// A worker's buffers: for the bytes of a request, for the first bytes of a reply, for the rows of
-/// an answer and for the rest of it; what its last selectors were read as; and what was noted of
-/// the last connection.
+/// an answer and for the rest of it. With them are kept what its last selectors were read as, and
+/// what was noted of the last connection.
 ///
 /// Each connection clears the buffers first, so what they hold between two connections is only
-/// room; and no answer depends on the selectors that are kept: no clause speaks of either. A
-/// buffer that a connection left larger than [`MOST_KEPT`] is given back to the system.
+/// room. No answer depends on the selectors that are kept. No clause speaks of that room or of
+/// these selectors. If a connection left a buffer larger than [`MOST_KEPT`], its memory is given
+/// back to the system.
 #[derive(Drop)]
 pub struct Buffers {
     pub(crate) request: Vec<u8>,
@@ -30,7 +31,7 @@ pub struct Buffers {
     pub(crate) note: Note,
 }
 
-/// Gives the memory of a buffer back where it is more than is kept.
+/// Gives the memory of a buffer back if it is more than is kept.
 fn trim(buf: &mut Vec<u8>)
     ensures { vec_capacity buf.new ≤ MOST_KEPT }
 {
@@ -98,8 +99,8 @@ impl Buffers {
         }
     }
 
-    /// Takes back what an answer was written in, where that is more than there is and no more than
-    /// is kept.
+    /// Takes back what an answer was written in, if that is more than there is and no more than is
+    /// kept.
     pub(crate) fn give_answer(&mut self, answer: AnswerText)
         ensures bounded { IsBounded self.old → IsBounded self.new }
         ensures note { self.new.note ≡ self.old.note }
@@ -113,8 +114,7 @@ impl Buffers {
         }
     }
 
-    /// Takes back what a reply was made in, where that is more than there is and no more than is
-    /// kept.
+    /// Takes back what a reply was made in, if that is more than there is and no more than is kept.
     pub(crate) fn give_reply(&mut self, reply: Reply)
         requires { IsBounded self.old }
         ensures bounded { IsBounded self.new }

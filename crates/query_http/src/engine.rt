@@ -20,7 +20,7 @@ use crate::reply::Reply;
 use guard::Rules;
 use keeper::Keeper;
 use requests::{Inlet, ReadError, Refusal, Request, Status, path_in, read_admitted_into};
-use snapshots::{Committer, Naming, Pass, Seat};
+use snapshots::{Committer, OpenNaming, Pass, Seat};
 use std::alloc::Global;
 use std::sync::Wait;
 use std::thread::Threads;
@@ -28,13 +28,13 @@ use std::thread::Threads;
 /// How a connection was served.
 #[derive(Clone, Copy, Debug, PartialEq, Eq, Drop)]
 pub enum Served {
-    /// The whole reply was written; it has this status.
+    /// The whole reply was written. It has this status.
     Replied(Status),
     /// The input ends before its first byte.
     Closed,
     /// The reader failed. Nothing was written, and nothing changed.
     ReadFault,
-    /// The writer failed: it took a prefix of the reply. An event that was accepted stands.
+    /// The writer failed: it took a prefix of the reply. An event that was accepted stays accepted.
     WriteFault,
     /// There is no memory. Nothing was written, and nothing was published.
     NoMemory,
@@ -52,7 +52,7 @@ fn turn_away(alloc: Global, refusal: &Refusal) -> Result<Reply, Served>
 }
 
 /// Does what a request asks, unless there is no memory.
-fn do_asked<J: Naming, C: Wait + Drop, K: Keeper + Drop>(
+fn do_asked<J: OpenNaming, C: Wait + Drop, K: Keeper + Drop>(
     rt: &(impl Wait + Threads + Sync),
     alloc: Global,
     buffers: &mut Buffers,
@@ -75,7 +75,7 @@ fn do_asked<J: Naming, C: Wait + Drop, K: Keeper + Drop>(
 }
 
 /// Reads a request and does what it asks: the reply, or why there is none.
-fn reply_to<J: Naming, C: Wait + Drop, K: Keeper + Drop, R: Inlet>(
+fn reply_to<J: OpenNaming, C: Wait + Drop, K: Keeper + Drop, R: Inlet>(
     rt: &(impl Wait + Threads + Sync),
     alloc: Global,
     rules: &Rules,
@@ -124,7 +124,7 @@ fn reply_to<J: Naming, C: Wait + Drop, K: Keeper + Drop, R: Inlet>(
 
 /// Reads one request, does what it asks and writes the reply.
 #[tactic(auto, using(crate::proofs::Replying::silent_served))]
-fn serve_next<J: Naming, C: Wait + Drop, K: Keeper + Drop, R: Inlet, W: Outlet>(
+fn serve_next<J: OpenNaming, C: Wait + Drop, K: Keeper + Drop, R: Inlet, W: Outlet>(
     rt: &(impl Wait + Threads + Sync),
     alloc: Global,
     rules: &Rules,
@@ -173,11 +173,11 @@ fn serve_next<J: Naming, C: Wait + Drop, K: Keeper + Drop, R: Inlet, W: Outlet>(
 /// The whole reply is made before its first byte is written, and the reply to a change before the
 /// change is published. Several threads make the rows and the text of a long answer. The pass
 /// learns the receipt of a change before the reply is written. It reads as [`read_admitted_into`]
-/// does, so that a request that the rules do not admit is refused and changes nothing (`barred`),
-/// and waits as [`Committer::commit`] does. What the buffers held before plays no part, and of each
-/// at most [`MOST_KEPT`](crate::MOST_KEPT) bytes are kept. They note the status of the reply
+/// does, so a request that the rules do not admit is refused and changes nothing (`barred`). It
+/// waits as [`Committer::commit`] does. What the buffers held before plays no part. At most
+/// [`MOST_KEPT`](crate::MOST_KEPT) bytes of each are kept. The buffers note the status of the reply
 /// (`noted`), and none if no reply was made (`unnoted`).
-pub fn serve_one_with<J: Naming, C: Wait + Drop, K: Keeper + Drop, R: Inlet, W: Outlet>(
+pub fn serve_one_with<J: OpenNaming, C: Wait + Drop, K: Keeper + Drop, R: Inlet, W: Outlet>(
     rt: &(impl Wait + Threads + Sync),
     alloc: Global,
     rules: &Rules,
@@ -211,7 +211,7 @@ pub fn serve_one_with<J: Naming, C: Wait + Drop, K: Keeper + Drop, R: Inlet, W: 
 
 /// Serves one connection as [`serve_one_with`] does, with buffers of its own and under no
 /// rules.
-pub fn serve_one<J: Naming, C: Wait + Drop, K: Keeper + Drop, R: Inlet, W: Outlet>(
+pub fn serve_one<J: OpenNaming, C: Wait + Drop, K: Keeper + Drop, R: Inlet, W: Outlet>(
     rt: &(impl Wait + Threads + Sync),
     alloc: Global,
     reader: &mut R,

@@ -1,12 +1,12 @@
 //! The store over HTTP.
 //!
-//! [`serve_one`] reads one request, does what it asks and writes the reply. Where it answers
-//! [`Served::Replied`], what was written is exactly the reply to the first failing check of the
-//! bytes that came, or to the query, answered as [`ask_by`](answers::ask_by) does, or to the one
-//! event that they spell, and nothing else; an accepted event is under the seat's number, and the
-//! pass has learnt its receipt, also where the writer fails (`specs/Serving.antt`). A connection is any
-//! [`Inlet`] and any [`Outlet`]. [`serve_one_with`] does the same with [`Buffers`]
-//! that a worker keeps from connection to connection.
+//! [`serve_one`] reads one request, does what it asks and writes the reply. If it answers
+//! [`Served::Replied`], what was written is exactly one reply and nothing else. It is the reply to
+//! the first failing check of the bytes that came, or to the query, answered as
+//! [`ask_by`](answers::ask_by) does, or to the one event that the bytes spell. An accepted event is
+//! under the seat's number, and the pass has learnt its receipt, also if the writer fails
+//! (`specs/Serving.antt`). A connection is any [`Inlet`] and any [`Outlet`]. [`serve_one_with`]
+//! does the same with [`Buffers`] that a worker keeps from connection to connection.
 #![tactic(auto)]
 
 mod actions;

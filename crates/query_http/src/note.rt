@@ -32,7 +32,7 @@ fn path_of(request: &Request) -> Path
     }
 }
 
-/// How many samples rows have that are few.
+/// How many samples the rows have, which are few.
 fn samples_in(rows: &[Row]) -> u64
     requires { length (batch_of rows.now) ≤ 4096 }
     ensures { result ≡ length (batch_of rows.now) }
@@ -102,7 +102,7 @@ impl Note {
         }
     }
 
-    /// That what came is refused.
+    /// Notes that what came is refused.
     pub(crate) fn refused(path: Option<Path>, refusal: &Refusal) -> Note
         ensures path { result.path ≡ path }
         ensures refusal { result.refusal ≡ Some (number_of refusal.now) }

@@ -13,15 +13,15 @@ use crate::reply::Reply;
 use answers::AnswerText;
 use requests::Fault;
 
-/// What a reply is written to: it takes bytes in pieces of its own choice. A writer over memory
-/// tells in its meaning which bytes it has taken; a socket tells none. A call that takes nothing
-/// of some bytes counts as failed.
+/// What a reply is written to. It takes bytes in pieces of its own choice. The meaning of a writer
+/// over memory says which bytes it has taken. The meaning of a socket says nothing of them. A call
+/// that is given some bytes and takes none counts as failed.
 pub trait Outlet {
     ghost output: { Self → Option (List ℕ) };
 
     ghost failed_writes: { Self → ℕ };
 
-    /// Writes the first of the bytes, and says how many.
+    /// Writes the first of the bytes, and returns how many.
     fn write(&mut self, buf: &[u8]) -> Result<usize, Fault>
         ensures bound { IfOk result (λ n. n ≤ length buf.now) }
         ensures bytes { WriteAppends (output self.old) (output self.new) result buf.now }
@@ -32,7 +32,7 @@ pub trait Outlet {
         ensures err { OnErr result (HasGrown (failed_writes self.old) (failed_writes self.new)) };
 }
 
-/// Writes the whole text; or a prefix of it, where the writer fails.
+/// Writes the whole text, or a prefix of it if the writer fails.
 pub fn write_whole<W: Outlet>(writer: &mut W, text: &[u8]) -> Result<(), Fault>
     ensures ok { OnOk result (Appends (W.output writer.old) (W.output writer.new) text.now) }
     ensures counted { OnOk result (W.failed_writes writer.new ≡ W.failed_writes writer.old) }
@@ -51,7 +51,7 @@ pub fn write_whole<W: Outlet>(writer: &mut W, text: &[u8]) -> Result<(), Fault>
     Ok(())
 }
 
-/// Writes pieces, one after another; or a prefix of all together, where the writer fails.
+/// Writes pieces, one after another, or a prefix of all together if the writer fails.
 fn write_pieces<W: Outlet>(writer: &mut W, pieces: &[Vec<u8>]) -> Result<(), Fault>
     ensures ok { OnOk result
         (Appends (W.output writer.old) (W.output writer.new) (joined pieces.now)) }
@@ -69,7 +69,7 @@ fn write_pieces<W: Outlet>(writer: &mut W, pieces: &[Vec<u8>]) -> Result<(), Fau
     Ok(())
 }
 
-/// Writes a text, and pieces behind it; or a prefix of all together, where the writer fails.
+/// Writes a text, and pieces behind it, or a prefix of all together if the writer fails.
 fn write_before<W: Outlet>(writer: &mut W, text: &[u8], pieces: &[Vec<u8>]) -> Result<(), Fault>
     ensures ok { OnOk result
         (Appends (W.output writer.old) (W.output writer.new) (text.now ++ joined pieces.now)) }
@@ -83,7 +83,7 @@ fn write_before<W: Outlet>(writer: &mut W, text: &[u8], pieces: &[Vec<u8>]) -> R
     write_pieces(writer, pieces)
 }
 
-/// Writes pieces, and a text behind them; or a prefix of all together, where the writer fails.
+/// Writes pieces, and a text behind them, or a prefix of all together if the writer fails.
 fn write_behind<W: Outlet>(writer: &mut W, pieces: &[Vec<u8>], text: &[u8]) -> Result<(), Fault>
     ensures ok { OnOk result
         (Appends (W.output writer.old) (W.output writer.new) (joined pieces.now ++ text.now)) }
@@ -97,8 +97,8 @@ fn write_behind<W: Outlet>(writer: &mut W, pieces: &[Vec<u8>], text: &[u8]) -> R
     write_whole(writer, text)
 }
 
-/// Writes a text, and that of an answer behind it; or a prefix of both together, where the writer
-/// fails. What the answer tells twice is written twice from where it stands.
+/// Writes a text, and that of an answer behind it, or a prefix of both together if the writer
+/// fails. What the answer has twice is written twice from its one place in memory.
 fn write_answer<W: Outlet>(writer: &mut W, head: &[u8], answer: &AnswerText) -> Result<(), Fault>
     ensures ok { OnOk result
         (Appends (W.output writer.old) (W.output writer.new) (head.now ++ whole_of answer.now)) }
@@ -112,7 +112,7 @@ fn write_answer<W: Outlet>(writer: &mut W, head: &[u8], answer: &AnswerText) -> 
     write_behind(writer, answer.again(), b"}")
 }
 
-/// Writes a whole reply; or a prefix of it, where the writer fails.
+/// Writes a whole reply, or a prefix of it if the writer fails.
 pub(crate) fn write_reply<W: Outlet>(writer: &mut W, reply: &Reply) -> Result<(), Fault>
     ensures ok { OnOk result (Appends (W.output writer.old) (W.output writer.new)
         (text_of reply.now)) }

@@ -17,14 +17,14 @@ use crate::write::write;
 use guard::Rules;
 use keeper::Keeper;
 use remote_requests::{Asked, Came, ReadError, Refusal, answer as asked_by};
-use snapshots::{Committer, Naming, Pass, Seat};
+use snapshots::{Committer, OpenNaming, Pass, Seat};
 use std::alloc::{AllocError, Global};
 use std::sync::Wait;
 use std::thread::Threads;
 
 /// The first time of the clock at which a write is taken, in milliseconds: the first day of 2025,
-/// before this program was made. A clock that is behind it is wrong, and would have samples left
-/// out as too far ahead of it.
+/// before this program was made. A clock that is behind it is wrong. It would cause samples to be
+/// left out as too far ahead of the clock.
 pub const EARLIEST: i64 = 1_735_689_600_000;
 
 /// Why there is no reply.
@@ -34,12 +34,12 @@ pub enum Silence {
     Closed,
     /// The client fell silent, or a read failed. Nothing changed.
     Lost,
-    /// There is no memory. Of a write, what was published before that stands.
+    /// There is no memory. What a write published before that stays published.
     Memory,
 }
 
 /// Does what is asked.
-fn act<J: Naming, C: Wait + Drop, K: Keeper + Drop>(
+fn act<J: OpenNaming, C: Wait + Drop, K: Keeper + Drop>(
     rt: &(impl Wait + Threads + Sync),
     alloc: Global,
     version: &str,
@@ -78,7 +78,7 @@ fn turn_away(alloc: Global, refusal: &Refusal) -> Result<Reply, Silence>
 }
 
 /// Does what is asked, or says that there is no memory.
-fn do_asked<J: Naming, C: Wait + Drop, K: Keeper + Drop>(
+fn do_asked<J: OpenNaming, C: Wait + Drop, K: Keeper + Drop>(
     rt: &(impl Wait + Threads + Sync),
     alloc: Global,
     version: &str,
@@ -103,7 +103,7 @@ fn do_asked<J: Naming, C: Wait + Drop, K: Keeper + Drop>(
 }
 
 /// The reply to the bytes that came, or why there is none.
-fn reply_to<J: Naming, C: Wait + Drop, K: Keeper + Drop>(
+fn reply_to<J: OpenNaming, C: Wait + Drop, K: Keeper + Drop>(
     rt: &(impl Wait + Threads + Sync),
     alloc: Global,
     rules: &Rules,
@@ -136,22 +136,23 @@ fn reply_to<J: Naming, C: Wait + Drop, K: Keeper + Drop>(
 }
 
 /// Does what the bytes of one connection ask under rules, at a time of the clock in milliseconds,
-/// and gives the reply that tells it, or why there is none.
+/// and gives the reply that reports it, or why there is none.
 ///
 /// A refusal is that of the first failing check of the bytes, and changes nothing. A write is cut,
-/// in its order, into parts of at most 4,096 samples, and each is sifted, one event each, if
-/// anything of it joins: the pass learns each receipt, so what a reply tells of is kept by then.
-/// The reply is 200 exactly if nothing was left out, and else 400 with the counts; it is 503 if a
-/// part is not kept or the clock is before [`EARLIEST`]. The parts before one that is not kept
-/// stand, also if it is for memory and there is no reply; the sender repeats all, and what stands
-/// is held then. A read takes the pass's next snapshot, one for all its queries, each answered as
-/// by [`answers::ask_by`] of it. A listing takes the next snapshot too, and tells of it exactly the
-/// names, values or label sets of the series that answer one of its queries (`specs/Listing.antt`).
+/// in its order, into parts of at most 4,096 samples. Each part is sifted, and is one event if
+/// anything of it joins. The pass learns each receipt, so what a reply reports is kept by then. The
+/// reply is 200 exactly if nothing was left out, and else 400 with the counts. It is 503 if a part
+/// is not kept or the clock is before [`EARLIEST`]. The parts before one that is not kept stay in
+/// the store, also if memory is the cause and there is no reply. The sender repeats all parts. What
+/// stayed in the store counts then as held. A read takes the pass's next snapshot, one for all its
+/// queries. Each query is answered from it as by [`answers::ask_by`]. A listing takes the next
+/// snapshot too, and reports of it exactly the names, values or label sets of the series that
+/// answer one of its queries (`specs/Listing.antt`).
 ///
-/// The version is told as it is. A request that the rules do not admit changes nothing (`barred`).
-/// It waits as [`Committer::sift`] does, and takes memory for the rows and for one answer beside
-/// the reply.
-pub fn answer<J: Naming, C: Wait + Drop, K: Keeper + Drop>(
+/// The version is reported as it is. A request that the rules do not admit changes nothing
+/// (`barred`). It waits as [`Committer::sift`] does, and takes memory for the rows and for one
+/// answer beside the reply.
+pub fn answer<J: OpenNaming, C: Wait + Drop, K: Keeper + Drop>(
     rt: &(impl Wait + Threads + Sync),
     alloc: Global,
     rules: &Rules,

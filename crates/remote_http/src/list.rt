@@ -1,4 +1,4 @@
-//! What a listing asks of a store, and the reply that tells it.
+//! What a listing asks of a store, and the reply that reports it.
 
 ghost use Rattle.std.specs.Prelude.{◌≡◌, IfOk};
 ghost use mathlib.Core.List.{IsPrefix};
@@ -24,7 +24,7 @@ fn body_of(alloc: Global, snapshot: &Snapshot, listing: &Listing) -> Result<Vec<
     }
 }
 
-/// Lists the pass's next snapshot. Its label sets that answer stand in memory, and the reply beside
+/// Lists the pass's next snapshot. Its label sets that answer are in memory, and the reply beside
 /// them.
 pub(crate) fn list<J: Naming>(
     alloc: Global,

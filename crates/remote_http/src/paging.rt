@@ -33,8 +33,8 @@ fn page_of(alloc: Global, question: &Question, found: &AuditedAnswer) -> Result<
     }
 }
 
-/// The page of the pass's next snapshot: the answer stands in memory, then its text, what that
-/// says, and the page.
+/// The page of the pass's next snapshot. The answer is in memory, then its text, what that says,
+/// and the page.
 pub(crate) fn page<J: Naming, R: Threads + Sync>(
     rt: &R,
     alloc: Global,

@@ -22,7 +22,8 @@ fn end_part(alloc: Global, parts: &mut Vec<RowBatch>, rows: &mut Vec<Row>) -> Re
     Ok(())
 }
 
-/// Adds a row that fits a batch. How many samples more the one that is being filled has room for.
+/// Adds a row that fits a batch. Returns for how many more samples the batch that is being filled
+/// has room.
 fn add_short(
     alloc: Global,
     parts: &mut Vec<RowBatch>,

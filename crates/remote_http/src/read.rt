@@ -1,4 +1,4 @@
-//! What a read asks of a store, and the reply that tells it.
+//! What a read asks of a store, and the reply that reports it.
 
 ghost use Rattle.std.specs.Prelude.{◌≡◌, List, IfOk, MatchBool};
 ghost use mathlib.Core.List.{IsPrefix};
@@ -17,7 +17,8 @@ use snapshots::{Naming, Pass};
 use std::alloc::{AllocError, Global};
 use std::thread::Threads;
 
-/// Adds the answer of a snapshot to a reply, unless a row of it cannot be sent: whether it did.
+/// Adds the answer of a snapshot to a reply, unless a row of it cannot be sent. Returns whether it
+/// was added.
 fn add_answer<R: Threads + Sync>(
     rt: &R,
     alloc: Global,
@@ -45,8 +46,8 @@ fn add_answer<R: Threads + Sync>(
     }
 }
 
-/// Adds the answers of a snapshot to a reply, up to the first of which a row cannot be sent:
-/// whether these are all.
+/// Adds the answers of a snapshot to a reply, up to the first of which a row cannot be sent.
+/// Returns whether all were added.
 fn add_answers<R: Threads + Sync>(
     rt: &R,
     alloc: Global,
@@ -67,7 +68,7 @@ fn add_answers<R: Threads + Sync>(
     Ok(true)
 }
 
-/// Answers each reading from the pass's next snapshot, one for all of them. The answers stand in
+/// Answers each reading from the pass's next snapshot, one for all of them. The answers are in
 /// memory one after another, and the reply beside each.
 pub(crate) fn read<J: Naming, R: Threads + Sync>(
     rt: &R,

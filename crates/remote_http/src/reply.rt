@@ -123,7 +123,7 @@ fn done_line(alloc: Global) -> Result<Vec<u8>, AllocError>
     done_value(alloc)?.to_vec(alloc)
 }
 
-/// The reply where all was done: the body is `{"ok":true}`.
+/// The reply if all was done: the body is `{"ok":true}`.
 pub(crate) fn done_reply(alloc: Global) -> Result<Reply, AllocError>
     ensures number { IfOk result (λ r. r.status ≡ Done) }
     ensures spelled { IfOk result (λ r. text_of r ≡ json_text Done (compact_text done_data)) }
@@ -144,7 +144,7 @@ fn build_line(alloc: Global, version: &str) -> Result<Vec<u8>, AllocError>
     build_value(alloc, version)?.to_vec(alloc)
 }
 
-/// The reply that tells the version.
+/// The reply that reports the version.
 pub(crate) fn build_reply(alloc: Global, version: &str) -> Result<Reply, AllocError>
     ensures number { IfOk result (λ r. r.status ≡ Done) }
     ensures spelled { IfOk result (λ r. text_of r ≡ build_text version.now) }

@@ -1,4 +1,4 @@
-//! The reply that tells what was left out.
+//! The reply that reports what was left out.
 
 ghost use Rattle.std.specs.Prelude.{◌≡◌, IfOk, map, option_map};
 ghost use Rattle.serde_json.specs.Data.{object};
@@ -50,7 +50,7 @@ fn counts_of(left: &Left, store: StoreLeft) -> [(&'static str, u64); 13]
     ]
 }
 
-/// Why the first was left out; none if nothing was.
+/// Why the first was left out, or none if nothing was.
 fn cause_of(first: Option<LeftOut>, later: Option<Reason>) -> Option<&'static str>
     ensures { option_map (λ code. code.now) result ≡ cause_by first later }
 {
@@ -115,8 +115,8 @@ fn left_reply(
     json_reply(alloc, Status::BadRequest, line)
 }
 
-/// The reply to a write of which the store left this out: `done` if the request left out nothing
-/// either, and else one that counts what was left out by its codes.
+/// The reply to a write of which the store left this out. It is `done` if the request left out
+/// nothing either. Otherwise it counts what was left out by its codes.
 pub(crate) fn kept_reply(
     alloc: Global,
     done: Reply,

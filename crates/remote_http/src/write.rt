@@ -1,4 +1,4 @@
-//! What a write does to a store, and the reply that tells it.
+//! What a write does to a store, and the reply that reports it.
 
 ghost use Rattle.std.specs.Prelude.{◌≡◌, ◌≢◌, ◌≤◌, ◌⊎◌, false, IfOk, IfErr, OnErr, length};
 ghost use Rattle.head.specs.BatchRows.{batch_of_rows};
@@ -23,12 +23,12 @@ use crate::told::kept_reply;
 use head::{CommitError, Left};
 use keeper::Keeper;
 use remote_requests::{Received, Refusal};
-use snapshots::{Committer, Naming, Pass, RowBatch, Seat};
+use snapshots::{Committer, OpenNaming, Pass, RowBatch, Seat};
 use std::alloc::{AllocError, Global};
 use std::sync::Wait;
 
-/// Sifts one part, and has the pass learn the receipt.
-fn publish_part<J: Naming, C: Wait + Drop, K: Keeper + Drop>(
+/// Sifts one part. The pass learns the receipt.
+fn publish_part<J: OpenNaming, C: Wait + Drop, K: Keeper + Drop>(
     rt: &impl Wait,
     part: RowBatch,
     pass: &mut Pass<J>,
@@ -52,8 +52,9 @@ fn publish_part<J: Naming, C: Wait + Drop, K: Keeper + Drop>(
     }
 }
 
-/// Publishes the parts one after another, up to the first that is not kept: what they left out.
-fn publish<J: Naming, C: Wait + Drop, K: Keeper + Drop>(
+/// Publishes the parts one after another, up to the first that is not kept. Returns what they left
+/// out.
+fn publish<J: OpenNaming, C: Wait + Drop, K: Keeper + Drop>(
     rt: &impl Wait,
     parts: Vec<RowBatch>,
     pass: &mut Pass<J>,
@@ -88,8 +89,8 @@ fn unkept_reply(alloc: Global, error: CommitError) -> Result<Reply, AllocError>
     }
 }
 
-/// Publishes all that a write brings, and tells what was left out of it.
-fn publish_all<J: Naming, C: Wait + Drop, K: Keeper + Drop>(
+/// Publishes all that a write brings, and reports what was left out of it.
+fn publish_all<J: OpenNaming, C: Wait + Drop, K: Keeper + Drop>(
     rt: &impl Wait,
     alloc: Global,
     received: Received,
@@ -116,8 +117,9 @@ fn publish_all<J: Naming, C: Wait + Drop, K: Keeper + Drop>(
 }
 
 /// Does a write. Nothing is written while the clock is before the first time at which writes are
-/// taken. The parts of a write stand also if a later one is not kept, or has no memory.
-pub(crate) fn write<J: Naming, C: Wait + Drop, K: Keeper + Drop>(
+/// taken. The parts of a write stay in the store also if a later part is not kept, or if there is
+/// no memory for it.
+pub(crate) fn write<J: OpenNaming, C: Wait + Drop, K: Keeper + Drop>(
     rt: &impl Wait,
     alloc: Global,
     received: Received,

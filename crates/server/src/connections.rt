@@ -6,8 +6,9 @@ ghost use Rattle.server.specs.Sessions.{Ending, IsFresh, Arrives, IsOver, AreAdd
 use query_http::{Note, Outlet, Served};
 use requests::Inlet;
 
-/// Where connections come from: sockets, or texts in memory. It tells in its meaning what will come
-/// on each connection, and what was written to each that has ended; sockets tell neither.
+/// Where connections come from: sockets, or texts in memory. The meaning says what will come on
+/// each connection, and what was written to each that has ended. The meaning of sockets says
+/// neither.
 pub trait Connections {
     type Reader: Inlet + Drop;
 
@@ -17,7 +18,7 @@ pub trait Connections {
 
     ghost past: { Self → Option (List Ending) };
 
-    /// The next connection; none where no more will come. It may wait for a client.
+    /// The next connection, or none if no more will come. It may wait for a client.
     fn accept(&mut self) -> Option<(Self::Reader, Self::Writer)>
         ensures arrives { IfSome result (λ c. Arrives (coming self.old) (coming self.new)
             (Self.Reader.input c.0)) }
@@ -26,7 +27,7 @@ pub trait Connections {
         ensures same { IfNone result (coming self.new ≡ coming self.old) }
         ensures past { past self.new ≡ past self.old };
 
-    /// Ends a connection that was served so, and of which this was noted.
+    /// Ends a connection that was served as `served` says, and of which this was noted.
     fn close(&mut self, reader: Self::Reader, writer: Self::Writer, served: Served, note: Note)
         ensures coming { coming self.new ≡ coming self.old }
         ensures past { AreAdded (past self.old) (past self.new)

@@ -8,12 +8,12 @@ use head::{CommitError, HeadView, MAX_SERIES};
 use keeper::Keeper;
 use labels::{MAX_TIME, MIN_TIME, is_time};
 use postings::{Postings, Source};
-use snapshots::{Committer, Naming, Pass, Seat};
+use snapshots::{Committer, Naming, OpenNaming, Pass, Seat};
 use std::alloc::{AllocError, Global};
 use std::sync::{Arc, Wait};
 use std::time::{Clock, Instant};
 
-/// How long a pause is, in milliseconds: the end of a server is seen after each.
+/// How long a pause is, in milliseconds. After each pause the end of a server is noticed.
 pub(crate) const PAUSE: u64 = 100;
 
 /// How often a cut's distance from the floor is halved.
@@ -22,9 +22,9 @@ const HALVINGS: usize = 64;
 /// The greatest number of milliseconds between cuts.
 const MOST: u64 = 4_611_686_018_427_387_903;
 
-/// When a server cuts by itself: at multiples of `every` milliseconds, 1 to 2^62 - 1, each once it
-/// lies `after` milliseconds, 0 to 2^62 - 1, behind the newest sample and the clock. With other
-/// numbers it never does.
+/// When a server cuts by itself: at multiples of `every` milliseconds, 1 to 2^62 - 1. Each cut is
+/// made once it lies `after` milliseconds, 0 to 2^62 - 1, behind the newest sample and the clock.
+/// With other numbers the server never cuts by itself.
 #[derive(Clone, Copy, Debug, PartialEq, Eq, Drop)]
 pub struct Schedule {
     pub every: u64,
@@ -64,8 +64,8 @@ pub(crate) struct Cutter<J: Naming> {
     newest: i64,
 }
 
-/// The newest of the samples of a head that are not before a time; the smallest time if there are
-/// none. It looks at each series, and copies these samples.
+/// The time of the newest of the samples of a head that are not before a time, or the smallest time
+/// if there are none. It looks at each series, and copies these samples.
 fn newest_from(alloc: Global, head: &HeadView, from: i64) -> Result<i64, AllocError> {
     let mut newest = MIN_TIME;
     let mut live = head.live(alloc, from, MAX_TIME)?;
@@ -82,7 +82,8 @@ fn newest_from(alloc: Global, head: &HeadView, from: i64) -> Result<i64, AllocEr
     Ok(newest)
 }
 
-/// How many pauses there are after a look: twenty times as long as it took, and one at least.
+/// How many pauses there are after a look. They last twenty times as long as it took, and there is
+/// at least one.
 fn pauses_after(rt: &impl Clock, start: Option<Instant>) -> u64 {
     let Some(start) = start else {
         return 1;
@@ -101,7 +102,7 @@ fn code_of(error: CommitError) -> &'static str {
     }
 }
 
-impl<J: Naming> Cutter<J> {
+impl<J: OpenNaming> Cutter<J> {
     pub(crate) fn new(
         pass: Pass<J>,
         seat: Seat<J>,
@@ -123,8 +124,9 @@ impl<J: Naming> Cutter<J> {
         &self.tally
     }
 
-    /// Which cut of the store is due now: above its floor, and above each time that was tried. None
-    /// if nothing was published since the last look, and that found none that waits for the clock.
+    /// Which cut of the store is due now. It is above the floor, and above each time that was
+    /// tried. There is none if nothing was published since the last look and that look found none
+    /// that waits for the clock.
     fn due_now(&mut self, rt: &impl Clock, alloc: Global) -> Option<DueCut> {
         let Schedule { every, after } = self.when;
         if every == 0 || every > MOST || after > MOST {
@@ -150,7 +152,7 @@ impl<J: Naming> Cutter<J> {
         })
     }
 
-    /// Cuts at a time. A refusal is told, unless someone has cut there or later.
+    /// Cuts at a time. A refusal is reported, unless someone has cut there or later.
     fn cut_at<C: Wait + Drop, K: Keeper + Drop>(
         &mut self,
         rt: &(impl Wait + Eprint),
@@ -180,8 +182,8 @@ impl<J: Naming> Cutter<J> {
         }
     }
 
-    /// Makes a cut that is due. If a file of its block would be too long, it is tried at half its
-    /// distance from the floor, until one is made; the next look then tries the rest.
+    /// Makes a cut that is due. If a file of its block would be too long, a cut at half the
+    /// distance from the floor is tried, until one is made. The next look then tries the rest.
     fn cut<C: Wait + Drop, K: Keeper + Drop>(
         &mut self,
         rt: &(impl Wait + Eprint),
@@ -207,7 +209,7 @@ impl<J: Naming> Cutter<J> {
         }
     }
 
-    /// Looks whether the store is to be cut, and cuts it: how many pauses there are then.
+    /// Looks whether the store is to be cut, and cuts it. Returns how many pauses there are then.
     pub(crate) fn look<C: Wait + Drop, K: Keeper + Drop>(
         &mut self,
         rt: &(impl Wait + Clock + Eprint),

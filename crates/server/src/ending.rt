@@ -4,14 +4,14 @@ use std::io::{self, ErrorKind, Read};
 use std::net::{Shutdown, TcpStream};
 use std::time::{Clock, Duration, Instant};
 
-/// For how many seconds a client that has sent more than was read is read on.
+/// For how many seconds the server reads on if a client has sent more than was read.
 const LINGER: u64 = 1;
 
-/// How often such a client is read on: at most 2 MiB.
+/// How many further reads there are of such a client. They take at most 2 MiB.
 const WASTE_READS: u32 = 256;
 
-/// Whether a client that got its reply may have sent more than was read: of a request that was
-/// refused the rest may still be on its way, of another one only what is there already counts.
+/// Whether a client that got its reply may have sent more than was read. The rest of a request that
+/// was refused may still be on its way. Of another request only what is there already counts.
 fn may_send_more(stream: &TcpStream, is_refused: bool) -> bool {
     let mut byte = [0u8; 1];
     if stream.set_nonblocking(true).is_err() {
@@ -23,8 +23,8 @@ fn may_send_more(stream: &TcpStream, is_refused: bool) -> bool {
     }
 }
 
-/// Reads on what a client still sends, and drops it, until the client ends: at most 2 MiB, and no
-/// read begins after a second.
+/// Reads what a client still sends, and drops it, until the client ends. It reads at most 2 MiB,
+/// and no read begins after a second.
 fn drain(rt: &impl Clock, stream: &TcpStream) -> io::Result<()> {
     let mut waste = [0u8; 8192];
     let mut reader = stream;
@@ -40,8 +40,8 @@ fn drain(rt: &impl Clock, stream: &TcpStream) -> io::Result<()> {
     Ok(())
 }
 
-/// Ends the writing side, and reads on for a moment where the client may have sent more than was
-/// read: a socket that is closed with bytes unread takes back the reply.
+/// Ends the writing side, and reads on for a moment if the client may have sent more than was read.
+/// A socket that is closed with bytes unread takes back the reply.
 pub(crate) fn end(rt: &impl Clock, stream: &TcpStream, is_refused: bool) {
     if stream.shutdown(Shutdown::Write).is_ok() && may_send_more(stream, is_refused) {
         let _ = drain(rt, stream);

@@ -11,7 +11,7 @@ pub enum ServeError {
     NoListener,
     /// A thread cannot be made.
     NoThread,
-    /// No memory.
+    /// There is no memory.
     Memory,
 }
 

@@ -1,16 +1,16 @@
 //! Workers that serve a store over HTTP.
 //!
 //! [`Workers::open`] opens a store over blocks with workers, and [`serve`] serves it on a listening
-//! socket: each worker is a thread with a pass and a seat of its own, which takes one connection
-//! after another. [`work`] is the loop of one worker, over any [`Connections`]: its contract says
+//! socket. Each worker is a thread with a pass and a seat of its own, which takes one connection
+//! after another. [`work`] is the loop of one worker, over any [`Connections`]. Its contract says
 //! that each connection is served by `query_http::serve_one_with`, with the pass and the seat as
-//! the connection before left them (`specs/Sessions.antt`), that there are as many as asked unless
-//! no more come, and what was written to each; its [`Shift`] tells the rules that it worked under,
-//! so that of sockets too a clause names them. A worker's buffers are kept from connection to
-//! connection, and play no part in the contract. [`Sockets`] are connections of the system, with
-//! limits of time: a client that is silent or gone costs its own connection and no other.
-//! [`serve_watched`] answers those beside that ask at a status port how the server stands
-//! ([`Watch`]), each by [`answer_client`]: each worker counts in a [`Tally`] of its own.
+//! the connection before left them (`specs/Sessions.antt`). It says also that there are as many
+//! connections as asked unless no more come, and what was written to each. Its [`Shift`] says under
+//! which rules it worked, so a clause names them for sockets too. A worker's buffers are kept from
+//! connection to connection, and play no part in the contract. [`Sockets`] are connections of the
+//! system, with limits of time: a client that is silent or gone costs its own connection and no
+//! other. [`serve_watched`] also answers those that ask at a status port for the state of the
+//! server ([`Watch`]), each by [`answer_client`]. Each worker counts in a [`Tally`] of its own.
 //!
 //! The loop of a worker over two `connections` in memory:
 //!
@@ -20,8 +20,8 @@
 //! assert_eq!(rt; shift.served(), 2);
 //! ```
 //!
-//! It stands on `query_http` for what a connection gets, on `requests` for readers and on
-//! `snapshots` for stores.
+//! It uses `query_http` for what a connection gets, `requests` for readers and `snapshots` for
+//! stores.
 #![tactic(auto)]
 
 mod clock;

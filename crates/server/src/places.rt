@@ -12,7 +12,7 @@ use crate::tally::Tally;
 use block::Block;
 use head::Snapshot;
 use keeper::{Keeper, NoKeeper};
-use snapshots::{Committer, Naming, OpenError, Pass, Seat, Store};
+use snapshots::{Committer, Naming, OpenError, OpenNaming, Pass, Seat, Store};
 use std::alloc::{AllocError, Global};
 use std::marker::Model;
 use std::sync::{Arc, Wait};
@@ -44,7 +44,7 @@ impl<J: Naming, C: Wait + Drop, K: Keeper + Drop> Model for Workers<J, C, K> {
     ghost view = { λ w. vec_len w.places };
 }
 
-/// Each seat with a pass; there are as many passes, or more.
+/// Each seat with a pass. There are as many passes as seats, or more.
 fn places_of<J: Naming>(
     alloc: Global,
     passes: &mut Vec<Pass<J>>,
@@ -63,10 +63,11 @@ fn places_of<J: Naming>(
     Ok(places)
 }
 
-impl<J: Naming, C: Wait + Drop> Workers<J, C> {
-    /// Opens a store over these blocks with so many passes and workers, each worker with a pass and
-    /// a seat of its own; a pass more is for whoever watches them. `O2` where there are not 1 to 64
-    /// of each, then `O3` where there are more than 63 blocks, then `O4` and memory.
+impl<J: OpenNaming, C: Wait + Drop> Workers<J, C> {
+    /// Opens a store over these blocks with this many passes and workers. Each worker has a pass
+    /// and a seat of its own. A further pass is for whoever watches them. It refuses with `O2` if
+    /// there are not 1 to 64 of each, then with `O3` if there are more than 63 blocks, then with
+    /// `O4` and for memory.
     pub fn open(
         rt: C,
         alloc: Global,
@@ -87,10 +88,11 @@ impl<J: Naming, C: Wait + Drop> Workers<J, C> {
     }
 }
 
-impl<J: Naming, C: Wait + Drop, K: Keeper + Drop> Workers<J, C, K> {
-    /// Opens a store over what a start found of one that was kept, with so many passes and workers,
-    /// as [`Workers::open`] does. The keeper holds the events from before, which make the world of
-    /// the snapshot. `O2` where there are not 1 to 64 of each, then `O4` and memory.
+impl<J: OpenNaming, C: Wait + Drop, K: Keeper + Drop> Workers<J, C, K> {
+    /// Opens a store over what a start found of a store that was kept, with this many passes and
+    /// workers, as [`Workers::open`] does. The keeper holds the events from before, which make the
+    /// world of the snapshot. It refuses with `O2` if there are not 1 to 64 of each, then with `O4`
+    /// and for memory.
     pub fn resume(
         rt: C,
         alloc: Global,
@@ -134,7 +136,7 @@ impl<J: Naming, C: Wait + Drop, K: Keeper + Drop> Workers<J, C, K> {
         }
     }
 
-    /// So many workers fewer: what was their own is for workers of the port of Prometheus.
+    /// This many workers fewer. What was their own is for workers of the port of Prometheus.
     pub fn receiving(self, alloc: Global, count: usize) -> Result<Workers<J, C, K>, AllocError>
         requires { count ≤ self }
         ensures { IfOk result (λ w. w + count ≡ self) }
@@ -157,8 +159,8 @@ impl<J: Naming, C: Wait + Drop, K: Keeper + Drop> Workers<J, C, K> {
         })
     }
 
-    /// One worker fewer: what was its own is for cuts that the store makes by itself, each as soon
-    /// as `cut_schedule` has it due.
+    /// One worker fewer. What was its own is for cuts that the store makes by itself. Each is made
+    /// as soon as it is due by `cut_schedule`.
     pub fn cutting(self, when: Schedule) -> Workers<J, C, K>
         requires { 0 < self }
         ensures { result + 1 ≡ self }

@@ -15,7 +15,7 @@ use crate::tending::{is_tended, tend_while};
 use crate::worker::{Shift, work};
 use guard::Rules;
 use keeper::Keeper;
-use snapshots::{Committer, Naming, Pass};
+use snapshots::{Committer, OpenNaming, Pass};
 use std::alloc::{AllocError, Global};
 use std::net::TcpListener;
 use std::sync::atomic::{AtomicBool, Ordering};
@@ -28,9 +28,9 @@ use std::time::{Clock, Duration};
 pub struct Terms {
     /// After how many connections a worker ends.
     pub requests: u64,
-    /// How long a client may give no byte, or take none; for ever where there is no limit.
+    /// How long a client may give no byte, or take none. It is for ever if there is no limit.
     pub idle: Option<Duration>,
-    /// The version of the program, as the port of Prometheus tells it.
+    /// The version of the program, as the port of Prometheus reports it.
     pub version: &'static str,
 }
 
@@ -46,7 +46,7 @@ pub struct Listeners<'a> {
 /// The work of one worker.
 fn work_at<
     'a,
-    J: Naming,
+    J: OpenNaming,
     C: Wait + Drop,
     K: Keeper + Drop,
     R: Wait + Threads + Clock + Eprint + Sync,
@@ -80,7 +80,7 @@ fn work_at<
     )
 }
 
-/// What workers have done, if each has served as many connections as were asked for: a worker that
+/// What workers have done, if each has served as many connections as were asked for. A worker that
 /// served fewer has lost its listener.
 fn all_served(shifts: Vec<Shift<'_>>, requests: u64) -> Result<Vec<Shift<'_>>, ServeError>
     ensures same { IfOk result (λ all. all.items ≡ shifts.entry.items) }
@@ -98,7 +98,7 @@ fn wait_at(rt: &impl Wait, gate: &Mutex<()>) {
     drop(gate.lock(rt));
 }
 
-/// Whether so many threads can be made, all at one time. They end before it does.
+/// Whether this many threads can be made, all at one time. They end before the call does.
 fn can_make<R: Threads + Wait + Sync>(rt: &R, count: usize) -> bool {
     let closed = Mutex::new(());
     let gate = &closed;
@@ -116,7 +116,7 @@ fn can_make<R: Threads + Wait + Sync>(rt: &R, count: usize) -> bool {
 /// Serves the connections of a listener until each worker has ended.
 fn run_all<
     'a,
-    J: Naming + Send + Sync,
+    J: OpenNaming + Send + Sync,
     C: Wait + Drop + Send + Sync,
     K: Keeper + Drop + Send,
     R: Threads + Wait + Clock + Eprint + Sync,
@@ -146,10 +146,11 @@ fn run_all<
     all_served(shifts, terms.requests)
 }
 
-/// Serves both ports until each worker has ended: what those of the first have done.
+/// Serves both ports until each worker has ended. Returns what the workers of the first port have
+/// done.
 fn run_ports<
     'a,
-    J: Naming + Send + Sync,
+    J: OpenNaming + Send + Sync,
     C: Wait + Drop + Send + Sync,
     K: Keeper + Drop + Send,
     R: Threads + Wait + Clock + Eprint + Sync,
@@ -190,10 +191,10 @@ fn run_ports<
     shifts
 }
 
-/// Serves as [`run_ports`] does, and tends the store beside.
+/// Serves as [`run_ports`] does, and tends the store at the same time.
 fn run_tended<
     'a,
-    J: Naming + Send + Sync,
+    J: OpenNaming + Send + Sync,
     C: Wait + Drop + Send + Sync,
     K: Keeper + Drop + Send,
     R: Threads + Wait + Clock + Eprint + Sync,
@@ -232,16 +233,16 @@ fn run_tended<
 }
 
 /// Serves the connections of listeners under rules until each worker has ended, each in a thread of
-/// its own: what each of the first port has done, under these rules and for as many connections as
-/// the terms ask for. The port of Prometheus is served by other workers, under the same rules and
-/// terms: what is written to its connections is the 503 of the room in front of them or the reply
-/// of the store to the bytes that came, and what a reply tells is kept by then.
+/// its own. Returns what each worker of the first port has done, under these rules and for as many
+/// connections as the terms ask for. Other workers serve the port of Prometheus, under the same
+/// rules and terms. What is written to its connections is the 503 of the room in front of them or
+/// the reply of the store to the bytes that came. What a reply reports is kept by then.
 ///
-/// `NoThread` is answered before any connection is accepted, where so many threads cannot be made;
-/// `NoListener` where a worker has ended because there is no listener any more.
+/// `NoThread` is returned before any connection is accepted, if that many threads cannot be made.
+/// `NoListener` is returned if a worker has ended because there is no listener any more.
 pub fn serve<
     'a,
-    J: Naming + Send + Sync,
+    J: OpenNaming + Send + Sync,
     C: Wait + Drop + Send + Sync,
     K: Keeper + Drop + Send,
     R: Threads + Wait + Clock + Eprint + Sync,
@@ -275,7 +276,7 @@ pub fn serve<
 }
 
 /// What the workers count, and who cuts beside them, if anyone does.
-fn tallies_of<J: Naming>(
+fn tallies_of<J: OpenNaming>(
     alloc: Global,
     places: &[Place<J>],
     receivers: &[Place<J>],
@@ -297,7 +298,7 @@ fn tallies_of<J: Naming>(
 /// Answers the clients of the status port, and tends the store if that is needed, until that is
 /// over.
 fn watch_and_tend<
-    J: Naming + Send + Sync,
+    J: OpenNaming + Send + Sync,
     C: Wait + Drop + Send + Sync,
     K: Keeper + Drop + Send,
     R: Threads + Wait + Clock + Eprint + Sync,
@@ -322,10 +323,10 @@ fn watch_and_tend<
     );
 }
 
-/// Serves as [`serve`] does, and answers the clients of the status port beside.
+/// Serves as [`serve`] does, and answers the clients of the status port at the same time.
 pub fn serve_watched<
     'a,
-    J: Naming + Send + Sync,
+    J: OpenNaming + Send + Sync,
     C: Wait + Drop + Send + Sync,
     K: Keeper + Drop + Send,
     R: Threads + Wait + Clock + Eprint + Sync,

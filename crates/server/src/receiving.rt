@@ -14,7 +14,7 @@ use guard::Rules;
 use keeper::Keeper;
 use remote_http::{Silence, answer};
 use remote_requests::{Came, End};
-use snapshots::{Committer, Naming, Pass, Seat};
+use snapshots::{Committer, Naming, OpenNaming, Pass, Seat};
 use std::alloc::{AllocError, Global};
 use std::io;
 use std::marker::{Brand, PhantomData};
@@ -46,7 +46,7 @@ const CROWDED: u64 = 1;
 const BUSY: &str = "HTTP/1.1 503 Service Unavailable\r\nContent-Type: application/json\r\n\
     Content-Length: 17\r\nConnection: close\r\n\r\n{\"refused\":\"G11\"}";
 
-/// Under which rules the requests of a port are judged, and which version its replies tell. The
+/// Under which rules the requests of a port are judged, and which version its replies report. The
 /// call that serves the port is generic in it.
 pub(crate) trait Ruling {
     ghost use Rattle.std.specs.Prelude.{ℕ, List};
@@ -65,8 +65,8 @@ impl Ruling for Brand {
     ghost version = { [] };
 }
 
-/// What the replies of a store's workers are: under these rules, with this version, and of what is
-/// kept in such a keeper.
+/// What the replies of a store's workers are. They are under these rules, with this version, and of
+/// what is kept in a keeper of this type.
 struct Replies<J: Naming, K: Keeper, B: Ruling> {
     store: PhantomData<J>,
     keeper: PhantomData<Mutex<K>>,
@@ -108,7 +108,7 @@ fn end_of(end: RoomEnd) -> End
     }
 }
 
-/// What is handed over where no reply is owed.
+/// What is handed over if no reply is owed.
 fn nothing(alloc: Global) -> Reply
     ensures head { result.head.items ≡ [] }
     ensures body { result.body.items ≡ [] }
@@ -120,9 +120,13 @@ fn nothing(alloc: Global) -> Reply
     }
 }
 
-impl<J: Naming, C: Wait + Drop, K: Keeper + Drop, B: Ruling, R: Wait + Threads + Clock + Sync> Work<
-    Replies<J, K, B>,
-> for Receiver<'_, J, C, K, B, R> {
+impl<
+    J: OpenNaming,
+    C: Wait + Drop,
+    K: Keeper + Drop,
+    B: Ruling,
+    R: Wait + Threads + Clock + Sync,
+> Work<Replies<J, K, B>> for Receiver<'_, J, C, K, B, R> {
     ghost is_ready = { IsSync R.row };
 
     fn reply(&mut self, bytes: &[u8], end: RoomEnd) -> Result<Reply, AllocError> {
@@ -155,7 +159,7 @@ impl<J: Naming, C: Wait + Drop, K: Keeper + Drop, B: Ruling, R: Wait + Threads +
     }
 }
 
-/// Counts the connections of the port, in one of its workers' tallies; their faults go to standard
+/// Counts the connections of the port, in one of its workers' tallies. Their faults go to standard
 /// error.
 #[derive(Drop)]
 struct Door<'a, R> {
@@ -200,7 +204,7 @@ fn terms_of(idle: Option<Duration>) -> RoomTerms {
 }
 
 /// What each of these places is for, at the port of Prometheus.
-fn receivers_of<'a, J: Naming, C: Wait + Drop, K: Keeper + Drop, B: Ruling, R>(
+fn receivers_of<'a, J: OpenNaming, C: Wait + Drop, K: Keeper + Drop, B: Ruling, R>(
     rt: &'a R,
     alloc: Global,
     committer: &'a Committer<J, C, K>,
@@ -261,7 +265,7 @@ fn run_room<
 
 /// Serves the connections of the port of Prometheus as [`receive_all`] does.
 fn receive_under<
-    J: Naming + Send + Sync,
+    J: OpenNaming + Send + Sync,
     C: Wait + Drop + Send + Sync,
     K: Keeper + Drop + Send,
     B: Ruling + Send + Sync,
@@ -301,20 +305,20 @@ fn receive_under<
     }
 }
 
-/// How many threads serve the port of Prometheus with so many workers, as far as they can be
+/// How many threads serve the port of Prometheus with this many workers, as far as they can be
 /// counted.
 pub(crate) fn threads_with(workers: usize) -> usize {
     workers.saturating_add(PLACES as usize)
 }
 
 /// Serves the connections of the port of Prometheus until as many were attended as its workers are
-/// to serve: how many workers there were.
+/// to serve. Returns how many workers there were.
 ///
-/// What the room in front of them writes is its 503 or a reply that [`Replies`] allows: that of the
-/// store to the bytes that came, under these rules and with the version of the terms; and a keeper
-/// holds what was published.
+/// What the room in front of them writes is its 503 or a reply that [`Replies`] allows. That reply
+/// is the store's to the bytes that came, under these rules and with the version of the terms. A
+/// keeper holds what was published.
 pub(crate) fn receive_all<
-    J: Naming + Send + Sync,
+    J: OpenNaming + Send + Sync,
     C: Wait + Drop + Send + Sync,
     K: Keeper + Drop + Send,
     R: Threads + Wait + Clock + Eprint + Sync,

@@ -62,7 +62,7 @@ fn is_gone(error: &io::Error) -> bool {
     )
 }
 
-/// What is told of a connection that was served so, if it is a fault.
+/// What is reported of a connection that was served this way, if it is a fault.
 fn fault_of(served: Served) -> Option<&'static str> {
     match served {
         Served::ReadFault => Some("cannot read a request"),
@@ -72,8 +72,8 @@ fn fault_of(served: Served) -> Option<&'static str> {
     }
 }
 
-/// Sets the limits of a connection: a call that waits longer than `idle` fails. Nothing is set for
-/// the end of a reply to go out at once, since the writing side is ended right behind it.
+/// Sets the limits of a connection: a call that waits longer than `idle` fails. No option makes the
+/// end of a reply go out at once, since the writing side is ended right behind it.
 fn limit(stream: &TcpStream, idle: Option<Duration>) -> io::Result<()> {
     stream.set_read_timeout(idle)?;
     stream.set_write_timeout(idle)
@@ -87,12 +87,13 @@ fn sides_of(alloc: Global, stream: TcpStream) -> Option<(SocketReader, SocketWri
 }
 
 impl<'a, R: Clock + Eprint> Sockets<'a, R> {
-    /// Tells a fault in a line of its own on standard error, if that takes it.
+    /// Reports a fault in a line of its own on standard error, if that takes it.
     fn tell(&self, fault: &str) {
         let _ = eprintln!(self.rt; "{fault}");
     }
 
-    /// The two sides of a new connection, with its limits; none where that fails, which is told.
+    /// The two sides of a new connection, with its limits. There is none if that fails, which is
+    /// reported.
     fn open(&self, stream: TcpStream) -> Option<(SocketReader, SocketWriter)> {
         if limit(&stream, self.idle).is_err() {
             self.tell("cannot limit a connection");
@@ -105,7 +106,7 @@ impl<'a, R: Clock + Eprint> Sockets<'a, R> {
         sides
     }
 
-    /// For how many microseconds the connection is served, as far as the clock tells.
+    /// For how many microseconds the connection is served, as far as the clock says.
     fn microseconds(&self) -> u64 {
         let Some(since) = self.since else {
             return 0;
@@ -122,7 +123,7 @@ impl<'a, R: Clock + Eprint> Sockets<'a, R> {
         self.since = Instant::now(self.rt).ok();
     }
 
-    /// One try to accept a connection: an error where there is no listener any more.
+    /// One try to accept a connection. It is an error if there is no listener any more.
     fn try_accept(&self) -> io::Result<Option<(SocketReader, SocketWriter)>> {
         match self.listener.accept() {
             Ok((stream, _peer)) => Ok(self.open(stream)),

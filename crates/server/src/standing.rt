@@ -1,4 +1,4 @@
-//! How a server stands, for those that ask at the status port.
+//! The state of a server, for those that ask at the status port.
 
 use crate::status::{Report, answer_status};
 use crate::tally::Tally;
@@ -14,11 +14,11 @@ use std::time::Clock;
 
 /// What knows how much memory the process occupies.
 pub trait Memory {
-    /// In bytes; 0 if it is not known.
+    /// How much memory it occupies, in bytes, or 0 if that is not known.
     fn resident(&self) -> u64;
 }
 
-/// The status port, and what is told there beside what the server knows.
+/// The status port, and what is reported there beside what the server knows.
 #[derive(Drop)]
 pub struct Watch<'a, M> {
     /// Its listener, which does not block.
@@ -29,7 +29,7 @@ pub struct Watch<'a, M> {
     pub kit: &'static str,
 }
 
-/// How a server stands with an empty head and no block.
+/// The state of a server with an empty head and no block.
 fn state_of<M: Memory>(watch: &Watch<'_, M>, workers: u64, busy: u64) -> State {
     State {
         series: 0,
@@ -45,7 +45,7 @@ fn state_of<M: Memory>(watch: &Watch<'_, M>, workers: u64, busy: u64) -> State {
     }
 }
 
-/// How a server stands whose blocks are not open yet.
+/// The state of a server whose blocks are not open yet.
 #[derive(Drop)]
 struct Opening<'a, 'b, M> {
     watch: &'a Watch<'b, M>,
@@ -80,7 +80,7 @@ pub fn report_opening<R: Clock, M: Memory>(
     answer_status(rt, alloc, watch.listener, over, &mut report);
 }
 
-/// How many series and samples a head has, if there is memory to count them: its series are
+/// How many series and samples a head has, if there is memory to count them. Its series are
 /// numbered from 1.
 fn head_counts(alloc: Global, snapshot: &Snapshot) -> Option<(u64, u64)> {
     let (mut series, mut samples) = (0u64, 0u64);
@@ -99,7 +99,7 @@ fn head_counts(alloc: Global, snapshot: &Snapshot) -> Option<(u64, u64)> {
     Some((series, samples))
 }
 
-/// How a server stands whose blocks are open.
+/// The state of a server whose blocks are open.
 #[derive(Drop)]
 struct Open<'a, 'b, M, J: Naming> {
     alloc: Global,
@@ -166,7 +166,7 @@ impl<M: Memory, J: Naming> Report for Open<'_, '_, M, J> {
     }
 }
 
-/// Answers the clients of the status port while so many workers serve, until that is over.
+/// Answers the clients of the status port while this many workers serve, until that is over.
 pub(crate) fn report_open<R: Clock, M: Memory, J: Naming>(
     rt: &R,
     alloc: Global,

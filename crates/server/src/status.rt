@@ -1,4 +1,4 @@
-//! The status port: what the server tells of itself.
+//! The status port: what the server says of itself.
 
 ghost use Rattle.std.specs.Prelude.{◌≡◌, ◌==◌, ◌++◌, ℕ, Bool, List, Decides, MatchOption, IfOk};
 ghost use Rattle.std.specs.Prelude.{IfSome, codes, position, string_bytes};
@@ -23,13 +23,13 @@ const PAUSE: u64 = 20;
 /// For how many milliseconds a client of the status port may give or take no byte.
 const SILENCE: u64 = 300;
 
-/// After how many milliseconds no read of a request begins: it takes a second at most.
+/// After how many milliseconds no read of a request begins. Reading it takes a second at most.
 const LATEST: u64 = 700;
 
 /// The most bytes of a request that are read.
 const MOST: usize = 8192;
 
-/// Who knows how a server stands.
+/// Who knows the state of a server.
 pub trait Report {
     /// Whether the blocks are open.
     ghost ready: { Self → Bool };
@@ -38,10 +38,10 @@ pub trait Report {
     fn is_ready(&self) -> bool
         ensures { result ≡ ready self.now };
 
-    /// What was counted so far.
+    /// What was counted until now.
     fn counts(&self) -> Counts;
 
-    /// How things stand now, if that is known.
+    /// The state now, if that is known.
     fn state(&mut self) -> Option<State>;
 }
 
@@ -80,7 +80,7 @@ fn place_of(text: &[u8], byte: u8) -> Option<usize>
     text.iter().position(|one| *one == byte)
 }
 
-/// What stands before the first of these bytes, and what stands behind it.
+/// What comes before the first of these bytes, and what comes behind it.
 fn parted(text: &[u8], byte: u8) -> Option<(&[u8], &[u8])>
     ensures { MatchOption result (Lacks byte text.now)
         (λ parts. IsParted byte text.now parts.0.now parts.1.now) }
@@ -91,7 +91,7 @@ fn parted(text: &[u8], byte: u8) -> Option<(&[u8], &[u8])>
     }
 }
 
-/// The path of a target: what stands before its query.
+/// The path of a target: what comes before its query.
 fn path_in(target: &[u8]) -> &[u8]
     ensures { IsPath target.now result.now }
 {
@@ -190,7 +190,7 @@ fn told_answer(
     Ok((line, Vec::from_slice(alloc, text.as_bytes())?))
 }
 
-/// The status line and the body of what was counted, if it is known how things stand.
+/// The status line and the body of what was counted, if the state is known.
 fn counts_answer<S: Report>(
     alloc: Global,
     report: &mut S,
@@ -268,7 +268,7 @@ fn reply_to<S: Report>(alloc: Global, head: &[u8], report: &mut S) -> Result<Vec
     reply_of(alloc, asked_in(head), is_bare(head), report)
 }
 
-/// The law of what is asked: bytes ask for one thing, and so get one reply.
+/// The law of what is asked: bytes ask for one thing, so they get one reply.
 pub fn asked_law()
     ensures { AreAskedOnce }
 {}
@@ -279,7 +279,7 @@ pub fn head_law()
         → IsHeadOfReply (codes "GET " ++ rest) ready reply }
 {}
 
-/// Reads the head of a request, or its first bytes if it is long or slow or if all is over.
+/// Reads the head of a request. If it is long or slow or if all is over, it reads its first bytes.
 fn read_head<R: Read>(
     rt: &impl Clock,
     alloc: Global,
@@ -306,8 +306,8 @@ fn read_head<R: Read>(
     Ok(head)
 }
 
-/// Reads what one client asks, writes the reply to it, and gives what was read. A read ends with
-/// the head, or if that is long or slow or all is over.
+/// Reads what one client asks, writes the reply to it, and returns what was read. A read ends with
+/// the head, or earlier if that is long or slow or all is over.
 pub fn answer_client<R: Read, W: Write, S: Report>(
     rt: &impl Clock,
     alloc: Global,
@@ -327,7 +327,7 @@ pub fn answer_client<R: Read, W: Write, S: Report>(
     Ok(head)
 }
 
-/// Answers one client of the system. What was no request in time is not read on.
+/// Answers one client of the system. If what came was no request in time, it is read no further.
 fn answer<S: Report>(
     rt: &impl Clock,
     alloc: Global,

@@ -33,7 +33,7 @@ impl Cells {
         }
     }
 
-    /// Adds each count to the one in its place.
+    /// Adds each count to the count in its place.
     fn add_to(&self, counts: &mut [u64]) {
         for (count, cell) in counts.iter_mut().zip(self.cells.iter()) {
             *count = count.saturating_add(read(cell));
@@ -67,7 +67,7 @@ impl PathTally {
         })
     }
 
-    /// Counts a reply with this status, of a request that took so long.
+    /// Counts a reply with this status, of a request that took this long.
     fn count(&self, status: Status, microseconds: u64) {
         if let Some(place) = place_of_status(status.number() as u64) {
             self.replies.count(place);
@@ -87,7 +87,7 @@ fn add_times(tally: &PathTally, times: &mut Times) {
     times.microseconds = times.microseconds.saturating_add(read(&tally.microseconds));
 }
 
-/// What one worker counts. It alone adds, and whoever has it reads, without a lock.
+/// What one worker counts. Only the worker adds to it. Whoever has it reads it, without a lock.
 #[derive(Drop)]
 pub struct Tally {
     select: PathTally,
@@ -109,14 +109,14 @@ pub struct Tally {
 /// An event that the store accepted.
 #[derive(Clone, Copy, Debug, PartialEq, Eq, Drop)]
 enum Event {
-    /// So many samples.
+    /// This many samples.
     Batch(u64),
     Deletion,
     Cutting,
     Nothing,
 }
 
-/// The number of the refusal that a reply of 503 has, by the path: the store lends no snapshot, or
+/// The number of the refusal that a reply of 503 has, by the path. The store lends no snapshot, or
 /// does not keep an event.
 fn refusal_unavailable(path: Option<Path>) -> u64
     ensures { result ≡ refusal_unavailable path }
@@ -127,8 +127,8 @@ fn refusal_unavailable(path: Option<Path>) -> u64
     }
 }
 
-/// The number of the refusal that a connection got, if it got one: what came is refused, or the
-/// status of the reply says which refusal of a store it is.
+/// The number of the refusal that a connection got, if it got one. Either what came is refused, or
+/// the status of the reply says which refusal of a store it is.
 fn refusal_of(note: Note, status: Status) -> Option<u64>
     ensures { result ≡ refusal_told note status }
 {
@@ -139,7 +139,7 @@ fn refusal_of(note: Note, status: Status) -> Option<u64>
     }
 }
 
-/// The event that a request of a path publishes, with so many samples.
+/// The event that a request of a path publishes, with this many samples.
 fn event_at(path: Option<Path>, samples: u64) -> Event
     ensures { result ≡ event_at path samples }
 {
@@ -222,8 +222,8 @@ impl Tally {
         }
     }
 
-    /// Counts a connection of which this was noted, if a reply was made for it: it took so long,
-    /// and so many bytes were written.
+    /// Counts a connection of which this was noted, if a reply was made for it. It took this long,
+    /// and this many bytes were written.
     pub(crate) fn count(&self, note: Note, microseconds: u64, bytes: u64) {
         add(&self.bytes, bytes);
         let Some(status) = note.status else {

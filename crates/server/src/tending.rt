@@ -2,15 +2,15 @@
 
 use crate::cutter::{Cutter, PAUSE};
 use keeper::{KeepError, Keeper};
-use snapshots::{Committer, Naming};
+use snapshots::{Committer, OpenNaming};
 use std::alloc::Global;
 use std::sync::Wait;
 use std::sync::atomic::{AtomicBool, Ordering};
 use std::thread::sleep;
 use std::time::{Clock, Duration};
 
-/// Whether a store is tended: it is cut by itself, or what is in it is kept.
-pub(crate) fn is_tended<J: Naming, K: Keeper>(cutter: Option<&Cutter<J>>) -> bool {
+/// Whether a store is tended: it cuts itself, or what is in it is kept.
+pub(crate) fn is_tended<J: OpenNaming, K: Keeper>(cutter: Option<&Cutter<J>>) -> bool {
     cutter.is_some() || !K::is_idle()
 }
 
@@ -24,8 +24,8 @@ fn reason_of(error: KeepError) -> &'static str {
     }
 }
 
-/// Has what is kept saved, if that is worth it, and tells what came of it.
-fn save<J: Naming, C: Wait + Drop, K: Keeper + Drop>(
+/// Saves what is kept, if that is worth it, and reports what came of it.
+fn save<J: OpenNaming, C: Wait + Drop, K: Keeper + Drop>(
     rt: &(impl Wait + Eprint),
     committer: &Committer<J, C, K>,
 ) {
@@ -46,7 +46,7 @@ fn save<J: Naming, C: Wait + Drop, K: Keeper + Drop>(
 }
 
 /// Looks now and then whether the store is to be cut or saved, and does so, until that is over.
-pub(crate) fn tend_while<J: Naming, C: Wait + Drop, K: Keeper + Drop, R: Wait + Clock + Eprint>(
+pub(crate) fn tend_while<J: OpenNaming, C: Wait + Drop, K: Keeper + Drop, R: Wait + Clock + Eprint>(
     rt: &R,
     alloc: Global,
     cutter: Option<Cutter<J>>,

@@ -10,12 +10,12 @@ use crate::connections::Connections;
 use guard::Rules;
 use keeper::Keeper;
 use query_http::{Buffers, serve_one_with};
-use snapshots::{Committer, Naming, Pass, Seat};
+use snapshots::{Committer, OpenNaming, Pass, Seat};
 use std::alloc::Global;
 use std::sync::Wait;
 use std::thread::Threads;
 
-/// What a worker has done when it ends: only [`work`] makes one.
+/// What a worker has done when it ends. Only [`work`] makes one.
 #[derive(Clone, Copy)]
 pub struct Shift<'a> {
     served: u64,
@@ -30,7 +30,7 @@ impl<'a> Shift<'a> {
         self.served
     }
 
-    /// Under which rules.
+    /// Under which rules it worked.
     pub fn rules(&self) -> &'a Rules
         ensures { result.now ≡ self.now.rules.now }
     {
@@ -38,11 +38,12 @@ impl<'a> Shift<'a> {
     }
 }
 
-/// Serves connections one after another, at most so many: fewer only where no more will come.
+/// Serves connections one after another, at most `most` of them. It serves fewer only if no more
+/// will come.
 ///
 /// Each is served by [`serve_one_with`] under these rules, with the pass and the seat as the
 /// connection before left them, and in the same buffers.
-pub fn work<'a, J: Naming, C: Wait + Drop, K: Keeper + Drop, A: Connections>(
+pub fn work<'a, J: OpenNaming, C: Wait + Drop, K: Keeper + Drop, A: Connections>(
     rt: &(impl Wait + Threads + Sync),
     alloc: Global,
     rules: &'a Rules,
@@ -58,7 +59,7 @@ pub fn work<'a, J: Naming, C: Wait + Drop, K: Keeper + Drop, A: Connections>(
         (A.past connections.old) (A.past connections.new) result.served }
     ensures farther { IsFarther (worker pass.old seat.old) (worker pass.new seat.new)
         result.served }
-    // What it got a reply of success for is held by a keeper.
+    // A keeper holds what got a reply of success.
     ensures held { PublishesHeld K.holds J.before seat.old seat.new }
     ensures few { result.served ≤ most }
     ensures over { result.served < most → IsOver (A.coming connections.new) }

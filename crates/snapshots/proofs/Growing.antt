@@ -7,16 +7,17 @@ use Rattle.left_right.specs.Register.{Admits, Turns, TurnsAt}
 use Rattle.atomic_table.proofs.Lists.{at_set, at_snoc}
 use Rattle.logbook.specs.Pages.{Book}
 use Rattle.head.specs.Heads.{SnapshotParts}
+use Rattle.head.specs.Worlds.{Event}
 use Rattle.snapshots.specs.declared.entry.Entry.{Entry}
 use Rattle.snapshots.specs.Marks.{list_of}
 use Rattle.snapshots.specs.Views.{Edition}
 use Rattle.snapshots.specs.Grows.{Shows, Keeps, SeesList}
 use Rattle.snapshots.proofs.Prefixes.{prefix_self, prefix_trans}
 
-module _ (book : Book) (opening : SnapshotParts) where
+module _ (book : Book) (opening : SnapshotParts) (asked : Event → ℕ → ℕ → Type 0) where
   pub rises : (seat : ℕ) (v : List Entry) (x y : Edition)
-      → IsPrefix (list_of x.marks) (list_of y.marks) → Shows book opening y (list_of y.marks)
-      → TurnsAt (Keeps book opening) seat v x y (SeesList book opening)
+      → IsPrefix (list_of x.marks) (list_of y.marks) → Shows book opening asked y (list_of y.marks)
+      → TurnsAt (Keeps book opening asked) seat v x y (SeesList book opening asked)
   rises seat v x y up of views h at = (
     list_of y.marks,
     (
@@ -33,10 +34,10 @@ module _ (book : Book) (opening : SnapshotParts) where
   )
 
   pub enters : (seat : ℕ) (v : List Entry)
-      → Turns (Keeps book opening) seat v (λ x. x) (SeesList book opening)
+      → Turns (Keeps book opening asked) seat v (λ x. x) (SeesList book opening asked)
   enters seat v x views h at = rises seat v x x (prefix_self (list_of x.marks)) h.0 views h at
 
-  pub admits : Admits (Keeps book opening) []
+  pub admits : Admits (Keeps book opening asked) []
   admits x views h = (
     h.0,
     λ seat v at. ⊎_elim (h.1 seat v)
@@ -45,8 +46,8 @@ module _ (book : Book) (opening : SnapshotParts) where
         (at_snoc views [] v seat at),
   )
 
-  pub starts : (x : Edition) → Shows book opening x (list_of x.marks)
-      → Keeps book opening x ([] ∷ [])
+  pub starts : (x : Edition) → Shows book opening asked x (list_of x.marks)
+      → Keeps book opening asked x ([] ∷ [])
   starts x of = (
     of,
     λ seat v at. ⊎_elim

@@ -1,5 +1,6 @@
 pub mod Prefixes
 pub mod Adding
+pub mod Asked
 pub mod Accepts
 pub mod Growing
 pub mod Counting

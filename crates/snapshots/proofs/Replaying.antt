@@ -12,11 +12,9 @@ use Rattle.head.specs.declared.error.CommitError.{CommitError}
 use Rattle.head.specs.declared.error.CommitError.TheVariants.{OutOfBounds, OutOfOrder, Duplicate, Limit, CutTooLow, TooManyParts, Seat, Journal, Memory}
 use Rattle.matchers.specs.Views.{MatcherView}
 use Rattle.snapshots.specs.declared.entry.Entry.{Entry}
-use Rattle.logbook.specs.Pages.{Book}
-use Rattle.snapshots.specs.Grows.{Shows}
 use Rattle.snapshots.specs.Replays.{events_in, IsAfter, Steps, Leads, KeepsFrames, IsEventRefusal, IsOfStore, IsRefusedAfter, IsRefusedBy}
 use Rattle.snapshots.specs.Seats.{SeatView, IsMetBy}
-use Rattle.snapshots.specs.Views.{Edition, Ledger}
+use Rattle.snapshots.specs.Views.{Ledger}
 use Rattle.snapshots.proofs.Prefixes.{prefix_self, prefix_trans}
 
 -- an event leaves the blocks that there were first, each with its frame
@@ -65,14 +63,6 @@ after-snoc opening es e s t after step =
       reached = subst (λ (events : List Event). Leads opening events t) (sym events)
           (leads-snoc opening (events_in es) e.event s t after.reached step);
     }
-
--- the snapshot after one event more than the published version has
-pub after_shown : (book : Book) (opening : SnapshotParts) (x : Edition) (es : List Entry)
-    (e : Entry) (s t : SnapshotParts)
-    → Shows book opening x es → s ≡ x.parts → Steps s e.event t → IsAfter opening (es ++ e ∷ []) t
-after_shown book opening x es e s t shows at step =
-    after-snoc opening es e x.parts t shows.2
-    (subst (λ (z : SnapshotParts). Steps z e.event t) at step)
 
 -- what refuses a step of a book refuses it after a list that the seat may meet
 pub refused_met : {A C : Type 0} (opening : SnapshotParts) (seat seat_after : SeatView)

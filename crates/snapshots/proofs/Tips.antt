@@ -8,6 +8,7 @@ use Rattle.logbook.specs.Pages.{Book}
 use Rattle.snapshots.specs.declared.entry.Entry.{Entry}
 use Rattle.snapshots.specs.declared.entry.Mark.{Mark}
 use Rattle.snapshots.specs.declared.entry.Mark.TheVariants.{Try, Seal, Done, Void}
+use Rattle.snapshots.specs.Asking.{AreAsked}
 use Rattle.snapshots.specs.Grows.{Shows, MayFollow}
 use Rattle.snapshots.specs.Keeping.{IsGroup, SpellAll, kept_of}
 use Rattle.snapshots.specs.Marks.{accepted, list_of, tried_of}
@@ -161,17 +162,18 @@ module _ (book : Book) (opening : SnapshotParts) (idle : Bool) (group log : List
   listed = lists ∙ sym is_group.whole
 
   -- the version may be published, and shows the list of the group
-  module _ (x y : Edition) (t : SnapshotParts) (alike : t ≡ s) (shows : Shows book opening x (accepted group))
-      (y_is : y ≡ record { book = book; marks = log; parts = t }) where
-    pub shows_listed : (entries : List Entry) → list_of group ≡ entries → Shows book opening y entries
+  module _ (asked : Event → ℕ → ℕ → Type 0) (x y : Edition) (t : SnapshotParts) (alike : t ≡ s) (shows : Shows book opening asked x (accepted group))
+      (y_is : y ≡ record { book = book; marks = log; parts = t }) (is_asked : AreAsked asked (list_of log)) where
+    pub shows_listed : (entries : List Entry) → list_of group ≡ entries → Shows book opening asked y entries
     shows_listed entries same = (
       ap (λ (z : Edition). z.book) y_is,
       ap (λ (z : Edition). list_of z.marks) y_is ∙ (listed ∙ same),
       subst (λ (z : SnapshotParts). IsAfter opening entries z) (sym (ap (λ (z : Edition). z.parts) y_is ∙ alike))
           (subst (λ (z : List Entry). IsAfter opening z s) same is_group.stands.after),
+      subst (λ (z : List Entry). AreAsked asked z) (listed ∙ same) is_asked,
     )
 
-    pub may_publish : MayFollow book opening x y
+    pub may_publish : MayFollow book opening asked x y
     may_publish = (
       shows_listed (list_of y.marks) (sym (ap (λ (z : Edition). list_of z.marks) y_is ∙ listed)),
       (

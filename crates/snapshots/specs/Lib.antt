@@ -1,4 +1,5 @@
 pub mod Marks
+pub mod Asking
 pub mod Tallies
 pub mod Replays
 pub mod Seats

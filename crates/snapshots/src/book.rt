@@ -5,6 +5,7 @@ ghost use Rattle.std.specs.Arc.{arc_value};
 ghost use mathlib.Core.List.{IsPrefix};
 ghost use Rattle.head.specs.Heads.{world_of};
 ghost use Rattle.keeper.specs.Finding.{AreAll, FindsWorld, LeavesEvents};
+ghost use Rattle.snapshots.specs.Asking.{AreAsked};
 ghost use Rattle.snapshots.specs.Marks.{accepted, list_of};
 ghost use Rattle.snapshots.specs.Grows.{Shows};
 ghost use Rattle.snapshots.specs.Keeping.{kept_of, AreKeptBetween, IsGroup, IsHindered};
@@ -48,7 +49,7 @@ impl<J: Naming, R: Wait + Drop, K: Keeper + Drop> Model for Book<J, R, K> {
     } };
 
     ghost invariant = { λ b.
-        Shows J.book J.opening b.press.desk.shown.value (accepted b.log)
+        Shows J.book J.opening J.asked b.press.desk.shown.value (accepted b.log)
         × K.holds b.keeper (kept_of J.before (accepted b.log))
         × OpensAsKept K.idle K.first J.before J.opening };
 }
@@ -58,7 +59,7 @@ impl<J: Naming, R: Wait + Drop, K: Keeper + Drop> Book<J, R, K> {
     pub(crate) fn of(rt: R, log: LogPrefix<J>, press: Press<J>, keeper: K) -> Book<J, R, K>
         requires kept { K.holds keeper J.before }
         requires world { OpensAsKept K.idle K.first J.before J.opening }
-        requires shown { Shows J.book J.opening press.desk.shown.value (accepted log) }
+        requires shown { Shows J.book J.opening J.asked press.desk.shown.value (accepted log) }
         requires empty { accepted log ≡ [] }
         ensures { result ≡ record {
           entries = accepted log;
@@ -100,6 +101,8 @@ impl<J: Naming, R: Wait + Drop, K: Keeper + Drop> Book<J, R, K> {
         ensures cause { IfErr result.1 (λ e. e ≡ CommitError.Journal
             → IsHindered K.closed K.full K.failed self.old.keeper self.new.keeper) }
         ensures world { IsAfter J.opening self.new.entries self.new.parts }
+        // Each event that is published was asked for.
+        ensures asked { AreAsked J.asked self.new.entries }
         // What is kept is what is published, after what was kept before the start.
         ensures held { K.holds self.new.keeper (kept_of J.before self.new.entries) }
         // It makes the world that is published.

@@ -2,13 +2,15 @@
 
 ghost use Rattle.std.specs.Prelude.{◌≡◌, false, true, None, Ok, Some, is_none, IsTrue, IfOk, IfErr};
 ghost use Rattle.std.specs.Prelude.{IfSome, MatchBool, OnErr};
+ghost use Rattle.snapshots.specs.Asking.{AreAsked};
 ghost use Rattle.snapshots.specs.Keeping.{AreHeld};
 ghost use Rattle.snapshots.specs.Marks.{tried_of};
 ghost use Rattle.snapshots.specs.Tips.{IsFailure};
 ghost use Rattle.labels.specs.Contents.{is_time};
 ghost use Rattle.head.specs.BatchRows.{batch_of_rows};
 ghost use Rattle.head.specs.Batches.{is_deletion};
-ghost use Rattle.head.specs.Worlds.{batch, deletion, cut, matchers_of};
+ghost use Rattle.head.specs.Sifting.{sifted};
+ghost use Rattle.head.specs.Worlds.{World, batch, deletion, cut, matchers_of};
 ghost use Rattle.snapshots.specs.Replays.{EndsWith, AreAccepted, IsRefusedAfter, IsRefusedBy};
 ghost use Rattle.snapshots.specs.Replays.{IsOfStore};
 ghost use Rattle.snapshots.specs.Seats.{HasOneMoreEvent};
@@ -105,6 +107,7 @@ impl<J: Naming, R: Wait + Drop, K: Keeper + Drop> Committer<J, R, K> {
     ) -> Result<Receipt<J>, CommitError>
         ensures receipt { IfOk result (λ r. r ≡ tried_of trial.now) }
         ensures held { IfOk result (λ r. AreHeld K.holds J.before r) }
+        ensures asked { IfOk result (λ r. AreAsked J.asked r) }
         ensures refused { IfErr result (λ e. IsFailure K.idle e) }
     {
         let mut tip = tip;
@@ -127,8 +130,10 @@ impl<J: Naming, R: Wait + Drop, K: Keeper + Drop> Committer<J, R, K> {
         trial: Trial<J>,
     ) -> Result<Receipt<J>, CommitError>
         requires held { IfSome (published_in trial) (λ r. AreHeld K.holds J.before r) }
+        requires asked { IfSome (published_in trial) (λ r. AreAsked J.asked r) }
         ensures receipt { IfOk result (λ r. r ≡ list_in trial) }
         ensures held { IfOk result (λ r. AreHeld K.holds J.before r) }
+        ensures asked { IfOk result (λ r. AreAsked J.asked r) }
         ensures refused { IfErr result (λ e. IsFailure K.idle e) }
     {
         match trial {
@@ -145,8 +150,10 @@ impl<J: Naming, R: Wait + Drop, K: Keeper + Drop> Committer<J, R, K> {
         seat: &mut Seat<J>,
         change: C,
     ) -> Result<Receipt<J>, (C, Refused<J>)>
+        requires asked { J.asked (C.event change) seat.old.number seat.old.count }
         ensures ends { IfOk result (λ r. EndsWith (C.event change) seat.old.number r) }
         ensures accepted { IfOk result (λ r. AreAccepted J.opening r) }
+        ensures asked { IfOk result (λ r. AreAsked J.asked r) }
         ensures held { IfOk result (λ r. AreHeld K.holds J.before r) }
         ensures counted { IfOk result (λ r. HasOneMoreEvent seat.old seat.new r) }
         ensures kept { IfErr result (λ e. (e.0 ≡ change) × (seat.new ≡ seat.old)) }
@@ -155,6 +162,7 @@ impl<J: Naming, R: Wait + Drop, K: Keeper + Drop> Committer<J, R, K> {
         ensures met { IfErr result (λ e.
             IsRefusedBy J.opening seat.old e.1.error (C.event change) e.1.met) }
         ensures known { IfErr result (λ e. IfSome e.1.met (λ r. AreHeld K.holds J.before r)) }
+        ensures met_asked { IfErr result (λ e. IfSome e.1.met (λ r. AreAsked J.asked r)) }
         ensures journal { IfErr result (λ e. e.1.error ≡ CommitError.Journal → K.idle ≡ false) }
     {
         let bytes = match record_of::<C, K>(self.alloc, &change) {
@@ -207,8 +215,10 @@ impl<J: Naming, R: Wait + Drop, K: Keeper + Drop> Committer<J, R, K> {
         seat: &mut Seat<J>,
         appender: Appender,
     ) -> Result<Receipt<J>, (Appender, Refused<J>)>
+        requires asked { J.asked (batch appender) seat.old.number seat.old.count }
         ensures ends { IfOk result (λ r. EndsWith (batch appender) seat.old.number r) }
         ensures accepted { IfOk result (λ r. AreAccepted J.opening r) }
+        ensures asked { IfOk result (λ r. AreAsked J.asked r) }
         ensures held { IfOk result (λ r. AreHeld K.holds J.before r) }
         ensures counted { IfOk result (λ r. HasOneMoreEvent seat.old seat.new r) }
         ensures kept { IfErr result (λ e. (e.0 ≡ appender) × (seat.new ≡ seat.old)) }
@@ -217,6 +227,7 @@ impl<J: Naming, R: Wait + Drop, K: Keeper + Drop> Committer<J, R, K> {
         ensures met { IfErr result (λ e.
             IsRefusedBy J.opening seat.old e.1.error (batch appender) e.1.met) }
         ensures known { IfErr result (λ e. IfSome e.1.met (λ r. AreHeld K.holds J.before r)) }
+        ensures met_asked { IfErr result (λ e. IfSome e.1.met (λ r. AreAsked J.asked r)) }
         ensures journal { IfErr result (λ e. e.1.error ≡ CommitError.Journal → K.idle ≡ false) }
     {
         match self.step(rt, seat, appender.into_event()) {
@@ -234,9 +245,11 @@ impl<J: Naming, R: Wait + Drop, K: Keeper + Drop> Committer<J, R, K> {
         seat: &mut Seat<J>,
         rows: RowBatch,
     ) -> Result<Receipt<J>, (RowBatch, Refused<J>)>
+        requires asked { J.asked (batch (batch_of_rows rows)) seat.old.number seat.old.count }
         ensures ends { IfOk result (λ r.
             EndsWith (batch (batch_of_rows rows)) seat.old.number r) }
         ensures accepted { IfOk result (λ r. AreAccepted J.opening r) }
+        ensures asked { IfOk result (λ r. AreAsked J.asked r) }
         ensures held { IfOk result (λ r. AreHeld K.holds J.before r) }
         ensures counted { IfOk result (λ r. HasOneMoreEvent seat.old seat.new r) }
         ensures kept { IfErr result (λ e. (e.0 ≡ rows) × (seat.new ≡ seat.old)) }
@@ -245,6 +258,7 @@ impl<J: Naming, R: Wait + Drop, K: Keeper + Drop> Committer<J, R, K> {
         ensures met { IfErr result (λ e.
             IsRefusedBy J.opening seat.old e.1.error (batch (batch_of_rows rows)) e.1.met) }
         ensures known { IfErr result (λ e. IfSome e.1.met (λ r. AreHeld K.holds J.before r)) }
+        ensures met_asked { IfErr result (λ e. IfSome e.1.met (λ r. AreAsked J.asked r)) }
         ensures journal { IfErr result (λ e. e.1.error ≡ CommitError.Journal → K.idle ≡ false) }
     {
         self.step(rt, seat, rows)
@@ -268,9 +282,12 @@ impl<J: Naming, R: Wait + Drop, K: Keeper + Drop> Committer<J, R, K> {
         seat: &mut Seat<J>,
         rows: RowBatch,
     ) -> Result<Sifted<J>, (RowBatch, CommitError)>
+        requires asked { (w : World) → J.asked (batch (sifted w (batch_of_rows rows)).kept)
+            seat.old.number seat.old.count }
         ensures sifted { IfOk result (λ s.
             IsSiftedOnceMet J.opening seat.old (batch_of_rows rows) s) }
         ensures accepted { IfOk result (λ s. AreAccepted J.opening s.list) }
+        ensures asked { IfOk result (λ s. AreAsked J.asked s.list) }
         ensures held { IfOk result (λ s. AreHeld K.holds J.before s.list) }
         ensures one { IfOk result (λ s. MatchBool s.joined
             (HasOneMoreEvent seat.old seat.new s.list) (seat.new ≡ seat.old)) }
@@ -310,9 +327,11 @@ impl<J: Naming, R: Wait + Drop, K: Keeper + Drop> Committer<J, R, K> {
         from: i64,
         to: i64,
     ) -> Result<Receipt<J>, (Vec<Matcher>, CommitError)>
-        requires { IsTrue (is_deletion matchers.items from to) }
+        requires allowed { IsTrue (is_deletion matchers.items from to) }
+        requires asked { J.asked (deletion matchers.items from to) seat.old.number seat.old.count }
         ensures ends { IfOk result (EndsWith (deletion matchers.items from to) seat.old.number) }
         ensures accepted { IfOk result (λ r. AreAccepted J.opening r) }
+        ensures asked { IfOk result (λ r. AreAsked J.asked r) }
         ensures held { IfOk result (λ r. AreHeld K.holds J.before r) }
         ensures counted { IfOk result (λ r. HasOneMoreEvent seat.old seat.new r) }
         ensures kept { IfErr result (λ e. (e.0.items ≡ matchers.items) × (seat.new ≡ seat.old)) }
@@ -332,15 +351,18 @@ impl<J: Naming, R: Wait + Drop, K: Keeper + Drop> Committer<J, R, K> {
     /// file of the block would be too long. After a refusal the seat stays. It waits as
     /// [`Committer::commit`] does.
     pub fn cut(&self, rt: &impl Wait, seat: &mut Seat<J>, at: i64) -> Result<Receipt<J>, Refused<J>>
-        requires { IsTrue (is_time at) }
+        requires time { IsTrue (is_time at) }
+        requires asked { J.asked (cut at) seat.old.number seat.old.count }
         ensures ends { IfOk result (λ r. EndsWith (cut at) seat.old.number r) }
         ensures accepted { IfOk result (λ r. AreAccepted J.opening r) }
+        ensures asked { IfOk result (λ r. AreAsked J.asked r) }
         ensures held { IfOk result (λ r. AreHeld K.holds J.before r) }
         ensures counted { IfOk result (λ r. HasOneMoreEvent seat.old seat.new r) }
         ensures kept { OnErr result (seat.new ≡ seat.old) }
         ensures refused { IfErr result (λ e. IsRefusedAfter J.opening seat.old e.error (cut at)) }
         ensures met { IfErr result (λ e. IsRefusedBy J.opening seat.old e.error (cut at) e.met) }
         ensures known { IfErr result (λ e. IfSome e.met (λ r. AreHeld K.holds J.before r)) }
+        ensures met_asked { IfErr result (λ e. IfSome e.met (λ r. AreAsked J.asked r)) }
         ensures journal { IfErr result (λ e. e.error ≡ CommitError.Journal → K.idle ≡ false) }
     {
         match self.step(rt, seat, Event::cut(at)) {

@@ -15,7 +15,8 @@
 //! then publishes it, while the others try theirs; so many small events share a sync. If it is not
 //! kept, it is given up, with what was tried meanwhile. A store in memory alone has [`NoKeeper`];
 //! [`Store::resume`] opens one over what a start found. Each type carries the name of its store
-//! ([`Naming`]), so a pass, a receipt and a seat of another store have other types.
+//! ([`Naming`]), so a pass, a receipt and a seat of another store have other types. The name says
+//! which events were asked for, too, and no others are published; under [`Open`] any may be.
 //!
 //! ```
 //! let opened = store.open::<J, &R>(rt, alloc, Vec::new(alloc), 1, 1);
@@ -70,7 +71,7 @@ pub use entry::{Entry, Mark};
 pub use error::{OpenError, SnapshotError};
 pub use head::RowBatch;
 pub use keeper::{Keeper, NoKeeper};
-pub use naming::Naming;
+pub use naming::{Naming, Open, OpenNaming};
 pub use pass::Pass;
 pub use receipt::Receipt;
 pub use refused::Refused;

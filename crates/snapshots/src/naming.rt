@@ -1,11 +1,11 @@
 //! The name of a store, in types.
 
-use std::marker::Brand;
+use std::marker::{Brand, PhantomData};
 
-/// Which store it is, the snapshot that it opened with, and the events that were kept before. The
-/// call that opens a store is generic in it.
+/// Which store it is, the snapshot that it opened with, the events that were kept before, and what
+/// its callers have asked for. The call that opens a store is generic in it.
 pub trait Naming {
-    ghost use Rattle.std.specs.Prelude.{List};
+    ghost use Rattle.std.specs.Prelude.{ℕ, List};
     ghost use Rattle.logbook.specs.Pages.{Book};
     ghost use Rattle.head.specs.Heads.{SnapshotParts};
     ghost use Rattle.head.specs.Worlds.{Event};
@@ -15,6 +15,10 @@ pub trait Naming {
     ghost opening: { SnapshotParts };
 
     ghost before: { List Event };
+
+    /// The event was asked for, under this number of a seat, as the event behind this many of the
+    /// seat.
+    ghost asked: { Event → ℕ → ℕ → Type 0 };
 }
 
 impl Naming for Brand {
@@ -26,4 +30,33 @@ impl Naming for Brand {
     ghost opening = { opening_of [] };
 
     ghost before = { [] };
+
+    ghost asked = { λ event seat place. Unit {0} };
+}
+
+/// The name of a store whose callers may ask for any event.
+pub trait OpenNaming: Naming {
+    ghost use Rattle.std.specs.Prelude.{ℕ};
+    ghost use Rattle.head.specs.Worlds.{Event};
+
+    ghost any: { (event : Event) (seat place : ℕ) → Self.asked event seat place };
+}
+
+/// The same name, under which any event may be asked for.
+pub struct Open<J: Naming> {
+    of: PhantomData<J>,
+}
+
+impl<J: Naming> Naming for Open<J> {
+    ghost book = { J.book };
+
+    ghost opening = { J.opening };
+
+    ghost before = { J.before };
+
+    ghost asked = { λ event seat place. Unit {0} };
+}
+
+impl<J: Naming> OpenNaming for Open<J> {
+    ghost any = { λ event seat place. tt };
 }

@@ -3,8 +3,10 @@
 ghost use Rattle.std.specs.Prelude.{◌≡◌, ◌+◌, ◌==◌, ◌<◌, ◌≤◌, ◌^◌, ◌++◌, ◌∷◌, [], length};
 ghost use Rattle.std.specs.Prelude.{MatchBool, IsTrue, ◌↔◌, None};
 ghost use mathlib.Core.List.{IsPrefix};
+ghost use Rattle.snapshots.specs.Asking.{AreAsked};
 ghost use Rattle.snapshots.specs.Keeping.{AreHeld};
 ghost use Rattle.snapshots.specs.Marks.{accepted, list_of, tried_of, voids_of};
+ghost use Rattle.snapshots.specs.Seats.{count_of};
 ghost use Rattle.snapshots.specs.Tallies.{IsTally};
 ghost use Rattle.snapshots.specs.Tries.{entry_of};
 ghost use Rattle.snapshots.specs.declared.entry.Mark.TheVariants.{Try, Seal, Done, Void};
@@ -22,7 +24,8 @@ use std::sync::Wait;
 /// So many marks a log never has.
 const ROOM: u64 = 1 << 62;
 
-/// A prefix of the log that was seen, with its numbers. Contracts see it as its marks.
+/// A prefix of the log that was seen, with its numbers. Contracts see it as its marks. Each event
+/// that it lists, or that waits in it, was asked for.
 #[derive(Drop)]
 pub struct LogPrefix<J: Naming> {
     marks: u64,
@@ -33,6 +36,8 @@ pub struct LogPrefix<J: Naming> {
 
 impl<J: Naming> Model for LogPrefix<J> {
     ghost use Rattle.std.specs.Prelude.{◌≡◌, List, length};
+    ghost use Rattle.snapshots.specs.Asking.{AreAsked};
+    ghost use Rattle.snapshots.specs.Marks.{tried_of};
     ghost use Rattle.snapshots.specs.Tallies.{IsTally};
     ghost use Rattle.snapshots.specs.declared.entry.Mark.{Mark};
 
@@ -41,7 +46,7 @@ impl<J: Naming> Model for LogPrefix<J> {
     ghost view = { λ p. p.seen.log };
 
     ghost invariant = { λ p. (p.marks ≡ length p.seen.log) × (p.seen.book ≡ J.book)
-        × IsTally p.tally p.seen.log };
+        × IsTally p.tally p.seen.log × AreAsked J.asked (tried_of p.seen.log) };
 }
 
 impl<J: Naming> LogPrefix<J> {
@@ -117,7 +122,8 @@ impl<J: Naming> LogPrefix<J> {
 
     /// The same prefix.
     pub fn share(&self) -> LogPrefix<J>
-        ensures { result ≡ self.now }
+        ensures same { result ≡ self.now }
+        ensures asked { AreAsked J.asked (tried_of result) }
     {
         LogPrefix {
             marks: self.marks,
@@ -129,7 +135,8 @@ impl<J: Naming> LogPrefix<J> {
 
     /// What was seen.
     pub fn share_seen(&self) -> Seen<Mark, u64, Law>
-        ensures { (result.log ≡ self.now) × (result.book ≡ J.book) }
+        ensures { (result.log ≡ self.now) × (result.book ≡ J.book)
+            × AreAsked J.asked (tried_of result.log) }
     {
         self.seen.again()
     }
@@ -224,6 +231,7 @@ impl<J: Naming> LogPrefix<J> {
         requires room { length self.old < 2 ^ 62 }
         requires plain { M.state about.now ≡ None }
         requires tally { IsTally tally (self.old ++ M.ask about.now ∷ []) }
+        requires asked { AreAsked J.asked (tried_of (self.old ++ M.ask about.now ∷ [])) }
         ensures { MatchBool result (self.new ≡ self.old ++ M.ask about.now ∷ [])
             (self.new ≡ self.old) }
     {
@@ -257,6 +265,7 @@ impl<J: Naming> LogPrefix<J> {
         requires room { length self.old < 2 ^ 62 }
         requires plain { M.state about.now ≡ None }
         requires tally { IsTally tally (self.old ++ M.ask about.now ∷ []) }
+        requires asked { AreAsked J.asked (tried_of (self.old ++ M.ask about.now ∷ [])) }
         ensures { self.new ≡ self.old ++ M.ask about.now ∷ [] }
     {
         for _ in rt.forever() {
@@ -267,9 +276,11 @@ impl<J: Naming> LogPrefix<J> {
         unreachable!()
     }
 
-    /// Adds that an event was tried.
+    /// Adds that an event was tried, which was asked for.
     pub fn add_try<C: Change, R: Wait>(&mut self, rt: &R, end: &LogEnd<J>, tried: &Tried<'_, C>)
-        requires { length self.old < 2 ^ 62 }
+        requires room { length self.old < 2 ^ 62 }
+        requires asked { J.asked (C.event tried.now.change.now) tried.now.seat
+            (count_of tried.now.seat (tried_of self.old)) }
         ensures { self.new ≡ self.old ++ Try (entry_of C.event tried.now) ∷ [] }
     {
         let tally = Tally {

@@ -31,7 +31,7 @@ pub type Press<J> = Writer<Version, Version, [Entry; 0], Grows<J>>;
 /// Publishes one whole version. Where it is refused, the version is left pending, and the next one
 /// overtakes it.
 pub fn publish<J: Naming, R: Wait>(rt: &R, mut press: Press<J>, next: Version) -> (Press<J>, bool)
-    requires { MayFollow J.book J.opening press.desk.shown.value next }
+    requires { MayFollow J.book J.opening J.asked press.desk.shown.value next }
     ensures { MatchBool result.1 (result.0.desk.shown.value ≡ next) (result.0.desk.shown.value
         ≡ press.desk.shown.value) }
 {
@@ -103,7 +103,7 @@ pub fn publish_group<'a, J: Naming, R: Wait, K: Keeper>(
         (arc_value group.standing.snapshot) group.standing.counts.items group.records.items }
     requires alike { arc_value group.shown ≡ arc_value group.standing.snapshot }
     requires follows { accepted group.log ≡ accepted log.old }
-    requires shown { Shows J.book J.opening press.old.desk.shown.value (accepted log.old) }
+    requires shown { Shows J.book J.opening J.asked press.old.desk.shown.value (accepted log.old) }
     // What is kept is what is published.
     ensures held { K.holds keeper.new (kept_of J.before (accepted log.new)) }
     // A closed keeper stays as it is, and nothing is published.
@@ -120,7 +120,7 @@ pub fn publish_group<'a, J: Naming, R: Wait, K: Keeper>(
         (λ _. accepted log.new ≡ accepted log.old) }
     // What was published stays, and what is new comes behind it.
     ensures begins { IsPrefix (accepted log.old) (accepted log.new) }
-    ensures shown { Shows J.book J.opening press.new.desk.shown.value (accepted log.new) }
+    ensures shown { Shows J.book J.opening J.asked press.new.desk.shown.value (accepted log.new) }
     ensures parts { MatchResult result.1
         (λ _. press.new.desk.shown.value.parts ≡ arc_value group.shown)
         (λ _. press.new.desk.shown.value ≡ press.old.desk.shown.value) }

@@ -2,6 +2,7 @@
 
 ghost use Rattle.std.specs.Prelude.{◌≡◌, length, IfSome};
 ghost use mathlib.Core.List.{IsPrefix};
+ghost use Rattle.snapshots.specs.Asking.{AreAsked};
 ghost use Rattle.snapshots.specs.Marks.{accepted, tried_of};
 
 use crate::naming::Naming;
@@ -34,6 +35,7 @@ impl<J: Naming> Receipt<J> {
     pub(crate) fn of(done: &LogPrefix<J>, trial: &LogPrefix<J>) -> Option<Receipt<J>>
         ensures list { IfSome result (λ r. r ≡ tried_of trial.now) }
         ensures done { IfSome result (λ r. IsPrefix r (accepted done.now)) }
+        ensures asked { IfSome result (λ r. AreAsked J.asked r) }
     {
         if !done.accepts(trial) {
             return None;
@@ -46,7 +48,8 @@ impl<J: Naming> Receipt<J> {
 
     /// The receipt of all that a log has accepted.
     pub(crate) fn whole(done: &LogPrefix<J>) -> Receipt<J>
-        ensures { result ≡ accepted done.now }
+        ensures list { result ≡ accepted done.now }
+        ensures asked { AreAsked J.asked result }
     {
         Receipt {
             log: done.share(),

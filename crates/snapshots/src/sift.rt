@@ -2,6 +2,9 @@
 
 ghost use Rattle.std.specs.Prelude.{◌≡◌, ◌↔◌, false, IfOk, IfErr, IfSome, OnOk, OnErr};
 ghost use Rattle.head.specs.BatchRows.{batch_of_rows};
+ghost use Rattle.head.specs.Sifting.{sifted};
+ghost use Rattle.head.specs.Worlds.{World, batch};
+ghost use Rattle.snapshots.specs.Asking.{AreAsked};
 ghost use Rattle.snapshots.specs.Keeping.{AreHeld};
 ghost use Rattle.snapshots.specs.Replays.{IsAfter, IsOfStore};
 ghost use Rattle.snapshots.specs.Seats.{FitsSeat, IsMetBy};
@@ -51,6 +54,8 @@ impl<J: Naming, K: Keeper> Tip<J, K> {
         seat: &Seat<J>,
         rows: &RowBatch,
     ) -> Result<Screened<J>, CommitError>
+        requires asked { (w : World) → J.asked (batch (sifted w (batch_of_rows rows.now)).kept)
+            seat.now.number seat.now.count }
         ensures fits { OnOk result (FitsSeat seat.now self.old.counts) }
         ensures seat { IfErr result (λ e.
             (e ≡ CommitError.Seat) ↔ (¬ FitsSeat seat.now self.old.counts)) }
@@ -65,6 +70,8 @@ impl<J: Naming, K: Keeper> Tip<J, K> {
         // What is told at once is kept.
         ensures held { IfOk result (λ s.
             IfSome (published_in s.trial) (λ r. AreHeld K.holds J.before r)) }
+        ensures asked { IfOk result (λ s.
+            IfSome (published_in s.trial) (λ r. AreAsked J.asked r)) }
         ensures world { IsAfter J.opening self.new.entries self.new.parts }
         ensures kept { OnErr result (self.new ≡ self.old) }
         ensures refused { IfErr result (λ e. IsOfStore e) }
@@ -95,6 +102,7 @@ impl<J: Naming, K: Keeper> Tip<J, K> {
     pub(crate) fn standing(&mut self) -> Trial<J>
         ensures list { list_in result ≡ self.old.entries }
         ensures held { IfSome (published_in result) (λ r. AreHeld K.holds J.before r) }
+        ensures asked { IfSome (published_in result) (λ r. AreAsked J.asked r) }
         ensures same { self.new ≡ self.old }
     {
         match self.trial() {

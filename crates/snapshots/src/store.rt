@@ -67,7 +67,7 @@ fn press_over<J: Naming>(
     requires room { (0 < passes) × (passes ≤ 64) }
     requires opening { arc_value opening.now ≡ J.opening }
     requires empty { log.now ≡ [] }
-    ensures { IfOk result (λ p. Shows J.book J.opening p.desk.shown.value []) }
+    ensures { IfOk result (λ p. Shows J.book J.opening J.asked p.desk.shown.value []) }
 {
     let first = Version::of(Arc::try_clone(opening)?, log);
     let second = first.share()?;

@@ -7,6 +7,7 @@ ghost use Rattle.std.specs.Arc.{arc_value};
 ghost use mathlib.Core.List.{IsPrefix};
 ghost use Rattle.head.specs.Heads.{world_of};
 ghost use Rattle.head.specs.Worlds.{stepped};
+ghost use Rattle.snapshots.specs.Asking.{AreAsked};
 ghost use Rattle.snapshots.specs.Marks.{accepted, list_of, tried_of};
 ghost use Rattle.snapshots.specs.Grows.{Shows, MayFollow};
 ghost use Rattle.snapshots.specs.Keeping.{AreHeld, IsGroup, IsOfKeeping, IsRecordFor};
@@ -171,6 +172,7 @@ impl<J: Naming, K: Keeper> Tip<J, K> {
         snapshot: Arc<Snapshot>,
     ) -> Result<LogPrefix<J>, CommitError>
         requires spelled { IsRecordFor K.idle (C.event change.now) bytes.now }
+        requires asked { J.asked (C.event change.now) seat.now.number seat.now.count }
         requires fits { FitsSeat seat.now self.old.counts }
         requires begins { IsPrefix seat.now.seen self.old.entries }
         requires steps { Steps self.old.parts (C.event change.now) (arc_value snapshot) }
@@ -243,7 +245,8 @@ impl<J: Naming, K: Keeper> Tip<J, K> {
         change: &C,
         bytes: &[u8],
     ) -> Result<LogPrefix<J>, CommitError>
-        requires { IsRecordFor K.idle (C.event change.now) bytes.now }
+        requires spelled { IsRecordFor K.idle (C.event change.now) bytes.now }
+        requires asked { J.asked (C.event change.now) seat.now.number seat.now.count }
         ensures fits { OnOk result (FitsSeat seat.now self.old.counts) }
         ensures seat { IfErr result (λ e.
             (e ≡ CommitError.Seat) ↔ (¬ FitsSeat seat.now self.old.counts)) }
@@ -296,6 +299,7 @@ impl<J: Naming, K: Keeper> Tip<J, K> {
     pub(crate) fn receipt(&self) -> Receipt<J>
         ensures list { result ≡ self.now.published }
         ensures held { AreHeld K.holds J.before result }
+        ensures asked { AreAsked J.asked result }
     {
         Receipt::whole(&self.done)
     }
@@ -321,6 +325,8 @@ impl<J: Naming, K: Keeper> Tip<J, K> {
         // What is acknowledged is kept.
         ensures held { IfOk result (λ found.
             IfSome found (λ r. AreHeld K.holds J.before r)) }
+        // And each event of it was asked for.
+        ensures asked { IfOk result (λ found. IfSome found (λ r. AreAsked J.asked r)) }
         // What is given up is not published.
         ensures gone { IfErr result (λ e.
             ¬ IsPrefix (tried_of trial.now) self.old.published) }
@@ -418,11 +424,12 @@ impl<J: Naming, K: Keeper> Tip<J, K> {
             (arc_value group.standing.snapshot) group.standing.counts.items group.records.items }
         requires alike { arc_value group.shown ≡ arc_value group.standing.snapshot }
         requires held { AreHeld K.holds J.before (list_of group.log) }
-        requires shown { Shows J.book J.opening press.old.desk.shown.value (accepted group.log) }
+        requires shown { Shows J.book J.opening J.asked press.old.desk.shown.value
+            (accepted group.log) }
         ensures list { IfSome result (λ log. accepted log ≡ list_of group.log) }
         ensures shown { MatchOption result
             (press.new.desk.shown.value ≡ press.old.desk.shown.value)
-            (λ log. Shows J.book J.opening press.new.desk.shown.value (accepted log)) }
+            (λ log. Shows J.book J.opening J.asked press.new.desk.shown.value (accepted log)) }
         ensures parts { IfSome result (λ _.
             press.new.desk.shown.value.parts ≡ arc_value group.shown) }
         ensures published { MatchOption result (self.new.published ≡ self.old.published)
@@ -452,7 +459,7 @@ impl<J: Naming, K: Keeper> Tip<J, K> {
             press,
             next,
             |press: Press<J>, next: Version| -> (Press<J>, bool)
-                requires { MayFollow J.book J.opening press.desk.shown.value next }
+                requires { MayFollow J.book J.opening J.asked press.desk.shown.value next }
                 ensures { MatchBool result.1 (result.0.desk.shown.value ≡ next)
                     (result.0.desk.shown.value ≡ press.desk.shown.value) }
             { publish(rt, press, next) },

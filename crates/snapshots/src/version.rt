@@ -3,6 +3,7 @@
 ghost use Rattle.std.specs.Prelude.{◌≡◌, length, IfOk, IfSome};
 ghost use Rattle.std.specs.Arc.{arc_value};
 ghost use mathlib.Core.List.{IsPrefix};
+ghost use Rattle.snapshots.specs.Asking.{AreAsked};
 ghost use Rattle.snapshots.specs.Marks.{accepted, list_of};
 
 use crate::entry::{Entry, Mark};
@@ -44,7 +45,9 @@ impl Model for Version {
 
 impl Version {
     pub fn of<J: Naming>(snapshot: Arc<Snapshot>, log: &LogPrefix<J>) -> Version
-        ensures { result ≡ record { book = J.book; marks = log.now; parts = arc_value snapshot } }
+        ensures made { result
+            ≡ record { book = J.book; marks = log.now; parts = arc_value snapshot } }
+        ensures asked { AreAsked J.asked (list_of log.now) }
     {
         Version {
             snapshot,
@@ -111,7 +114,8 @@ impl Absorb<Version> for Version {
     }
 }
 
-/// The rule of the published versions: each is of the store `J`, and lists only grow.
+/// The rule of the published versions: each is of the store `J`, each event of its list was asked
+/// for, and lists only grow.
 pub struct Grows<J> {
     of: PhantomData<J>,
 }
@@ -120,7 +124,7 @@ impl<J: Naming> Protocol<Version, [Entry; 0]> for Grows<J> {
     ghost use Rattle.std.specs.Prelude.{[]};
     ghost use Rattle.snapshots.specs.Grows.{Keeps};
 
-    ghost holds = { Keeps J.book J.opening };
+    ghost holds = { Keeps J.book J.opening J.asked };
 
     ghost first = { [] };
 }
@@ -133,5 +137,5 @@ pub struct Sees<J> {
 impl<J: Naming> Outcome<Version, [Entry; 0]> for Sees<J> {
     ghost use Rattle.snapshots.specs.Grows.{SeesList};
 
-    ghost then = { SeesList J.book J.opening };
+    ghost then = { SeesList J.book J.opening J.asked };
 }

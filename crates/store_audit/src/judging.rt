@@ -1,12 +1,16 @@
 //! Judging a reply over a kept store.
 
-ghost use Rattle.std.specs.Prelude.{◌≡◌, ◌≤◌, [], IfOk, IfNone, IfSome, Some, length, unwrap_or};
+ghost use Rattle.std.specs.Prelude.{◌≡◌, ◌≤◌, ℕ, [], IfOk, IfNone, IfSome, None, Some, length};
+ghost use Rattle.std.specs.Prelude.{if◌then◌else◌, unwrap_or};
 ghost use Rattle.whole_audit.specs.StateLines.{AreStateLines};
 ghost use Rattle.kept_world.specs.Births.{AreBornBy};
 ghost use Rattle.kept_world.specs.Changes.{events_of};
 ghost use Rattle.kept_world.specs.Sound.{IsSoundHead};
 ghost use Rattle.kept_world.specs.States.{State, numbered, shown, state_after};
-ghost use Rattle.store_audit.specs.Reports.{AreLinesAt, IsJudgement, IsJudgementOf, first_in};
+ghost use Rattle.reply_state.specs.Searches.{AreRightIn, Searches};
+ghost use Rattle.state_search.specs.declared.search.Search.TheVariants.{Nowhere};
+ghost use Rattle.store_audit.specs.Reports.{AreLinesAt, ArePlaces, IsJudgement, IsJudgementOf};
+ghost use Rattle.store_audit.specs.Reports.{IsReport, first_in, has_right_rows};
 
 use crate::copies::{copied_head, copied_tables};
 use block_walk::Table;
@@ -26,6 +30,8 @@ pub struct StateReport {
     pub lines: Vec<StateLine>,
     /// After how many events the newest state is of which all that is said of parts is right.
     pub found: Option<usize>,
+    /// If there is none, after how many events a state before is of which the whole reply is right.
+    pub earlier: Option<usize>,
     /// After how many events the state of the lines is: the one that was found, or else the last.
     pub told: usize,
     /// How many events the journal has behind its head.
@@ -133,7 +139,25 @@ fn lines_after(
     }
 }
 
-/// The report of a search that found this state, or none.
+/// Whether the last of the lines, that of the rows, names no flaw.
+fn has_right_rows(lines: &[StateLine]) -> bool
+    ensures { result ≡ has_right_rows lines.now }
+{
+    match lines.last() {
+        Some(line) => line.grade.is_right(),
+        None => false,
+    }
+}
+
+/// An earlier state, if the lines of the reply say that its rows are right beside its parts.
+fn earlier_in(lines: &[StateLine], earlier: Option<usize>) -> Option<usize>
+    ensures { result ≡ (if has_right_rows lines.now then earlier else None) }
+{
+    if has_right_rows(lines) { earlier } else { None }
+}
+
+/// The report of a search that found this state, or none, and of one that then found this earlier
+/// state, or none.
 fn report_of(
     alloc: Global,
     beginning: Beginning,
@@ -141,22 +165,103 @@ fn report_of(
     query: &Query,
     reply: Reply,
     found: Option<usize>,
+    earlier: Option<usize>,
 ) -> Result<StateReport, AllocError>
     requires { IfSome found (λ at. at ≤ length changes.now) }
-    ensures lines { IfOk result (λ report. AreLinesAt query.now reply (first_in beginning)
-        (events_of changes.now) report.told report.lines.items) }
-    ensures found { IfOk result (λ report. report.found ≡ found) }
-    ensures told { IfOk result (λ report. report.told ≡ unwrap_or found (length changes.now)) }
-    ensures counted { IfOk result (λ report. report.events ≡ length changes.now) }
+    ensures { IfOk result (λ report. (since : ℕ)
+        → ArePlaces query.now reply since (first_in beginning) (events_of changes.now)
+        found earlier
+        → IsReport query.now reply since (first_in beginning) (events_of changes.now) report) }
 {
     let told = found.unwrap_or(changes.len());
     let lines = lines_after(alloc, beginning, changes.split_at(told).0, query, reply)?;
+    let earlier = earlier_in(&lines, earlier);
     Ok(StateReport {
         lines,
         found,
+        earlier,
         told,
         events: changes.len(),
     })
+}
+
+/// Searches for a state, from `since` events on, of which all that is said of parts is right;
+/// `None` if no store has such a head. It copies the head and the blocks.
+fn search_since(
+    alloc: Global,
+    beginning: &Beginning,
+    changes: &[Change],
+    query: &Query,
+    reply: &Reply,
+    since: usize,
+) -> Result<Option<Search>, AllocError>
+    ensures none { IfOk result (λ search. IfNone search
+        (IsSoundHead beginning.now.head.items → ⊥)) }
+    ensures some { IfOk result (λ search. IfSome search
+        (Searches (AreRightIn query.now reply.now.parts.items) since (first_in beginning.now)
+        (events_of changes.now))) }
+{
+    let copy = copied(alloc, beginning)?;
+    match first_world(alloc, copy)? {
+        Some(world) => {
+            let parts = reply.parts.as_slice();
+            let search = find_parts(alloc, world, changes, query, parts, since)?;
+            Ok(Some(search))
+        }
+        None => Ok(None),
+    }
+}
+
+/// Searches for an earlier state, where there is none from `since` events on. The first search has
+/// begun there too, so there is such a head; if not, this fails as if memory ran out.
+fn search_before(
+    alloc: Global,
+    beginning: &Beginning,
+    changes: &[Change],
+    query: &Query,
+    reply: &Reply,
+    since: usize,
+) -> Result<Search, AllocError>
+    requires { Searches (AreRightIn query.now reply.now.parts.items) since
+        (first_in beginning.now) (events_of changes.now) Nowhere }
+    ensures { IfOk result (Searches (AreRightIn query.now reply.now.parts.items) 0
+        (first_in beginning.now) (events_of changes.now)) }
+{
+    if since == 0 {
+        return Ok(Search::Nowhere);
+    }
+    match search_since(alloc, beginning, changes, query, reply, 0)? {
+        Some(search) => Ok(search),
+        None => Err(AllocError),
+    }
+}
+
+/// Judges a reply, where from `since` events on there is no state of which all that is said of
+/// parts is right.
+fn judge_before(
+    alloc: Global,
+    beginning: Beginning,
+    changes: &[Change],
+    query: &Query,
+    reply: Reply,
+    since: usize,
+) -> Result<StoreJudgement, AllocError>
+    requires { Searches (AreRightIn query.now reply.parts.items) since (first_in beginning)
+        (events_of changes.now) Nowhere }
+    ensures { IfOk result (λ judgement. IsJudgementOf query.now reply since
+        beginning.head.items (first_in beginning) (events_of changes.now) judgement) }
+{
+    match search_before(alloc, &beginning, changes, query, &reply, since)? {
+        Search::Refused(at) => Ok(StoreJudgement::BadEvent(at)),
+        Search::Found(at) => {
+            let report = report_of(alloc, beginning, changes, query, reply, None, Some(at))?;
+            Ok(StoreJudgement::Told(report))
+        }
+        Search::Nowhere => {
+            let report = report_of(alloc, beginning, changes, query, reply, None, None)?;
+            Ok(StoreJudgement::Told(report))
+        }
+    }
 }
 
 fn judge(
@@ -170,25 +275,26 @@ fn judge(
     ensures { IfOk result (λ judgement. IsJudgementOf query.now reply since
         beginning.head.items (first_in beginning) (events_of changes.now) judgement) }
 {
-    let copy = copied(alloc, &beginning)?;
-    let Some(world) = first_world(alloc, copy)? else {
-        return Ok(StoreJudgement::BadHead);
-    };
-    let parts = reply.parts.as_slice();
-    let found = match find_parts(alloc, world, changes, query, parts, since)? {
-        Search::Refused(at) => return Ok(StoreJudgement::BadEvent(at)),
-        Search::Found(at) => Some(at),
-        Search::Nowhere => None,
-    };
-    let report = report_of(alloc, beginning, changes, query, reply, found)?;
-    Ok(StoreJudgement::Told(report))
+    match search_since(alloc, &beginning, changes, query, &reply, since)? {
+        None => Ok(StoreJudgement::BadHead),
+        Some(Search::Refused(at)) => Ok(StoreJudgement::BadEvent(at)),
+        Some(Search::Found(at)) => {
+            let report = report_of(alloc, beginning, changes, query, reply, Some(at), None)?;
+            Ok(StoreJudgement::Told(report))
+        }
+        Some(Search::Nowhere) => {
+            Ok(judge_before(alloc, beginning, changes, query, reply, since)?)
+        }
+    }
 }
 
-/// Judges a reply over a store: what its journal says, and its blocks. Not before `since` events, it
-/// finds the newest state of which all that the reply says of parts is right, and gives the lines
-/// over that state; if there is none, those over the last.
+/// Judges a reply over a store: what its journal says, and its blocks. Not before `since` events,
+/// it finds the newest state of which all that the reply says of parts is right, and gives the
+/// lines over that state; if there is none, those over the last, and it finds a state before of
+/// which the whole reply is right, if there is one.
 ///
-/// It replays the changes twice, and copies the head and the blocks once.
+/// It replays the changes twice, and copies the head and the blocks once; if it finds no state that
+/// is not before `since` events, it does so once more.
 pub fn judge_store(
     alloc: Global,
     kept: Kept,

@@ -165,7 +165,7 @@ module _ {F : Type 0} (shows : F → List ℕ → Option (List ℕ) → Type 0)
   abbrev Next : Origin → F → Saved → List BlockPart → Type 0
   Next first f saved made =
       IsNext shows kept sound moment left_since only_now earlier first first.world
-      (record { folder = f }) saved made
+      (record { folder = f; names = [] }) saved made
 
   abbrev first_at : World → Values → Origin
   first_at w values = record { world = w; values = values }
@@ -177,7 +177,7 @@ module _ {F : Type 0} (shows : F → List ℕ → Option (List ℕ) → Type 0)
       → Next (first_at (world_of s) values) f saved made
   next_of s values saved places made f is head anew at =
       next_head shows kept sound moment left_since only_now earlier (first_at (world_of s) values)
-      (record { folder = f }) s values saved places made refl is head anew at
+      (record { folder = f; names = [] }) s values saved places made refl is head anew at
 
   whole_finds : (first : Origin) (f : F) (saved : Saved) (made : List BlockPart) (left : Left)
       (next : Next first f saved made)
@@ -188,7 +188,8 @@ module _ {F : Type 0} (shows : F → List ℕ → Option (List ℕ) → Type 0)
       (λ has. inr (finds_in first left
       (stands_for first [] [] [] saved made left refl next.head
       (record { world = ap (λ (w : World). Ok w) next.world; values = next.values })
-      (lie_at shows kept saved.places made f left next.blocks has.files) tt has.journal)))
+      (lie_at shows kept saved.places made f left next.blocks has.files)
+      (record { contents = []; names = []; spell = refl; journal = has.journal }))))
       is
 
   -- what a crash leaves while the journal is begun
@@ -225,11 +226,11 @@ module _ {F : Type 0} (shows : F → List ℕ → Option (List ℕ) → Type 0)
       → AreThere shows kept files new)
       → FindsNow moment left_since new first
   finds_so first mid new saved made text next whole keeps stay =
-      now_at shows kept sound moment left_since only_now earlier first (record { folder = new })
+      now_at shows kept sound moment left_since only_now earlier first (record { folder = new; names = [] })
       (length text) false saved.places made
       (begun_anew shows kept sound moment left_since only_now earlier first first.world
-      (record { folder = mid }) (record { folder = new }) (length text) saved made next
-      (keeps (contents_with (head_texts saved) []) whole) stay) refl
+      (record { folder = mid; names = [] }) (record { folder = new; names = [] }) (length text) saved made next
+      refl (keeps (contents_with (head_texts saved) []) whole) stay) refl
 
 -- how many blocks a world has
 pub as_many : (shown : List Shown) (s : SnapshotParts) → map part_in shown ≡ s.blocks

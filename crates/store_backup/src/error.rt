@@ -14,7 +14,7 @@ pub enum CopyFault {
     NoStore,
     /// The source's journal was begun anew, or cut, while it was read. Nothing is written.
     Changed,
-    /// The source is not read, or refused as a start refuses it: `J1` to `J4`, `J8` to `J18`.
+    /// The source is not read, or refused as a start refuses it: `J1` to `J4`, `J8` to `J20`.
     Source(StartError),
     /// A block or the text of a head is not written into the target; or memory ran out.
     Write(RollFault),

@@ -14,12 +14,12 @@ use Rattle.store_audit.specs.Reports.{IsJudgement}
 use Rattle.store_audit.specs.declared.judging.StateReport.{StateReport}
 use Rattle.store_audit.specs.declared.judging.StoreJudgement.{StoreJudgement}
 use Rattle.store_audit.specs.declared.judging.StoreJudgement.TheVariants.{Told}
-use Rattle.store_command.specs.Judging.{IsJudged, IsJudgingFault, IsReportOf, IsTextOf, Tells}
+use Rattle.store_command.specs.Judging.{IsJudged, IsJudgingFault, IsReportOf, IsTextOf, IsToldBefore, Tells}
 use Rattle.store_command.specs.Judging.{by_state, lost_mark, since_in}
 use Rattle.store_command.specs.Marks.{first_of, since_of}
 use Rattle.store_command.specs.Printing.{IsTold}
 use Rattle.store_command.specs.declared.fault.Fault.{Fault}
-use Rattle.store_command.specs.declared.fault.Fault.TheVariants.{Audit, NoMark, Journal, Head, Event as BadEvent, Changes, Rolled}
+use Rattle.store_command.specs.declared.fault.Fault.TheVariants.{Audit, NoMark, Journal, Head, Event as BadEvent, Changes, Rolled, Before}
 use Rattle.store_command.specs.declared.mark.Mark.{Mark}
 use Rattle.store_command.specs.declared.mark.Since.{Since}
 use Rattle.store_command.specs.declared.report.Report.{Report}
@@ -66,8 +66,8 @@ module _ (query : QueryView) (reply : Reply) (mark : Option Mark) (found : Found
       → IfOk result (IsReportOf query reply mark found)
   told_report said is (Ok report) t =
       by_state said (judged (Told said) is)
-      (subst (λ (s : Since). lost_mark s said ≡ None) same t.0)
-      (subst (λ (s : Since). IsTold s found.head said report) same t.1)
+      (subst (λ (s : Since). lost_mark s said ≡ None) same t.0) t.1
+      (subst (λ (s : Since). IsTold s found.head said report) same t.2)
   told_report said is (Err fault) t = tt
 
   pub told_fault : (said : StateReport)
@@ -80,6 +80,11 @@ module _ (query : QueryView) (reply : Reply) (mark : Option Mark) (found : Found
     judged = judged (Told said) is;
     text_is =
         subst (λ (s : Since). IsTextOf (lost_mark s said) (string_bytes text)) same t;
+  }
+  told_fault said is (Err (Before earlier)) t = record {
+    said = said;
+    judged = judged (Told said) is;
+    told = subst (λ (s : Since). IsToldBefore s found.head said earlier) same t;
   }
   told_fault said is (Err (Audit faults.Memory)) t = tt
   told_fault said is (Err (Audit (faults.Words error))) t = t

@@ -1,6 +1,6 @@
 -- The command line: what words want of a store, what `clap` reads from them, and what that asks
 -- for.
-use Rattle.std.specs.Prelude.{◌≡◌, ℕ, Bool, true, false, List, [], ◌∷◌, ◌++◌, Option, None, Some}
+use Rattle.std.specs.Prelude.{◌≡◌, Bool, true, false, List, [], ◌∷◌, Option, None, Some}
 use Rattle.std.specs.Prelude.{codes, option_map, unwrap_or, if◌then◌else◌, ◌||◌, ◌==◌}
 use Rattle.std.specs.List.{before_first}
 use Rattle.std.specs.Str.{bytes_eq}

@@ -5,9 +5,10 @@ use Rattle.audit_command.specs.Faults as audits
 use Rattle.kept_walk.specs.Codes.{code_of}
 use Rattle.kept_walk.specs.declared.error.KeptError.{KeptError}
 use Rattle.kept_walk.specs.declared.error.KeptError.TheVariants as kept
+use Rattle.store_command.specs.declared.fault.Earlier.{Earlier}
 use Rattle.store_command.specs.declared.fault.Fault.{Fault}
-use Rattle.store_command.specs.declared.fault.Fault.TheVariants.{Audit, NoMark, Journal, Head, Event}
-use Rattle.store_command.specs.declared.fault.Fault.TheVariants.{Changes, Rolled}
+use Rattle.store_command.specs.declared.fault.Fault.TheVariants.{Audit, NoMark, Journal, Head}
+use Rattle.store_command.specs.declared.fault.Fault.TheVariants.{Event, Changes, Rolled, Before}
 
 -- the exit status
 abbrev pub status_of : Fault → ℕ
@@ -18,6 +19,7 @@ status_of Head = 3
 status_of (Event at) = 3
 status_of (Changes folder) = 3
 status_of (Rolled mark) = 3
+status_of (Before earlier) = 3
 
 -- behind how many events a journal is refused, if an event is at fault
 abbrev pub place_of : KeptError → Option ℕ
@@ -31,6 +33,12 @@ place_of (kept.Matcher at) = Some at
 abbrev pub refusal_text : KeptError → List ℕ
 refusal_text error = codes "refused " ++ code_of error ++ audits.place_text (place_of error)
 
+-- `at event 5 of 7, before mark 5d3163ef:6: ask again`
+abbrev pub earlier_text : Earlier → List ℕ
+earlier_text earlier =
+    codes "at event " ++ decimal earlier.at ++ codes " of " ++ decimal earlier.events
+    ++ codes ", before mark " ++ string_bytes earlier.mark ++ codes ": ask again"
+
 abbrev pub fault_text : Fault → Option (List ℕ)
 fault_text (Audit fault) = audits.fault_text fault
 fault_text NoMark = Some (codes "--since: no mark")
@@ -39,6 +47,7 @@ fault_text Head = Some (codes "refused K1")
 fault_text (Event at) = Some (codes "refused K3 at " ++ decimal at)
 fault_text (Changes folder) = Some (string_bytes folder ++ codes " changes")
 fault_text (Rolled mark) = Some (codes "rolled since " ++ string_bytes mark ++ codes ": ask again")
+fault_text (Before earlier) = Some (earlier_text earlier)
 
 -- the line that tells the fault; the text of the words is `clap`'s own
 abbrev pub line_of : Fault → Option (List ℕ)

@@ -18,12 +18,13 @@ use Rattle.store_audit.specs.Reports.{IsJudgement}
 use Rattle.store_audit.specs.declared.judging.StateReport.{StateReport}
 use Rattle.store_audit.specs.declared.judging.StoreJudgement.{StoreJudgement}
 use Rattle.store_audit.specs.declared.judging.StoreJudgement.TheVariants.{Told, BadHead, BadEvent}
-use Rattle.store_command.specs.Marks.{IsMarkText, first_of, mark_text, since_of}
+use Rattle.store_command.specs.Marks.{IsMarkText, first_of, mark_at, mark_text, since_of}
 use Rattle.store_command.specs.Printing.{IsRefusedReport, IsTold, has_refused, is_right}
 use Rattle.store_command.specs.declared.command.Asked.{Asked}
+use Rattle.store_command.specs.declared.fault.Earlier.{Earlier}
 use Rattle.store_command.specs.declared.fault.Fault.{Fault}
-use Rattle.store_command.specs.declared.fault.Fault.TheVariants.{Audit, NoMark, Journal, Head, Event}
-use Rattle.store_command.specs.declared.fault.Fault.TheVariants.{Changes, Rolled}
+use Rattle.store_command.specs.declared.fault.Fault.TheVariants.{Audit, NoMark, Journal, Head}
+use Rattle.store_command.specs.declared.fault.Fault.TheVariants.{Event, Changes, Rolled, Before}
 use Rattle.store_command.specs.declared.mark.Mark.{Mark}
 use Rattle.store_command.specs.declared.mark.Since.{Since}
 use Rattle.store_command.specs.declared.mark.Since.TheVariants as places
@@ -98,10 +99,21 @@ abbrev pub IsTextOf : Option Mark → List ℕ → Type 0
 IsTextOf None text = ⊥
 IsTextOf (Some mark) text = text ≡ mark_text mark
 
--- what is told of a report: it is printed, unless the reply may be right of a state that is gone
+-- the report says that the reply is right of a state before the mark, and of none from there on
+-- (`earlier_replies` says that it is so), and this is told
+pub record IsToldBefore (since : Since) (head : ℕ) (said : StateReport) (earlier : Earlier)
+    : Type 0 where
+  pub at_is : said.earlier ≡ Some earlier.at
+  pub events_is : earlier.events ≡ said.events
+  pub mark_is : string_bytes earlier.mark ≡ mark_text (mark_at head (first_of since))
+
+-- what is told of a report: it is printed, unless the reply may be right of a state that is gone,
+-- or is right of one before the mark alone
 abbrev pub Tells : Since → ℕ → StateReport → Result Report Fault → Type 0
-Tells since head said (Ok report) = (lost_mark since said ≡ None) × IsTold since head said report
+Tells since head said (Ok report) =
+    (lost_mark since said ≡ None) × (said.earlier ≡ None) × IsTold since head said report
 Tells since head said (Err (Rolled text)) = IsTextOf (lost_mark since said) (string_bytes text)
+Tells since head said (Err (Before earlier)) = IsToldBefore since head said earlier
 Tells since head said (Err (Audit Memory)) = ⊤
 Tells since head said (Err fault) = ⊥
 
@@ -112,7 +124,7 @@ pub data IsReportOf (query : QueryView) (reply : Reply) (mark : Option Mark) (fo
   by_blocks : has_refused found.tables.items ≡ true
       → IsRefusedReport found.tables.items report → IsReportOf query reply mark found report
   by_state : (said : StateReport) → IsJudged query reply mark found (Told said)
-      → lost_mark (since_in mark found) said ≡ None
+      → lost_mark (since_in mark found) said ≡ None → said.earlier ≡ None
       → IsTold (since_in mark found) found.head said report
       → IsReportOf query reply mark found report
 
@@ -123,12 +135,20 @@ pub record IsLost (query : QueryView) (reply : Reply) (mark : Option Mark) (foun
   pub judged : IsJudged query reply mark found (Told said)
   pub text_is : IsTextOf (lost_mark (since_in mark found) said) text
 
+-- the reply is right of a state before the mark, and of none from there on
+pub record IsEarlier (query : QueryView) (reply : Reply) (mark : Option Mark) (found : FoundStore)
+    (earlier : Earlier) : Type 0 where
+  pub said : StateReport
+  pub judged : IsJudged query reply mark found (Told said)
+  pub told : IsToldBefore (since_in mark found) found.head said earlier
+
 -- why nothing is printed over the store that is found
 abbrev pub IsJudgingFault : QueryView → Reply → Option Mark → FoundStore → Fault → Type 0
 IsJudgingFault query reply mark found Head = IsJudged query reply mark found BadHead
 IsJudgingFault query reply mark found (Event at) = IsJudged query reply mark found (BadEvent at)
 IsJudgingFault query reply mark found (Rolled text) =
     IsLost query reply mark found (string_bytes text)
+IsJudgingFault query reply mark found (Before earlier) = IsEarlier query reply mark found earlier
 IsJudgingFault query reply mark found (Audit Memory) = ⊤
 IsJudgingFault query reply mark found fault = ⊥
 

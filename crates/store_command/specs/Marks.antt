@@ -1,6 +1,6 @@
 -- Marks of a store, and from where on one has a state sought.
-use Rattle.std.specs.Prelude.{◌≡◌, ◌<◌, ◌^◌, ◌==◌, ◌&&◌, ◌++◌, ◌∷◌, ℕ, Bool, List, Option, None, Some, Ok}
-use Rattle.std.specs.Prelude.{codes, decimal, nat_le, if◌then◌else◌}
+use Rattle.std.specs.Prelude.{◌≡◌, ◌<◌, ◌^◌, ◌==◌, ◌&&◌, ◌++◌, ℕ, Bool, List, Option, None}
+use Rattle.std.specs.Prelude.{Some, Ok, codes, decimal, nat_le, if◌then◌else◌}
 use Rattle.std.specs.Int.{to_be_bytes, w32}
 use Rattle.std.specs.List.{Contains, before_first, after_first}
 use Rattle.std.specs.Str.{bytes_eq}

@@ -19,8 +19,8 @@ use Rattle.store_command.specs.declared.command.Asked.{Asked}
 use Rattle.store_command.specs.declared.command.Task.{Task}
 use Rattle.store_command.specs.declared.command.Task.TheVariants as tasks
 use Rattle.store_command.specs.declared.fault.Fault.{Fault}
-use Rattle.store_command.specs.declared.fault.Fault.TheVariants.{Audit, NoMark, Journal, Head, Event}
-use Rattle.store_command.specs.declared.fault.Fault.TheVariants.{Changes, Rolled}
+use Rattle.store_command.specs.declared.fault.Fault.TheVariants.{Audit, NoMark, Journal, Head}
+use Rattle.store_command.specs.declared.fault.Fault.TheVariants.{Event, Changes, Rolled, Before}
 use Rattle.store_command.specs.declared.report.Report.{Report}
 
 -- the text of the report was written, and nothing else; the reply is right of a state, or it is not
@@ -40,6 +40,7 @@ KeepsAt Head old new = Keeps old new
 KeepsAt (Event at) old new = Keeps old new
 KeepsAt (Changes folder) old new = Keeps old new
 KeepsAt (Rolled mark) old new = Keeps old new
+KeepsAt (Before earlier) old new = Keeps old new
 
 -- how an audit over the folder of a store ends
 abbrev pub IsAuditEnd : Host → Option (List ℕ) → Asked → Option (List ℕ) → Option (List ℕ)

@@ -43,10 +43,10 @@ pub enum Task<'a> {
 }
 
 const AUDIT: &str =
-    r#"The reply is read from standard input, and judged over the folder of a store, as querier serve
---data DIR keeps it: its server may run. A state of the store is sought, after some of the events
-in its journal, of which each part of the reply is right. One line is printed for each part, in the
-order of the reply, and one for each that it does not name:
+    r#"The reply is read from standard input, and judged over the folder of a store, as querier
+serve --data DIR keeps it: its server may run. A state of the store is sought, after some of the
+events in its journal, of which each part of the reply is right. One line is printed for each part,
+in the order of the reply, and one for each that it does not name:
   block 0: valid         the rows are those that the query selects, and the certificate shows it
   block 1: valid, numbered otherwise
                          a block whose series had other numbers than its files now say
@@ -61,8 +61,10 @@ and last, where it is so and a mark of that state, or that it is so of none:
 The lines of a reply that is right of no state are those of the one that is told. The last line
 stands there without --since: what was before the head is no longer told apart.
 
-With --since MARK the state has to be the marked one or a later one. If the store has begun its
-journal anew since, any state will do, and if none is right it says "rolled since MARK: ask again".
+With --since MARK the state has to be the marked one or a later one. If only an earlier one is
+right, it says "at event 6 of 9, before mark MARK: ask again", since a mark may be ahead of the
+server. If the store has begun its journal anew since, any state will do, and if none is right it
+says "rolled since MARK: ask again".
 
 If the files of a block are those of none, that is all that is said: block 0: refused I9.
 
@@ -71,15 +73,15 @@ docs/AUDITING.md of the project explains each flaw.
 Exit status: 0 the reply is right of a state; 1 it is right of none, or the selector or the range
 is refused; 2 a fault of the words; 3 a file or standard input cannot be read, or it holds no reply,
 or the journal is refused (J1 to J4, K1 to K3), or the folder changes, or is rolled since the mark,
-or the lines cannot be written; 4 no memory
+or the reply is from before it, or the lines cannot be written; 4 no memory
 
 Example: curl -sG --data-urlencode selector=up 127.0.0.1:8080/select | auditor --store kept
 --selector up"#;
 
 const MARK: &str =
-    r#"The mark of a store says how far its journal goes: "mark 5d3163ef:9". Whoever has written, and
-has been told so, takes a mark, asks, and audits the reply by --since: then the state that is found
-has what was written.
+    r#"The mark of a store says how far its journal goes: "mark 5d3163ef:9". Whoever has written,
+and has been told so, takes a mark, asks, and audits the reply by --since: then the state that is
+found has what was written.
 
 Exit status: 0 the mark is printed; 2 a fault of the words; 3 the journal cannot be read or is
 refused, or the mark cannot be written; 4 no memory"#;

@@ -1,13 +1,24 @@
 //! Why the program ends before it has printed its lines.
 
-ghost use Rattle.std.specs.Prelude.{◌≡◌, OnOk, IfSome};
+ghost use Rattle.std.specs.Prelude.{◌≡◌, ◌++◌, ◌∷◌, [], OnOk, IfSome};
 ghost use Rattle.std.specs.Io.KnownBytes.{Appends};
-ghost use Rattle.store_command.specs.Faults.{status_of, line_of, place_of};
+ghost use Rattle.store_command.specs.Faults.{earlier_text, status_of, line_of, place_of};
 
 use audit_command::Fault as AuditFault;
 use kept_walk::KeptError;
 use std::alloc::{AllocError, AllocFailed};
 use std::io::{self, Write};
+
+/// A state before a mark.
+#[derive(Debug, Drop)]
+pub struct Earlier {
+    /// After how many events it is.
+    pub at: usize,
+    /// How many events the journal has behind its head.
+    pub events: usize,
+    /// The mark.
+    pub mark: String,
+}
 
 /// Why the program ends before it has printed its lines.
 #[derive(Debug, Drop)]
@@ -27,6 +38,8 @@ pub enum Fault {
     Changes(String),
     /// The reply is right of no state, and the journal is another than that of this mark.
     Rolled(String),
+    /// The reply is right of no state from the mark on, but of this one before it.
+    Before(Earlier),
 }
 
 /// The place that the refusal of a journal tells: behind how many events.
@@ -51,10 +64,23 @@ fn tell_journal<W: Write>(error: KeptError, to: &mut W) -> io::Result<()>
     }
 }
 
+fn tell_earlier<W: Write>(earlier: &Earlier, to: &mut W) -> io::Result<()>
+    ensures { OnOk result (Appends (W.contents to.old) (W.contents to.new)
+        (earlier_text earlier.now ++ 10 ∷ [])) }
+{
+    let at = earlier.at;
+    let events = earlier.events;
+    let mark = earlier.mark.as_str();
+    writeln!(
+        to,
+        "at event {at} of {events}, before mark {mark}: ask again"
+    )
+}
+
 impl Fault {
-    /// The exit status: 1 for a refused query, 2 for a fault of the words or of the mark, 3 for what
-    /// cannot be read, for a store that is refused, changes or is rolled, and for a writer that
-    /// refused, 4 for no memory.
+    /// The exit status: 1 for a refused query, 2 for a fault of the words or of the mark, 3 for
+    /// what cannot be read, for a store that is refused, changes or is rolled, for a reply from
+    /// before the mark, and for a writer that refused, 4 for no memory.
     pub fn status(&self) -> u8
         ensures { result ≡ status_of self.now }
     {
@@ -65,7 +91,8 @@ impl Fault {
             | Fault::Head
             | Fault::Event(_)
             | Fault::Changes(_)
-            | Fault::Rolled(_) => 3,
+            | Fault::Rolled(_)
+            | Fault::Before(_) => 3,
         }
     }
 
@@ -82,6 +109,7 @@ impl Fault {
             Fault::Event(at) => writeln!(to, "refused K3 at {at}"),
             Fault::Changes(folder) => writeln!(to, "{folder} changes"),
             Fault::Rolled(mark) => writeln!(to, "rolled since {mark}: ask again"),
+            Fault::Before(earlier) => tell_earlier(earlier, to),
         }
     }
 }

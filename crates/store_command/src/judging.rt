@@ -8,7 +8,7 @@ ghost use Rattle.store_command.specs.Judging.{IsStoreAuditFault, IsToldAs, Tells
 ghost use Rattle.store_command.specs.Judging.{since_text};
 
 use crate::command::Asked;
-use crate::fault::Fault;
+use crate::fault::{Earlier, Fault};
 use crate::mark::{Mark, Since};
 use crate::report::{Report, has_refused, is_right, refused_report, report_of, walked};
 use audit_command::{ReadFiles, query_of, reply_in};
@@ -87,13 +87,21 @@ fn lost_mark(since: Since, said: &StateReport) -> Option<Mark>
     }
 }
 
-/// The report on a reply; none, if it may be right of a state that is gone.
+/// The report on a reply; none, if it may be right of a state that is gone, or is right of one
+/// before the mark alone.
 fn told(alloc: Global, since: Since, head: u32, said: &StateReport) -> Result<Report, Fault>
     ensures { Tells since head said.now result }
 {
     match lost_mark(since, said) {
         Some(mark) => Err(Fault::Rolled(mark.text(alloc)?)),
-        None => Ok(report_of(alloc, since, head, said)?),
+        None => match said.earlier {
+            Some(at) => {
+                let mark = Mark::at(head, since.first()).text(alloc)?;
+                let events = said.events;
+                Err(Fault::Before(Earlier { at, events, mark }))
+            }
+            None => Ok(report_of(alloc, since, head, said)?),
+        },
     }
 }
 

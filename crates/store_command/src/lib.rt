@@ -13,7 +13,7 @@
 //!
 //! The folder is read by `kept_folder`, the reply is judged by `store_audit`, and the query, the
 //! reply and directories are read by `audit_command`. [`right_replies`] is the law of what the
-//! status 0 means.
+//! status 0 means, and [`earlier_replies`] of what it means that a reply is from before the mark.
 #![tactic(auto)]
 
 mod command;
@@ -27,7 +27,7 @@ mod report;
 pub use command::Aim;
 pub use fault::Fault;
 pub use judging::read_folder;
-pub use laws::right_replies;
+pub use laws::{earlier_replies, right_replies};
 pub use mark::Mark;
 pub use program::run_by;
 pub use report::{has_refused, refused_lines, walked};

@@ -146,8 +146,9 @@ fn run_over_store<F: ReadFiles, R: Read, W: Write, E: Write>(
 /// right of none, if the files of a block are refused, and for a selector or a range that is
 /// refused; 2 for a fault of the words or of the mark; 3 for what cannot be read, which is named
 /// there, for a text that is no reply, a journal that is refused, a folder that changes or is
-/// rolled, and if the first writer fails; 4 if memory does. The words come first, then the mark, the
-/// selector, the range, the reply, and the folder. Nothing is written before all is judged.
+/// rolled, a reply that is right of a state before the mark alone, and if the first writer fails;
+/// 4 if memory does. The words come first, then the mark, the selector, the range, the reply, and
+/// the folder. Nothing is written before all is judged.
 pub fn run_by<T: Threads + Sync, F: ReadFiles, R: Read, W: Write, E: Write>(
     rt: &T,
     alloc: Global,

@@ -1,12 +1,12 @@
 -- Contents that begin with a head.
-use Rattle.std.proofs.Common.{◌≡◌, ℕ, zero, suc, ◌≤◌, List, [], ◌∷◌, ◌++◌, length, drop, Vec, Result}
-use Rattle.std.proofs.Common.{Err, refl, sym, ap, subst, ◌∙◌, arith}
-use Rattle.std.specs.Prelude.{◌↔◌}
+use Rattle.std.proofs.Common.{◌≡◌, ℕ, zero, suc, ◌≤◌, ◌-◌, List, [], ◌∷◌, ◌++◌, length, drop}
+use Rattle.std.proofs.Common.{Vec, Result, Ok, Err, refl, sym, ap, subst, ◌∙◌, arith}
+use Rattle.std.specs.Prelude.{◌↔◌, IfOk}
 use Rattle.std.specs.declared.alloc.Global.{Global}
 use Rattle.std.proofs.lemmas.List.{length-append, length-map}
 use Rattle.head.specs.Worlds.{Event}
 use Rattle.event_journal.specs.declared.events.Refused.{Refused}
-use Rattle.event_journal.specs.Holding.{Spell, contents_with}
+use Rattle.event_journal.specs.Naming.{Spell}
 use Rattle.event_journal.specs.Outcome.{RefusesAt}
 use Rattle.head_record.specs.Outcome.{Begins as BeginsWith}
 use Rattle.head_record.specs.Saved.{Saved}
@@ -18,11 +18,12 @@ use Rattle.journal.specs.declared.error.JournalError.TheVariants as journal
 use Rattle.journal.specs.Outcome.{IsOfReading}
 use Rattle.journal.specs.Records.{Begins, BeginsOtherwise, HasBadLength, IsDamaged, Recovers, Splits}
 use Rattle.journal.specs.Records.{file_of, header, magic}
-use Rattle.keeper.specs.Together.{texts_of}
+use Rattle.name_table.specs.Names.{Label}
 use Rattle.store_folder.specs.declared.error.ReadError.{ReadError}
 use Rattle.store_folder.specs.declared.error.ReadError.TheVariants as errors
 use Rattle.store_folder.specs.Journals.{AreContents, DeniesContents, DeniesJournal, DeniesRecords}
-use Rattle.store_folder.specs.Journals.{GivesContents, IsJournalOf}
+use Rattle.store_folder.specs.Journals.{GivesContents, IsFoundJournal, IsJournalOf}
+use Rattle.store_folder.specs.declared.journals.FoundJournal.{FoundJournal}
 
 abbrev Bytes : Type 0
 Bytes = Vec ℕ Global
@@ -50,57 +51,78 @@ within vs saved count b =
 
 -- what stands behind it are the events
 pub found_after : (vs after : List Bytes) (saved : Saved) (count : ℕ) (events : List Event)
-    → BeginsWith (contents_in vs) saved count → after ≡ drop count vs
-    → Spell (contents_in after) events → AreContents (contents_in vs) saved events
-found_after vs after saved count events b is s = record {
+    (names : List Label) → BeginsWith (contents_in vs) saved count → after ≡ drop count vs
+    → Spell (contents_in after) events names → AreContents (contents_in vs) saved events names
+found_after vs after saved count events names b is s = record {
   head = b.fits;
-  each = s.each;
+  after = contents_in after;
+  spell = s;
   whole = b.front
       ∙ ap (λ (x : List (List ℕ)). head_texts saved ++ x)
-      (sym (left_over count vs) ∙ (ap contents_in (sym is) ∙ s.texts));
+      (sym (left_over count vs) ∙ ap contents_in (sym is));
 }
 
 pub spell_after : (vs after : List Bytes) (saved : Saved) (count : ℕ) (events : List Event)
-    → BeginsWith (contents_in vs) saved count → after ≡ drop count vs
-    → AreContents (contents_in vs) saved events → Spell (contents_in after) events
-spell_after vs after saved count events b is h = record {
-  texts = ap contents_in is
-      ∙ (left_over count vs
-      ∙ (ap (λ (n : ℕ). drop n (contents_in vs)) b.all
-      ∙ (ap (drop (length (head_texts saved))) h.whole
-      ∙ dropped (head_texts saved) (texts_of events))));
-  each = h.each;
-}
+    (names : List Label) → BeginsWith (contents_in vs) saved count → after ≡ drop count vs
+    → AreContents (contents_in vs) saved events names → Spell (contents_in after) events names
+spell_after vs after saved count events names b is h =
+    let same : contents_in after ≡ h.after =
+    ap contents_in is
+    ∙ (left_over count vs
+    ∙ (ap (λ (n : ℕ). drop n (contents_in vs)) b.all
+    ∙ (ap (drop (length (head_texts saved))) h.whole
+    ∙ dropped (head_texts saved) h.after))) in
+    subst (λ (x : List (List ℕ)). Spell x events names) (sym same) h.spell
 
 -- the same for another name of the head
 pub renamed : (contents : List (List ℕ)) (head saved : Saved) (events : List Event)
-    (result : Result (Saved × Vec Event Global) ReadError) → head ≡ saved
-    → AreContents contents saved events
-    → (AreContents contents head events → GivesContents head events result)
+    (names : List Label) (result : Result (Saved × Vec Event Global) ReadError) → head ≡ saved
+    → AreContents contents saved events names
+    → (AreContents contents head events names → GivesContents head events result)
     → GivesContents saved events result
-renamed contents head saved events result is h f =
+renamed contents head saved events names result is h f =
     subst (λ (x : Saved). GivesContents x events result) is
-    (f (subst (λ (x : Saved). AreContents contents x events) (sym is) h))
+    (f (subst (λ (x : Saved). AreContents contents x events names) (sym is) h))
 
 -- a file and its whole records
 
-pub journal_of : (file : List ℕ) (contents : List (List ℕ)) (saved : Saved) (events : List Event)
-    → Recovers file contents → AreContents contents saved events → IsJournalOf file saved events
-journal_of file contents saved events r h = record {
-  head = h.head;
-  stands = record {
-    before = in_front saved;
-    each = h.each;
-    recovers = subst (λ (x : List (List ℕ)). Recovers file x) h.whole r;
+journal_found : (file : List ℕ) (contents : List (List ℕ)) (j : FoundJournal)
+    → Recovers file contents → AreContents contents j.head j.events.items j.names
+    → j.len ≡ length (file_of contents) → j.torn ≡ length file - j.len → IsFoundJournal file j
+journal_found file contents j r h len torn = record {
+  is = record {
+    head = h.head;
+    stands = record {
+      before = in_front j.head;
+      contents = h.after;
+      names = j.names;
+      spell = h.spell;
+      recovers = subst (λ (x : List (List ℕ)). Recovers file x) h.whole r;
+    };
   };
+  counted = len ∙ ap (λ (x : List (List ℕ)). length (file_of x)) h.whole;
+  named = refl;
+  torn = torn;
 }
 
+pub journal_given : (file : List ℕ) (contents : List (List ℕ)) (len : ℕ)
+    (r : Result FoundJournal ReadError) → Recovers file contents
+    → len ≡ length (file_of contents)
+    → IfOk r (λ j. AreContents contents j.head j.events.items j.names)
+    → IfOk r (λ j. j.len ≡ len) → IfOk r (λ j. j.torn ≡ length file - len)
+    → IfOk r (λ j. IsFoundJournal file j)
+journal_given file contents len (Ok j) found counted h is torn =
+    journal_found file contents j found h (is ∙ counted)
+    (torn ∙ ap (λ (n : ℕ). length file - n) (sym is))
+journal_given file contents len (Err e) found counted h is torn = tt
+
 pub contents_of : (file : List ℕ) (contents : List (List ℕ)) (saved : Saved) (events : List Event)
-    → contents ≡ contents_with (head_texts saved) events → IsJournalOf file saved events
-    → AreContents contents saved events
-contents_of file contents saved events is h = record {
+    (h : IsJournalOf file saved events) → contents ≡ head_texts saved ++ h.stands.contents
+    → AreContents contents saved events h.stands.names
+contents_of file contents saved events h is = record {
   head = h.head;
-  each = h.stands.each;
+  after = h.stands.contents;
+  spell = h.stands.spell;
   whole = is;
 }
 

@@ -1,7 +1,8 @@
 -- Events more, kept in a folder.
 use Rattle.std.proofs.Common.{◌≡◌, ◌≢◌, ◌⊎◌, inl, inr, ⊎_elim, ℕ, ◌≤◌, Bool, List, ◌++◌, take}
-use Rattle.std.proofs.Common.{Option, Some, ap, refl, ◌∙◌, append_assoc}
+use Rattle.std.proofs.Common.{Option, Some, ap, refl, subst, sym, ◌∙◌, append_assoc}
 use Rattle.std.proofs.Common.{arith}
+use Rattle.std.proofs.lemmas.List.{append-nil}
 use Rattle.data_folder.specs.declared.journal_file.JournalFile.{JournalFile}
 use Rattle.data_folder.specs.Folders.{Left, LeavesOnly, MayLeaveOf}
 use Rattle.data_folder.specs.JournalFile.{bytes_in, journal_name, JournalLeft}
@@ -13,6 +14,7 @@ use Rattle.head_record.specs.Saved.{Place, Saved}
 use Rattle.head_record.specs.Spelling.{head_texts, IsSaved}
 use Rattle.journal.specs.Media as media
 use Rattle.keeper.specs.Finding.{AreAll, AreAllAndSome, StandsForSome}
+use Rattle.name_table.specs.Names.{Label}
 use Rattle.store_folder.specs.Holding.{AreAt, BytesSince, BytesStandFor, HoldsAfterHead, HoldsLike}
 use Rattle.store_folder.specs.Holding.{KeptLast, LastLike, StandsForThese}
 use Rattle.store_folder.specs.KeeperLaws.{has_journal, regrouped, stands_for}
@@ -26,13 +28,42 @@ module _ {F : Type 0} (shows : F → List ℕ → Option (List ℕ) → Type 0)
     (left_since : F → ℕ → Left → Type 0)
     (only_now : (f : F) (name : List ℕ) (x : Option (List ℕ)) (n : ℕ) (left : Left) → shows f name x
     → kept f name n → left_since f (moment f) left → MayLeaveOf n x (left name)) where
-  abbrev HoldsHere : List (List ℕ) → JournalFile F → ℕ → Bool → List Event → Type 0
-  HoldsHere front m len closed events =
+  abbrev HoldsBy : List (List ℕ) → JournalFile F → ℕ → Bool → List Label → List Event → Type 0
+  HoldsBy front m len closed names events =
       Holds (λ (j : JournalFile F) (bytes : List ℕ). shows j.folder journal_name (Some bytes))
       (λ (j : JournalFile F) (n : ℕ). kept j.folder journal_name n)
       (λ (j : JournalFile F). sound j.folder) (λ (j : JournalFile F). moment j.folder)
       (λ (j : JournalFile F) (t : ℕ) (bytes : List ℕ). JournalLeft left_since j.folder t bytes)
-      front m len closed events
+      front m len closed names events
+
+  abbrev HoldsHere : List (List ℕ) → JournalFile F → ℕ → Bool → List Event → Type 0
+  HoldsHere front m len closed events = HoldsBy front m len closed m.names events
+
+  -- by the names that the journal has
+  pub named_so : (front : List (List ℕ)) (m : JournalFile F) (len : ℕ) (closed : Bool)
+      (names : List Label) (events : List Event) → m.names ≡ names
+      → HoldsBy front m len closed names events → HoldsHere front m len closed events
+  named_so front m len closed names events same h =
+      subst (λ (ns : List Label). HoldsBy front m len closed ns events) (sym same) h
+
+  -- the names do not say what is held
+  pub named_anew : (front : List (List ℕ)) (m : JournalFile F) (others : List Label) (len : ℕ)
+      (closed : Bool) (names : List Label) (events : List Event)
+      → HoldsBy front m len closed names events
+      → HoldsBy front (record (m) { names = others }) len closed names events
+  named_anew front m others len closed names events h = record {
+    before = h.before;
+    contents = h.contents;
+    after = h.after;
+    spell = h.spell;
+    named = h.named;
+    keeps = λ opened. (let k = h.keeps opened in record {
+      each = k.each;
+      has = record { all = k.has.all; durable = k.has.durable; is_sound = k.has.is_sound };
+      counted = k.counted;
+    });
+    survives = h.survives;
+  }
 
   abbrev HoldsAll : Origin → JournalFile F → ℕ → Bool → List Event → Type 0
   HoldsAll first m len closed events =
@@ -197,7 +228,7 @@ module _ {F : Type 0} (shows : F → List ℕ → Option (List ℕ) → Type 0)
             events ++ few,
             stands_for first (events ++ few) early (late ++ few) saved parts left
                 (regrouped events early late few all) head begins
-                (blocks_left shows kept saved.places parts old.folder left at may) s.1.each
+                (blocks_left shows kept saved.places parts old.folder left at may)
                 (has_journal left (head_texts saved) (late ++ few) s.1),
             (s.0, refl),
           )
@@ -219,6 +250,19 @@ module _ {F : Type 0} (moment : F → ℕ) (left_since : F → ℕ → Left → 
   before_kept first old new P h t left le had =
       ⊎_elim (λ past. inl (past, had.1)) (λ s. inr (s.0, (had.1, s.1), s.2))
       (h.before t left le had.0)
+
+  -- these events, and none of some more
+  pub none_more : (first : Origin) (events more : List Event) (old new : F)
+      → StartFinds moment left_since old new first events
+      → LeavesOnly moment left_since old new (StandsForThese first (AreAllAndSome events more))
+  none_more first events more old new h =
+      let none : events ≡ events ++ take 0 more = sym (append-nil events) in
+      record {
+        later = h.later;
+        each = λ left had. (events, h.each left had, (0, none));
+        before = λ t left le had. ⊎_elim (λ past. inl past) (λ s. inr (events, s, (0, none)))
+            (h.before t left le had);
+      }
 
   -- exactly these events
   pub these_alone : (first : Origin) (events : List Event) (old new : F)

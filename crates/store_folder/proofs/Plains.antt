@@ -1,10 +1,12 @@
 -- A journal of events alone that is given a head.
-use Rattle.std.proofs.Common.{◌≡◌, ◌⊎◌, inl, inr, ⊎_elim, ℕ, true, List, [], Some, ap, sym, subst}
-use Rattle.std.proofs.Common.{arith, length, Option, subst₂, ◌∙◌}
+use Rattle.std.proofs.Common.{◌≡◌, ◌⊎◌, inl, inr, ⊎_elim, ℕ, true, List, [], ◌++◌, Some, ap, sym}
+use Rattle.std.proofs.Common.{subst, arith, length, Option, subst₂, Vec, ◌∙◌, refl}
+use Rattle.std.specs.declared.alloc.Global.{Global}
 use Rattle.data_folder.specs.Folders.{HasFile, Left, LeavesOnly}
 use Rattle.data_folder.specs.JournalFile.{journal_name}
 use Rattle.data_folder.proofs.Moments.{weaker}
-use Rattle.event_journal.specs.Holding.{Stands, contents_with}
+use Rattle.event_journal.specs.Holding.{Stands}
+use Rattle.event_journal.specs.Naming.{Spell}
 use Rattle.head.specs.Heads.{BlockPart}
 use Rattle.head.specs.Worlds.{Event}
 use Rattle.head_record.specs.Saved.{Saved}
@@ -12,72 +14,146 @@ use Rattle.head_record.specs.Spelling.{head_texts, IsSaved}
 use Rattle.head_record.proofs.Worlds.{in_front}
 use Rattle.journal.specs.Group.{IsJournalText}
 use Rattle.journal.specs.Records.{file_of, Recovers}
+use Rattle.name_table.specs.Names.{Label}
 use Rattle.journal.proofs.Keeping.{itself}
-use Rattle.store_folder.specs.declared.journals.FoundJournal.{FoundJournal}
 use Rattle.store_folder.specs.Finding.{IsFoundStore}
-use Rattle.store_folder.specs.Holding.{AreAt}
 use Rattle.store_folder.specs.Journals.{IsJournalOf}
+use Rattle.store_folder.specs.declared.error.ReadError.{ReadError}
+use Rattle.store_folder.specs.declared.error.ReadError.TheVariants as read
+use Rattle.store_folder.specs.declared.error.StartError.{StartError}
+use Rattle.store_folder.specs.declared.error.StartError.TheVariants as errors
+use Rattle.store_folder.specs.Plain.{DeniesAdmitting, DeniesEvents, DeniesPlain, DeniesText}
 use Rattle.store_folder.specs.Plain.{HasEither, begins_plain}
 use Rattle.store_folder.specs.Starting.{nothing_saved}
 
-abbrev headed : List Event → List (List ℕ)
-headed events = contents_with (head_texts nothing_saved) events
+-- what the whole records of a file without a head stand for
+
+plain_stands : (file : List ℕ) (contents : List (List ℕ)) (events : List Event)
+    (names : List Label) → Recovers file contents → Spell contents events names
+    → Stands [] file events
+plain_stands file contents events names r s = record {
+  before = tt;
+  contents = contents;
+  names = names;
+  spell = s;
+  recovers = r;
+}
+
+pub plain_found : (file : List ℕ) (contents : List (List ℕ)) (events : List Event)
+    (names : List Label) (len : ℕ) → Recovers file contents → Spell contents events names
+    → len ≡ length (file_of contents)
+    → (stands : Stands [] file events) × (len ≡ length (file_of stands.contents))
+unfolding plain_stands
+plain_found file contents events names len r s is =
+    (plain_stands file contents events names r s, is)
+
+pub plain_headed : (file : List ℕ) (contents : List (List ℕ)) (events : List Event)
+    (names : List Label) (text : List ℕ) → Recovers file contents → Spell contents events names
+    → IsJournalText (head_texts nothing_saved ++ contents) text
+    → (stands : Stands [] file events) × (names ≡ stands.names)
+    × IsJournalText (head_texts nothing_saved ++ stands.contents) text
+unfolding plain_stands
+plain_headed file contents events names text r s is =
+    (plain_stands file contents events names r s, refl, is)
+
+-- contents that are refused as events are those of the file
+pub events_denied : (file : List ℕ) (contents : List (List ℕ)) (e : ReadError)
+    → Recovers file contents → DeniesEvents contents e → DeniesPlain file e
+events_denied file contents (read.Journal e) r d = absurd d
+events_denied file contents (read.Head refused) r d = (contents, r, d)
+events_denied file contents (read.Event refused) r d = (contents, r, d)
+
+-- events that are not accepted are those of the file
+denies_text : (file : List ℕ) (events : List Event) (e : StartError) → Stands [] file events
+    → DeniesAdmitting events e → DeniesText file e
+denies_text file events errors.Medium s d = absurd d
+denies_text file events (errors.Journal e) s d =
+    subst (λ (x : ReadError). DeniesPlain file x) (sym d) tt
+denies_text file events (errors.Block unread) s d = absurd d
+denies_text file events (errors.Head e) s d = absurd d
+denies_text file events (errors.Event refused) s d = (events, s, d)
+
+pub plain_denied : (file : List ℕ) (contents : List (List ℕ)) (events : List Event)
+    (names : List Label) (e : StartError) → Recovers file contents → Spell contents events names
+    → DeniesAdmitting events e → DeniesText file e
+plain_denied file contents events names e r s d =
+    denies_text file events e (plain_stands file contents events names r s) d
+
+-- a text of the contents that stand for the events, after the head
+pub record IsHeaded (file text : List ℕ) (events : List Event) (names : List Label)
+    : Type 0 where
+  pub stands : Stands [] file events
+  pub named : names ≡ stands.names
+  pub is : IsJournalText (head_texts nothing_saved ++ stands.contents) text
 
 -- the text of the events after the head
-pub is_journal_of : (file text : List ℕ) (events : List Event) → Stands [] file events
-    → IsSaved nothing_saved → IsJournalText (headed events) text
+pub is_journal_of : (file text : List ℕ) (events : List Event) (names : List Label)
+    → IsHeaded file text events names → IsSaved nothing_saved
     → IsJournalOf text nothing_saved events
-is_journal_of file text events stands saved is = record {
-  head = saved;
-  stands = record {
-    before = in_front nothing_saved;
-    each = stands.each;
-    recovers = subst (λ (bytes : List ℕ). Recovers bytes (headed events)) (sym is.whole)
-        (itself (headed events) is.each);
-  };
-}
+is_journal_of file text events names h saved =
+    let all = head_texts nothing_saved ++ h.stands.contents in
+    record {
+      head = saved;
+      stands = record {
+        before = in_front nothing_saved;
+        contents = h.stands.contents;
+        names = h.stands.names;
+        spell = h.stands.spell;
+        recovers = subst (λ (bytes : List ℕ). Recovers bytes all) (sym h.is.whole)
+            (itself all h.is.each);
+      };
+    }
 
 -- what the folder has then
 pub found_headed : {F : Type 0} (shows : F → List ℕ → Option (List ℕ) → Type 0)
-    (kept : F → List ℕ → ℕ → Type 0) (f : F) (j : FoundJournal) (parts : List BlockPart)
-    (file text : List ℕ) → HasFile shows kept journal_name text f → j.head ≡ nothing_saved
-    → j.len ≡ length text → j.torn ≡ 0 → Stands [] file j.events.items → IsSaved nothing_saved
-    → IsJournalText (headed j.events.items) text → parts ≡ [] → IsFoundStore shows kept j parts f
-found_headed shows kept f j parts file text has head len torn stands saved is none = record {
-  file = text;
-  has = has;
-  journal = record {
-    is = subst (λ (h : Saved). IsJournalOf text h j.events.items) (sym head)
-        (is_journal_of file text j.events.items stands saved is);
-    counted = len ∙ (ap (λ (bytes : List ℕ). length bytes) is.whole
-        ∙ ap (λ (h : Saved). length (file_of (contents_with (head_texts h) j.events.items)))
-        (sym head));
-    torn = omega (arith, torn, len);
-  };
-  blocks = subst₂ (λ (h : Saved) (ps : List BlockPart). AreAt shows kept h.places ps f) (sym head)
-      (sym none) tt;
-}
+    (kept : F → List ℕ → ℕ → Type 0) (f : F) (events : Vec Event Global) (names : List Label)
+    (len : ℕ) (head : Saved) (parts : List BlockPart) (file text : List ℕ)
+    → HasFile shows kept journal_name text f → head ≡ nothing_saved → len ≡ length text
+    → IsHeaded file text events.items names → IsSaved nothing_saved → parts ≡ []
+    → IsFoundStore shows kept
+    (record { head = head; events = events; names = names; len = len; torn = 0 }) parts f
+unfolding is_journal_of
+found_headed shows kept f events names len head parts file text has is_head is_len h saved none =
+    subst₂ (λ (x : Saved) (ps : List BlockPart). IsFoundStore shows kept
+    (record { head = x; events = events; names = names; len = len; torn = 0 }) ps f) (sym is_head)
+    (sym none) (record {
+      file = text;
+      has = has;
+      journal = record {
+        is = is_journal_of file text events.items names h saved;
+        counted = is_len ∙ ap (λ (bytes : List ℕ). length bytes) h.is.whole;
+        named = h.named;
+        torn = omega (arith, is_len);
+      };
+      blocks = tt;
+    })
 
 abbrev IsOneOfTwo : List ℕ → List ℕ → Left → Type 0
 IsOneOfTwo file text left = (left journal_name ≡ Some file) ⊎ (left journal_name ≡ Some text)
 
 module _ {F : Type 0} (moment : F → ℕ) (left_since : F → ℕ → Left → Type 0) where
-  pub either_left : (old new : F) (file text : List ℕ) (events : List Event)
-      → begins_plain file ≡ true → Stands [] file events → IsJournalText (headed events) text
+  pub either_left : (old new : F) (file text : List ℕ) (events : List Event) (names : List Label)
+      → begins_plain file ≡ true → IsHeaded file text events names
       → LeavesOnly moment left_since old new (IsOneOfTwo file text)
       → LeavesOnly moment left_since old new (HasEither file)
-  either_left old new file text events plain stands is leaves =
+  either_left old new file text events names plain h leaves =
+      let all = head_texts nothing_saved ++ h.stands.contents in
       weaker moment left_since old new (IsOneOfTwo file text) (HasEither file)
       (λ left p. ⊎_elim (λ e. inl e) (λ e. inr (
         events,
         plain,
-        stands,
-        (
-          text,
-          e,
-          subst (λ (bytes : List ℕ). Recovers bytes (headed events)) (sym is.whole)
-              (itself (headed events) is.each),
-        ),
+        h.stands,
+        record {
+          contents = h.stands.contents;
+          names = h.stands.names;
+          spell = h.stands.spell;
+          journal = (
+            text,
+            e,
+            subst (λ (bytes : List ℕ). Recovers bytes all) (sym h.is.whole)
+                (itself all h.is.each),
+          );
+        },
       )) p) leaves
 
   pub as_it_was : (old new : F) (file : List ℕ)

@@ -15,13 +15,14 @@ use Rattle.data_folder.specs.Rolls as rolls
 use Rattle.data_folder.specs.States.{AreThere, HasFiles, IsApart, IsOldOrNew, Named}
 use Rattle.data_folder.proofs.Moments.{joined as joined_calls, started as before_all, weaker}
 use Rattle.event_journal.specs.Holding.{contents_with}
+use Rattle.event_journal.specs.Naming.{Spell}
+use Rattle.name_table.specs.Names.{Label}
 use Rattle.event_journal.proofs.Kept.{holds_open}
 use Rattle.head.specs.Heads.{BlockPart}
 use Rattle.head.specs.Worlds.{Event}
 use Rattle.head_record.specs.Saved.{Place, Saved}
 use Rattle.head_record.specs.Spelling.{head_texts, IsSaved}
 use Rattle.head_record.proofs.Worlds.{in_front}
-use Rattle.keeper.specs.Together.{IsKept}
 use Rattle.store_folder.specs.declared.error.RollFault.TheVariants as fault
 use Rattle.store_folder.specs.Blocks.{BlockFiles, named_files}
 use Rattle.store_folder.specs.Holding.{AreAt, HoldsAfterHead, HoldsAt, HoldsStore}
@@ -161,7 +162,7 @@ module _ {F : Type 0} (shows : F → List ℕ → Option (List ℕ) → Type 0)
   -- what the journal of a folder has
   pub keeps_now : (first : Origin) (m : JournalFile F) (len : ℕ) (closed : Bool)
       (events : List Event) (h : HoldsAll first m len closed events) → closed ≡ false
-      → KeepsHere (contents_with (head_texts h.saved) h.late) m len
+      → KeepsHere (head_texts h.saved ++ h.journal.contents) m len
   keeps_now first m len closed events h opened =
       let k = h.journal.keeps opened in
       record {
@@ -173,47 +174,49 @@ module _ {F : Type 0} (shows : F → List ℕ → Option (List ℕ) → Type 0)
 
   -- a journal of a head and events after it
   abbrev pub after_head : (first : Origin) (m : JournalFile F) (len : ℕ) (closed : Bool) (saved : Saved)
-      (parts : List BlockPart) (events early late : List Event) → events ≡ early ++ late
-      → IsSaved saved → AllByRecursion IsKept late
-      → IsAfter first early saved parts
-      → KeepsHere (contents_with (head_texts saved) late) m len
+      (parts : List BlockPart) (events early late : List Event) (contents : List (List ℕ))
+      (names : List Label) → events ≡ early ++ late → IsSaved saved → Spell contents late names
+      → m.names ≡ names → IsAfter first early saved parts
+      → KeepsHere (head_texts saved ++ contents) m len
       → AreAt shows kept saved.places parts m.folder → HoldsAll first m len closed events
-  after_head first m len closed saved parts events early late all head each begins k at = record {
-    saved = saved;
-    parts = parts;
-    early = early;
-    late = late;
-    all = all;
-    head = head;
-    begins = begins;
-    journal = holds_open
-        (λ (j : JournalFile F) (bytes : List ℕ). shows j.folder journal_name (Some bytes))
-        (λ (j : JournalFile F) (n : ℕ). kept j.folder journal_name n)
-        (λ (j : JournalFile F). sound j.folder) (λ (j : JournalFile F). moment j.folder)
-        (λ (j : JournalFile F) (t : ℕ) (bytes : List ℕ). JournalLeft left_since j.folder t bytes)
-        (λ j bytes n left shown durable had. left_now n bytes left (had.0 journal_name) had.2
-        (only_now j.folder journal_name (Some bytes) n had.0 shown durable had.1))
-        (λ j t u left le fits had. (had.0, earlier j.folder t u had.0 le fits had.1, had.2))
-        (head_texts saved) m len closed late (in_front saved) each (record {
-          each = k.each;
-          has = record { all = k.file.shown; durable = k.file.durable; is_sound = k.is_sound };
-          counted = k.counted;
-        });
-    blocks = at;
-  }
+  after_head first m len closed saved parts events early late contents names all head spell named
+      begins k at = record {
+        saved = saved;
+        parts = parts;
+        early = early;
+        late = late;
+        all = all;
+        head = head;
+        begins = begins;
+        journal = holds_open
+            (λ (j : JournalFile F) (bytes : List ℕ). shows j.folder journal_name (Some bytes))
+            (λ (j : JournalFile F) (n : ℕ). kept j.folder journal_name n)
+            (λ (j : JournalFile F). sound j.folder) (λ (j : JournalFile F). moment j.folder)
+            (λ (j : JournalFile F) (t : ℕ) (bytes : List ℕ). JournalLeft left_since j.folder t bytes)
+            (λ j bytes n left shown durable had. left_now n bytes left (had.0 journal_name) had.2
+            (only_now j.folder journal_name (Some bytes) n had.0 shown durable had.1))
+            (λ j t u left le fits had. (had.0, earlier j.folder t u had.0 le fits had.1, had.2))
+            (head_texts saved) contents m len closed m.names names late (in_front saved) spell named
+            (record {
+              each = k.each;
+              has = record { all = k.file.shown; durable = k.file.durable; is_sound = k.is_sound };
+              counted = k.counted;
+            });
+        blocks = at;
+      }
 
   -- the new journal has the same events, before its head
   pub rolled : (first : Origin) (old new : JournalFile F) (len new_len : ℕ) (was closed : Bool)
       (saved : Saved) (parts : List BlockPart) (events : List Event)
-      → May first old len was events saved parts → IsSaved saved
+      → May first old len was events saved parts → IsSaved saved → new.names ≡ []
       → KeepsHere (contents_with (head_texts saved) []) new new_len
       → ((files : List Named) → AllByRecursion IsApart files → AreThere shows kept files old.folder
       → AreThere shows kept files new.folder)
       → HoldsAt shows kept sound moment left_since first new new_len closed events saved.places
       parts
-  rolled first old new len new_len was closed saved parts events m head k stay = (
-    after_head first new new_len closed saved parts events events [] (sym (append-nil events)) head
-        tt (record { world = m.world; values = m.values }) k
+  rolled first old new len new_len was closed saved parts events m head named k stay = (
+    after_head first new new_len closed saved parts events events [] [] []
+        (sym (append-nil events)) head refl named (record { world = m.world; values = m.values }) k
         (blocks_rolled shows kept saved.places parts old.folder new.folder stay m.blocks),
     refl,
     refl,
@@ -227,7 +230,7 @@ module _ {F : Type 0} (shows : F → List ℕ → Option (List ℕ) → Type 0)
       (m : May first old len was events saved parts) → IsSaved saved
       → IsOldOrNew
       (files_of_both shows kept h.saved.places saved.places h.parts parts old.folder h.blocks m.blocks)
-      (contents_with (head_texts h.saved) h.late) (contents_with (head_texts saved) []) left
+      (head_texts h.saved ++ h.journal.contents) (contents_with (head_texts saved) []) left
       → StandsFor first events left
   old_or_new first old len was saved parts events left h m head is =
       let split =
@@ -236,11 +239,17 @@ module _ {F : Type 0} (shows : F → List ℕ → Option (List ℕ) → Type 0)
       (files_at shows kept saved.places parts old.folder m.blocks) is.files in
       ⊎_elim
       (λ had. stands_for first events h.early h.late h.saved h.parts left h.all h.head h.begins
-      (lie_at shows kept h.saved.places h.parts old.folder left h.blocks split.0) h.journal.each
-      had)
+      (lie_at shows kept h.saved.places h.parts old.folder left h.blocks split.0)
+      (record {
+        contents = h.journal.contents;
+        names = h.journal.after;
+        spell = h.journal.spell;
+        journal = had;
+      }))
       (λ has. stands_for first events events [] saved parts left (sym (append-nil events)) head
       (record { world = m.world; values = m.values })
-      (lie_at shows kept saved.places parts old.folder left m.blocks split.1) tt has)
+      (lie_at shows kept saved.places parts old.folder left m.blocks split.1)
+      (record { contents = []; names = []; spell = refl; journal = has }))
       is.journal
 
   pub roll_finds : (first : Origin) (old new : JournalFile F) (len : ℕ) (was : Bool)
@@ -249,7 +258,7 @@ module _ {F : Type 0} (shows : F → List ℕ → Option (List ℕ) → Type 0)
       (m : May first old len was events saved parts) → IsSaved saved
       → LeavesOnly moment left_since old.folder new.folder (IsOldOrNew
       (files_of_both shows kept h.saved.places saved.places h.parts parts old.folder h.blocks m.blocks)
-      (contents_with (head_texts h.saved) h.late) (contents_with (head_texts saved) []))
+      (head_texts h.saved ++ h.journal.contents) (contents_with (head_texts saved) []))
       → StartFinds moment left_since old.folder new.folder first events
   roll_finds first old new len was saved parts events h m head leaves =
       weaker moment left_since old.folder new.folder _ (StandsFor first events)
@@ -269,14 +278,16 @@ module _ {F : Type 0} (shows : F → List ℕ → Option (List ℕ) → Type 0)
   pub same_head : (first : Origin) (old new : JournalFile F) (len new_len : ℕ)
       (was closed : Bool) (events : List Event) (places : List Place) (parts : List BlockPart)
       (at : HoldsAt shows kept sound moment left_since first old len was events places parts)
-      → KeepsHere (contents_with (head_texts at.0.saved) at.0.late) new new_len
+      → was ≡ false → new.names ≡ old.names
+      → KeepsHere (head_texts at.0.saved ++ at.0.journal.contents) new new_len
       → ((files : List Named) → AllByRecursion IsApart files → AreThere shows kept files old.folder
       → AreThere shows kept files new.folder)
       → HoldsAt shows kept sound moment left_since first new new_len closed events places parts
-  same_head first old new len new_len was closed events places parts at k stay =
+  same_head first old new len new_len was closed events places parts at opened same k stay =
       let h : HoldsAll first old len was events = at.0 in (
-        after_head first new new_len closed h.saved h.parts events h.early h.late h.all h.head
-            h.journal.each h.begins k
+        after_head first new new_len closed h.saved h.parts events h.early h.late
+            h.journal.contents h.journal.after h.all h.head h.journal.spell
+            (same ∙ h.journal.named opened) h.begins k
             (blocks_rolled shows kept h.saved.places h.parts old.folder new.folder stay h.blocks),
         at.1,
         at.2,
@@ -285,16 +296,18 @@ module _ {F : Type 0} (shows : F → List ℕ → Option (List ℕ) → Type 0)
   -- after an error the old journal goes on, or it is closed
   pub not_rolled : (first : Origin) (old new : JournalFile F) (len new_len : ℕ)
       (was closed : Bool) (events : List Event) (h : HoldsAll first old len was events)
-      → (closed ≡ false → KeepsHere (contents_with (head_texts h.saved) h.late) new new_len)
+      → was ≡ false → new.names ≡ old.names
+      → (closed ≡ false → KeepsHere (head_texts h.saved ++ h.journal.contents) new new_len)
       → ((files : List Named) → AllByRecursion IsApart files → AreThere shows kept files old.folder
       → AreThere shows kept files new.folder)
       → StartFinds moment left_since old.folder new.folder first events
       → HoldsStore shows kept sound moment left_since first new new_len closed events
-  not_rolled first old new len new_len was false events h k stay finds =
-      inl (after_head first new new_len false h.saved h.parts events h.early h.late h.all h.head
-      h.journal.each h.begins (k refl)
+  not_rolled first old new len new_len was false events h opened same k stay finds =
+      inl (after_head first new new_len false h.saved h.parts events h.early h.late
+      h.journal.contents h.journal.after h.all h.head h.journal.spell
+      (same ∙ h.journal.named opened) h.begins (k refl)
       (blocks_rolled shows kept h.saved.places h.parts old.folder new.folder stay h.blocks))
-  not_rolled first old new len new_len was true events h k stay finds =
+  not_rolled first old new len new_len was true events h opened same k stay finds =
       inr (record {
         is_closed = refl;
         leaves = λ left had. (

@@ -144,11 +144,11 @@ module _ {F : Type 0} (shows : F → List ℕ → Option (List ℕ) → Type 0)
   pub still_held : (first : Origin) (old new : JournalFile F) (len : ℕ) (closed : Bool)
       (events : List Event) (s : SnapshotParts) (held : List Place) (parts : List BlockPart)
       (same : ℕ) → May first old len closed events s held parts same → closed ≡ false
-      → Stays (names_at held) old.folder new.folder
+      → new.names ≡ old.names → Stays (names_at held) old.folder new.folder
       → At first new len closed events held parts
-  still_held first old new len closed events s held parts same may opened stays =
+  still_held first old new len closed events s held parts same may opened named stays =
       holds_swept shows kept sound moment left_since only_now earlier first old new len closed
-      events held parts (names_at held) may.holds opened refl stays
+      events held parts (names_at held) may.holds opened named refl stays
 
   pub writing_finds : (first : Origin) (old new : JournalFile F) (len : ℕ) (closed : Bool)
       (events : List Event) (s : SnapshotParts) (held : List Place) (parts : List BlockPart)
@@ -164,14 +164,16 @@ module _ {F : Type 0} (shows : F → List ℕ → Option (List ℕ) → Type 0)
       (events : List Event) (s : SnapshotParts) (held : List Place) (parts : List BlockPart)
       (same : ℕ) (places : List Place) (news : List BlockPart) (values : Values) (saved : Saved)
       → May first old len closed events s held parts same → closed ≡ false
+      → new.names ≡ old.names
       → Stays (names_at held) old.folder new.folder → AreRewritten (drop same s.blocks) news
       → AreAt shows kept places news new.folder → values ≡ first.values
       → saved ≡ save values s (take same held ++ places)
       → MayRoll shows kept sound moment left_since first new len closed events saved
       (take same parts ++ news)
-  may_roll first old new len closed events s held parts same places news values saved may opened stays
-      anew at means is =
-      let holds = still_held first old new len closed events s held parts same may opened stays in
+  may_roll first old new len closed events s held parts same places news values saved may opened
+      named stays anew at means is =
+      let holds = still_held first old new len closed events s held parts same may opened named
+      stays in
       subst (λ (x : Saved). MayRoll shows kept sound moment left_since first new len closed events x
       (take same parts ++ news)) (sym is)
       (record {

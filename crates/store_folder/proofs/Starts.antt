@@ -131,7 +131,7 @@ module _ {F : Type 0} (shows : F → List ℕ → Option (List ℕ) → Type 0)
       (λ (j : JournalFile F) (n : ℕ). kept j.folder journal_name n)
       (λ (j : JournalFile F). sound j.folder) (λ (j : JournalFile F). moment j.folder)
       (λ (j : JournalFile F) (t : ℕ) (bytes : List ℕ). JournalLeft left_since j.folder t bytes)
-      front m len closed events
+      front m len closed m.names events
 
   -- what a crash leaves of what the folder has
   found_now : (first : Origin) (f : F) (j : FoundJournal) (parts : List BlockPart) (left : Left)
@@ -142,13 +142,18 @@ module _ {F : Type 0} (shows : F → List ℕ → Option (List ℕ) → Type 0)
       (after_none first j.head parts begins)
       (blocks_left shows kept j.head.places parts f left h.blocks
       (λ n x k away shown durable. only_now f n x k left shown durable had))
-      h.journal.is.stands.each (
-        h.file,
-        whole_left h.file (left journal_name)
-            (only_now f journal_name (Some h.file) (length h.file) left h.has.shown h.has.durable
-            had),
-        h.journal.is.stands.recovers,
-      )
+      (record {
+        contents = h.journal.is.stands.contents;
+        names = h.journal.is.stands.names;
+        spell = h.journal.is.stands.spell;
+        journal = (
+          h.file,
+          whole_left h.file (left journal_name)
+              (only_now f journal_name (Some h.file) (length h.file) left h.has.shown h.has.durable
+              had),
+          h.journal.is.stands.recovers,
+        );
+      })
 
   pub stays_found : (first : Origin) (f : F) (j : FoundJournal) (parts : List BlockPart)
       → IsFoundStore shows kept j parts f → first ≡ origin_of j.head parts
@@ -159,13 +164,14 @@ module _ {F : Type 0} (shows : F → List ℕ → Option (List ℕ) → Type 0)
 
   -- the journal has the events that were found
   pub events_found : (m : JournalFile F) (j : FoundJournal) (parts : List BlockPart)
-      → IsFoundStore shows kept j parts m.folder → sound m.folder ≡ true
+      → IsFoundStore shows kept j parts m.folder → sound m.folder ≡ true → m.names ≡ j.names
       → HasEvents (λ (x : JournalFile F) (bytes : List ℕ). shows x.folder journal_name (Some bytes))
       (λ (x : JournalFile F) (n : ℕ). kept x.folder journal_name n)
-      (λ (x : JournalFile F). sound x.folder) (head_texts j.head) m j.len j.events.items
-  events_found m j parts h is_sound = record {
+      (λ (x : JournalFile F). sound x.folder) (head_texts j.head) m j.len m.names j.events.items
+  events_found m j parts h is_sound same = record {
     file = h.file;
     stands = h.journal.is.stands;
+    named = same ∙ h.journal.named;
     has = record { all = h.has.shown; durable = h.has.durable; is_sound = is_sound };
     counted = h.journal.counted;
   }
@@ -232,7 +238,11 @@ is_nothing : (values : Values) (left : Left) → IsSaved (nothing_with values)
     → IsNoneOrNothing values left
 is_nothing values left saved h =
     ⊎_elim (λ none. inl none)
-    (λ new. inr (record { head = saved; each = tt; journal = new; blocks = tt })) h
+    (λ new. inr (record {
+      head = saved;
+      kept = record { contents = []; names = []; spell = refl; journal = new };
+      blocks = tt;
+    })) h
 
 module _ {F : Type 0} (moment : F → ℕ) (left_since : F → ℕ → Left → Type 0) where
   pub leaves_nothing : (values : Values) (old new : F) → IsSaved (nothing_with values)
@@ -264,10 +274,10 @@ module _ {F : Type 0} (shows : F → List ℕ → Option (List ℕ) → Type 0)
     (earlier : (f : F) (t u : ℕ) (left : Left) → t ≤ u → u ≤ moment f → left_since f u left
     → left_since f t left) where
   abbrev pub holds_nothing : (first : Origin) (values : Values) (m : JournalFile F) (len : ℕ)
-      (closed : Bool) → first ≡ beginning values → IsSaved (nothing_with values)
+      (closed : Bool) → first ≡ beginning values → IsSaved (nothing_with values) → m.names ≡ []
       → rolls.Keeps shows kept sound (contents_with (head_texts (nothing_with values)) []) m.folder
       len → HoldsAfterHead shows kept sound moment left_since first m len closed []
-  holds_nothing first values m len closed begins saved k = record {
+  holds_nothing first values m len closed begins saved named k = record {
     saved = nothing_with values;
     parts = [];
     early = [];
@@ -283,7 +293,8 @@ module _ {F : Type 0} (shows : F → List ℕ → Option (List ℕ) → Type 0)
         (λ j bytes n left shown durable had. left_now n bytes left (had.0 journal_name) had.2
         (only_now j.folder journal_name (Some bytes) n had.0 shown durable had.1))
         (λ j t u left le fits had. (had.0, earlier j.folder t u had.0 le fits had.1, had.2))
-        (head_texts (nothing_with values)) m len closed [] (in_front (nothing_with values)) tt (record {
+        (head_texts (nothing_with values)) [] m len closed m.names [] []
+        (in_front (nothing_with values)) refl named (record {
           each = k.each;
           has = record { all = k.file.shown; durable = k.file.durable; is_sound = k.is_sound };
           counted = k.counted;

@@ -12,7 +12,6 @@ use Rattle.data_folder.specs.Folders.{HasFile, Left, MayLeaveOf}
 use Rattle.data_folder.specs.States.{AreThere, HasStore, Named}
 use Rattle.data_folder.specs.Sweeping.{AreAmong, KeepsStore, is_among, names_in}
 use Rattle.data_folder.proofs.Moments.{weaker}
-use Rattle.event_journal.specs.Holding.{contents_with}
 use Rattle.head.specs.Heads.{BlockPart}
 use Rattle.head.specs.Worlds.{Event}
 use Rattle.head_record.specs.Saved.{Place}
@@ -191,16 +190,18 @@ module _ {F : Type 0} (shows : F → List ℕ → Option (List ℕ) → Type 0)
       (events : List Event) (places : List Place) (parts : List BlockPart)
       (names : List (List ℕ))
       → HoldsAt shows kept sound moment left_since first old len closed events places parts
-      → closed ≡ false → names ≡ names_at places → Sweeps names old.folder new.folder
+      → closed ≡ false → new.names ≡ old.names → names ≡ names_at places
+      → Sweeps names old.folder new.folder
       → HoldsAt shows kept sound moment left_since first new len closed events places parts
-  holds_swept first old new len closed events places parts names at opened is k =
+  holds_swept first old new len closed events places parts names at opened same is k =
       let h : HoldsAll first old len closed events = at.0 in
       let swept : Sweeps (names_at h.saved.places) old.folder new.folder =
       subst (λ (x : List (List ℕ)). Sweeps x old.folder new.folder)
       (is ∙ ap names_at (sym at.1)) k in (
         after_head shows kept sound moment left_since only_now earlier first new len closed h.saved
-            h.parts events h.early h.late h.all h.head h.journal.each h.begins
-            (swept.journal (contents_with (head_texts h.saved) h.late) len
+            h.parts events h.early h.late h.journal.contents h.journal.after h.all h.head
+            h.journal.spell (same ∙ h.journal.named opened) h.begins
+            (swept.journal (head_texts h.saved ++ h.journal.contents) len
             (keeps_now shows kept sound moment left_since only_now earlier first old len closed
             events h opened))
             (at_again shows kept h.saved.places h.parts old.folder new.folder h.blocks
@@ -214,11 +215,16 @@ module _ {F : Type 0} (shows : F → List ℕ → Option (List ℕ) → Type 0)
   left_so : (first : Origin) (old : JournalFile F) (len : ℕ) (closed : Bool)
       (events : List Event) (h : HoldsAll first old len closed events) (left : Left)
       → HasStore (files_at shows kept h.saved.places h.parts old.folder h.blocks)
-      (contents_with (head_texts h.saved) h.late) left → StandsFor first events left
+      (head_texts h.saved ++ h.journal.contents) left → StandsFor first events left
   left_so first old len closed events h left has =
       stands_for first events h.early h.late h.saved h.parts left h.all h.head h.begins
-      (lie_at shows kept h.saved.places h.parts old.folder left h.blocks has.files) h.journal.each
-      has.journal
+      (lie_at shows kept h.saved.places h.parts old.folder left h.blocks has.files)
+      (record {
+        contents = h.journal.contents;
+        names = h.journal.after;
+        spell = h.journal.spell;
+        journal = has.journal;
+      })
 
   pub swept_finds : (first : Origin) (old new : JournalFile F) (len : ℕ) (closed : Bool)
       (events : List Event) (places : List Place) (parts : List BlockPart)
@@ -233,7 +239,7 @@ module _ {F : Type 0} (shows : F → List ℕ → Option (List ℕ) → Type 0)
       (is ∙ ap names_at (sym at.1)) k in
       weaker moment left_since old.folder new.folder _ (StandsFor first events)
       (λ left has. left_so first old len closed events h left has)
-      (swept.any_moment (contents_with (head_texts h.saved) h.late)
+      (swept.any_moment (head_texts h.saved ++ h.journal.contents)
       (files_at shows kept h.saved.places h.parts old.folder h.blocks) len
       (keeps_now shows kept sound moment left_since only_now earlier first old len closed events h
       opened)

@@ -7,7 +7,9 @@ use Rattle.data_folder.specs.declared.rolling.RollError.{RollError}
 use Rattle.data_folder.specs.declared.rolling.RollError.TheVariants as rolls
 use Rattle.event_journal.specs.Codes.{journal_place}
 use Rattle.event_text.specs.Codes as text
-use Rattle.event_text.specs.declared.error.EventError.{EventError}
+use Rattle.event_journal.specs.Codes as contents
+use Rattle.event_journal.specs.declared.error.ContentError.{ContentError}
+use Rattle.event_journal.specs.declared.error.ContentError.TheVariants as errors_of
 use Rattle.event_text.specs.declared.error.EventError.TheVariants.{Text, Matcher}
 use Rattle.event_text.specs.declared.error.TextError.{TextError}
 use Rattle.event_text.specs.declared.error.TextError.TheVariants as texts
@@ -34,7 +36,7 @@ use Rattle.store_folder.specs.declared.error.StartError.TheVariants as errors
 abbrev pub read_code : ReadError → List ℕ
 read_code (Journal e) = journals.code_of e
 read_code (Head refused) = text.code_of refused.error
-read_code (Event refused) = text.event_code refused.error
+read_code (Event refused) = contents.content_code refused.error
 
 -- that of a block's files
 abbrev pub refused_code : BlockError → List ℕ
@@ -85,9 +87,11 @@ head_cause texts.Runs = causes.Refused
 head_cause texts.Bounds = causes.Refused
 head_cause texts.Rest = causes.Refused
 
-abbrev pub event_cause : EventError → StartCause
-event_cause (Text e) = head_cause e
-event_cause (Matcher e) = causes.Refused
+abbrev pub event_cause : ContentError → StartCause
+event_cause (errors_of.Event (Text e)) = head_cause e
+event_cause (errors_of.Event (Matcher e)) = causes.Refused
+event_cause errors_of.Number = causes.Refused
+event_cause errors_of.Named = causes.Refused
 
 abbrev pub journal_cause : JournalError → StartCause
 journal_cause journal.Memory = causes.Memory
@@ -149,7 +153,8 @@ read_text (Head refused) =
     text.text_of refused.error
     ++ codes " (in the head, after " ++ decimal refused.at ++ codes " contents)"
 read_text (Event refused) =
-    text.event_text refused.error ++ codes " (after " ++ decimal refused.at ++ codes " events)"
+    contents.content_text refused.error
+    ++ codes " (after " ++ decimal refused.at ++ codes " events)"
 
 abbrev pub files_text : ℕ → BlockError → List ℕ
 files_text number e =

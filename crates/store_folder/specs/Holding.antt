@@ -42,7 +42,7 @@ pub record HoldsAfterHead {F : Type 0} (shows : F → List ℕ → Option (List 
       (λ (j : JournalFile F) (n : ℕ). kept j.folder journal_name n)
       (λ (j : JournalFile F). sound j.folder) (λ (j : JournalFile F). moment j.folder)
       (λ (j : JournalFile F) (t : ℕ) (bytes : List ℕ). JournalLeft left_since j.folder t bytes)
-      (head_texts saved) m len closed late
+      (head_texts saved) m len closed m.names late
   pub blocks : AreAt shows kept saved.places parts m.folder
 
 -- the same, and then events that were kept last
@@ -62,7 +62,7 @@ pub record KeptLast {F : Type 0} (shows : F → List ℕ → Option (List ℕ) �
       (λ (j : JournalFile F) (n : ℕ). kept j.folder journal_name n)
       (λ (j : JournalFile F). sound j.folder) (λ (j : JournalFile F). moment j.folder)
       (λ (j : JournalFile F) (t : ℕ) (bytes : List ℕ). JournalLeft left_since j.folder t bytes)
-      (head_texts saved) m len closed (late ++ more)
+      (head_texts saved) m len closed m.names (late ++ more)
   pub blocks : AreAt shows kept saved.places parts m.folder
 
 -- files of bytes that a crash at some moment from that one on might have left

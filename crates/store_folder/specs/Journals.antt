@@ -1,10 +1,10 @@
 -- What the file of a store's journal stands for, and what reading one answers.
 use Rattle.std.specs.Prelude.{◌≡◌, ◌++◌, ◌-◌, ⊤, ℕ, List, Result, Ok, Err, Vec, length}
 use Rattle.std.specs.declared.alloc.Global.{Global}
-use Rattle.std.specs.List.{AllByRecursion}
 use Rattle.head.specs.Worlds.{Event}
 use Rattle.event_text.specs.declared.error.TextError.TheVariants.{Memory as NoText}
-use Rattle.event_journal.specs.Holding.{Stands, contents_with}
+use Rattle.event_journal.specs.Holding.{Stands}
+use Rattle.event_journal.specs.Naming.{Spell}
 use Rattle.event_journal.specs.Outcome.{MayRefuse, RefusesAt}
 use Rattle.event_journal.specs.Starting.{DeniesFile}
 use Rattle.head_record.specs.Outcome.{is_memory}
@@ -14,7 +14,7 @@ use Rattle.head_record.specs.Spelling.{head_texts, IsSaved}
 use Rattle.journal.specs.declared.error.JournalError.{JournalError}
 use Rattle.journal.specs.declared.error.JournalError.TheVariants.{Memory as NoRecord}
 use Rattle.journal.specs.Records.{file_of, Recovers}
-use Rattle.keeper.specs.Together.{IsKept}
+use Rattle.name_table.specs.Names.{Label}
 use Rattle.store_folder.specs.declared.error.ReadError.{ReadError}
 use Rattle.store_folder.specs.declared.error.ReadError.TheVariants as errors
 use Rattle.store_folder.specs.declared.journals.FoundJournal.{FoundJournal}
@@ -26,12 +26,14 @@ pub record IsJournalOf (file : List ℕ) (saved : Saved) (events : List Event) :
   pub head : IsSaved saved
   pub stands : Stands (head_texts saved) file events
 
--- the contents are those of a head and of the events after it
+-- the contents are those of a head, and such as spell the events after it; these series are named
+-- then
 pub record AreContents (contents : List (List ℕ)) (saved : Saved) (events : List Event)
-    : Type 0 where
+    (names : List Label) : Type 0 where
   pub head : IsSaved saved
-  pub each : AllByRecursion IsKept events
-  pub whole : contents ≡ contents_with (head_texts saved) events
+  pub after : List (List ℕ)
+  pub spell : Spell after events names
+  pub whole : contents ≡ head_texts saved ++ after
 
 -- a refusal that can come of a journal of these events: memory's, or that of a deletion's matcher
 abbrev pub MayRefuseJournal : List Event → ReadError → Type 0
@@ -52,7 +54,8 @@ GivesJournal saved events (Err e) = MayRefuseJournal events e
 -- what was found in the file is what it stands for, so many bytes long; what is behind it is torn
 pub record IsFoundJournal (file : List ℕ) (j : FoundJournal) : Type 0 where
   pub is : IsJournalOf file j.head j.events.items
-  pub counted : j.len ≡ length (file_of (contents_with (head_texts j.head) j.events.items))
+  pub counted : j.len ≡ length (file_of (head_texts j.head ++ is.stands.contents))
+  pub named : j.names ≡ is.stands.names
   pub torn : j.torn ≡ length file - j.len
 
 -- the file is refused as records so; that memory ran out says nothing of it

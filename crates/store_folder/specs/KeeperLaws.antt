@@ -2,13 +2,11 @@
 use Rattle.std.specs.Prelude.{◌≡◌, ℕ, Bool, true, false, List, [], ◌++◌, Option, None, Some}
 use Rattle.std.specs.Prelude.{length}
 use Rattle.std.proofs.Common.{inl, inr, refl, sym, ap, subst, ◌∙◌, append_assoc}
-use Rattle.std.specs.List.{AllByRecursion}
 use Rattle.data_folder.specs.declared.journal_file.JournalFile.{JournalFile}
 use Rattle.data_folder.specs.Folders.{Left, MayLeaveOf}
 use Rattle.data_folder.specs.JournalFile.{bytes_in, journal_name}
 use Rattle.data_folder.specs.JournalLaws.{left_now}
-use Rattle.data_folder.specs.States.{HasJournal}
-use Rattle.event_journal.specs.Holding.{Stands, contents_with}
+use Rattle.event_journal.specs.Holding.{Stands}
 use Rattle.head.specs.Heads.{BlockPart, world_of}
 use Rattle.head.specs.Worlds.{Event, World}
 use Rattle.head_record.specs.Saved.{Place, Saved}
@@ -16,12 +14,11 @@ use Rattle.head_record.specs.Spelling.{head_texts, IsSaved}
 use Rattle.journal.specs.Records.{file_of, Recovers}
 use Rattle.journal.proofs.Keeping.{at_rest}
 use Rattle.keeper.specs.Finding.{AreAll, AreAllAndMore, IsOfAll, StandsForSome}
-use Rattle.keeper.specs.Together.{IsKept}
 use Rattle.store_folder.specs.Holding.{BytesSince, BytesStandFor, HoldsAfterHead, HoldsOrLost}
 use Rattle.store_folder.specs.Holding.{HoldsStore, StandsForMore}
 use Rattle.store_folder.specs.Origins.{Origin}
 use Rattle.store_folder.specs.StoreLaws.{blocks_left, found_here, later}
-use Rattle.store_folder.specs.States.{IsAfter, LieAt, StandsFor, StartsWith, started}
+use Rattle.store_folder.specs.States.{HasKept, IsAfter, LieAt, StandsFor, StartsWith, started}
 
 -- a file of no bytes has no records
 no_file : {X : Type 0} (contents : List (List ℕ)) → Recovers [] contents → X
@@ -36,27 +33,31 @@ is_there (Some bytes) contents r = refl
 
 pub has_journal : (left : Left) (front : List (List ℕ)) (events : List Event)
     → Stands front (bytes_in (left journal_name)) events
-    → HasJournal (contents_with front events) left
-has_journal left front events s = (
-  bytes_in (left journal_name),
-  is_there (left journal_name) (contents_with front events) s.recovers,
-  s.recovers,
-)
+    → HasKept front events left
+has_journal left front events s = record {
+  contents = s.contents;
+  names = s.names;
+  spell = s.spell;
+  journal = (
+    bytes_in (left journal_name),
+    is_there (left journal_name) (front ++ s.contents) s.recovers,
+    s.recovers,
+  );
+}
 
 -- what is left is a store of the early events, and of those after the head
 pub stands_for : (first : Origin) (events early late : List Event) (saved : Saved)
     (parts : List BlockPart) (left : Left) → events ≡ early ++ late → IsSaved saved
     → IsAfter first early saved parts → LieAt saved.places parts left
-    → AllByRecursion IsKept late → HasJournal (contents_with (head_texts saved) late) left
-    → StandsFor first events left
-stands_for first events early late saved parts left all head begins lie each journal = record {
+    → HasKept (head_texts saved) late left → StandsFor first events left
+stands_for first events early late saved parts left all head begins lie kept = record {
   saved = saved;
   parts = parts;
   early = early;
   late = late;
   all = all;
   begins = begins;
-  state = record { head = head; each = each; journal = journal; blocks = lie };
+  state = record { head = head; kept = kept; blocks = lie };
 }
 
 -- the early events, those after the head, and more
@@ -105,7 +106,7 @@ module _ {F : Type 0} (shows : F → List ℕ → Option (List ℕ) → Type 0)
             (regrouped events h.early h.late s.0 h.all) h.head h.begins
             (blocks_left shows kept h.saved.places h.parts m.folder left h.blocks
             (λ n x k away shown durable. only_now m.folder n x k left shown durable had))
-            s.1.each (has_journal left (head_texts h.saved) (h.late ++ s.0) s.1),
+            (has_journal left (head_texts h.saved) (h.late ++ s.0) s.1),
       )
 
   -- exactly that while it is open
@@ -115,7 +116,7 @@ module _ {F : Type 0} (shows : F → List ℕ → Option (List ℕ) → Type 0)
       → closed ≡ false → left_since m.folder (moment m.folder) left → StandsFor first events left
   settled_after_head first m len closed events left h opened had =
       let bytes = bytes_in (left journal_name) in
-      let contents = contents_with (head_texts h.saved) h.late in
+      let contents = head_texts h.saved ++ h.journal.contents in
       let k = h.journal.keeps opened in
       let front = left_now (length (file_of contents)) (file_of contents) bytes
       (left journal_name) refl
@@ -124,10 +125,11 @@ module _ {F : Type 0} (shows : F → List ℕ → Option (List ℕ) → Type 0)
       stands_for first events h.early h.late h.saved h.parts left h.all h.head h.begins
       (blocks_left shows kept h.saved.places h.parts m.folder left h.blocks
       (λ n x k away shown durable. only_now m.folder n x k left shown durable had))
-      h.journal.each
       (has_journal left (head_texts h.saved) h.late (record {
         before = h.journal.before;
-        each = h.journal.each;
+        contents = h.journal.contents;
+        names = h.journal.after;
+        spell = h.journal.spell;
         recovers = at_rest contents bytes k.each front;
       }))
 

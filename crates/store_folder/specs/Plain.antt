@@ -3,8 +3,7 @@ use Rattle.std.specs.Prelude.{◌≡◌, ◌⊎◌, ℕ, Bool, true, false, ◌&
 use Rattle.std.specs.Prelude.{Some, slice_get}
 use Rattle.data_folder.specs.Folders.{HasFile, Left}
 use Rattle.data_folder.specs.JournalFile.{journal_name}
-use Rattle.data_folder.specs.States.{HasJournal}
-use Rattle.event_journal.specs.Holding.{Stands, contents_with}
+use Rattle.event_journal.specs.Holding.{Stands}
 use Rattle.event_journal.specs.Outcome.{RefusesAt}
 use Rattle.event_text.specs.declared.error.TextError.TheVariants.{Kind}
 use Rattle.head.specs.Blocks.{opening_of}
@@ -21,6 +20,7 @@ use Rattle.store_folder.specs.declared.error.StartError.TheVariants as errors
 use Rattle.store_folder.specs.Faults.{DeniesStore}
 use Rattle.store_folder.specs.Journals.{DeniesRecords}
 use Rattle.store_folder.specs.Starting.{nothing_saved}
+use Rattle.store_folder.specs.States.{HasKept}
 
 -- whether a content of this kind is an event
 abbrev pub is_event_kind : Option ℕ → Bool
@@ -74,7 +74,7 @@ abbrev pub HasEither : List ℕ → Left → Type 0
 HasEither file left =
     (left journal_name ≡ Some file)
     ⊎ ((events : List Event) × (begins_plain file ≡ true) × Stands [] file events
-    × HasJournal (contents_with (head_texts nothing_saved) events) left)
+    × HasKept (head_texts nothing_saved) events left)
 
 -- A folder is not opened as a store so: it is not read as one, or its journal may be one of events
 -- alone, and is refused, or one of the events is not accepted by a store that has nothing.

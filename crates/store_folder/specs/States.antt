@@ -1,17 +1,16 @@
 -- When what lies in a folder is a store.
 use Rattle.std.specs.Prelude.{◌≡◌, ℕ, List, [], ◌∷◌, ◌++◌, Ok, Some}
-use Rattle.std.specs.List.{AllByRecursion}
 use Rattle.wire.specs.Spelling.{IsBytes}
 use Rattle.block_folder.specs.declared.values.Values.{Values}
 use Rattle.data_folder.specs.Folders.{Left}
 use Rattle.data_folder.specs.States.{HasFiles, HasJournal}
-use Rattle.event_journal.specs.Holding.{contents_with}
+use Rattle.event_journal.specs.Naming.{Spell}
 use Rattle.head.specs.Heads.{BlockPart, SnapshotParts, world_of}
 use Rattle.head.specs.Worlds.{Event, World, replayed}
 use Rattle.head_record.specs.Saved.{Place, Saved}
 use Rattle.head_record.specs.Spelling.{head_texts, IsSaved}
 use Rattle.keeper.specs.Finding.{FindsWorld}
-use Rattle.keeper.specs.Together.{IsKept}
+use Rattle.name_table.specs.Names.{Label}
 use Rattle.store_folder.specs.Blocks.{BlockFiles, SpellBlock, named_files}
 use Rattle.store_folder.specs.Origins.{Origin}
 
@@ -33,13 +32,19 @@ started saved blocks = record {
   copied = 0;
 }
 
+-- a journal of these contents, and then of such as spell these events
+pub record HasKept (front : List (List ℕ)) (events : List Event) (left : Left) : Type 0 where
+  pub contents : List (List ℕ)
+  pub names : List Label
+  pub spell : Spell contents events names
+  pub journal : HasJournal (front ++ contents) left
+
 -- what is left of a folder is a store: a journal of a head and events, and the files of each block
 -- that the head names
 pub record IsState (saved : Saved) (parts : List BlockPart) (events : List Event) (left : Left)
     : Type 0 where
   pub head : IsSaved saved
-  pub each : AllByRecursion IsKept events
-  pub journal : HasJournal (contents_with (head_texts saved) events) left
+  pub kept : HasKept (head_texts saved) events left
   pub blocks : LieAt saved.places parts left
 
 -- and this is its world

@@ -163,13 +163,15 @@ found_store first w saved parts early late bytes left head begins lie has stands
     let events = found.1.2 in
     let state = found.1.3 in
     let world : HasWorld other others events w = found.1.4 in
-    let file = state.journal.0 in
-    let same : file ≡ bytes = same_bytes file bytes (sym state.journal.1 ∙ has) in
+    let file = state.kept.journal.0 in
+    let same : file ≡ bytes = same_bytes file bytes (sym state.kept.journal.1 ∙ has) in
     let again : Stands (head_texts other) bytes events =
     subst (λ (x : List ℕ). Stands (head_texts other) x events) same (record {
       before = in_front other;
-      each = state.each;
-      recovers = state.journal.2;
+      contents = state.kept.contents;
+      names = state.kept.names;
+      spell = state.kept.spell;
+      recovers = state.kept.journal.2;
     }) in
     let one = one_list bytes (head_texts saved) (head_texts other) late events
     (fits journal_name bytes has) stands again in
@@ -206,11 +208,13 @@ pub found_here : (first w : World) (saved : Saved) (parts : List BlockPart)
     → replayed first early ≡ Ok (world_of (started saved parts)) → IsState saved parts late left
     → StartsWith left w → replayed first (early ++ late) ≡ Ok w
 found_here first w saved parts early late left begins state found =
-    found_store first w saved parts early late state.journal.0 left state.head begins state.blocks
-    state.journal.1 (record {
+    found_store first w saved parts early late state.kept.journal.0 left state.head begins
+    state.blocks state.kept.journal.1 (record {
       before = in_front saved;
-      each = state.each;
-      recovers = state.journal.2;
+      contents = state.kept.contents;
+      names = state.kept.names;
+      spell = state.kept.spell;
+      recovers = state.kept.journal.2;
     }) found
 
 -- so it finds one world
@@ -225,22 +229,26 @@ one_world left v w one two =
 one_saved : (a b : Saved) (parts others : List BlockPart) (early late : List Event) (left : Left)
     → AreBytes left → IsState a parts early left → IsState b others late left → b ≡ a
 one_saved a b parts others early late left fits one two =
-    let bytes = one.journal.0 in
-    let file = two.journal.0 in
-    let same : file ≡ bytes = same_bytes file bytes (sym two.journal.1 ∙ one.journal.1) in
+    let bytes = one.kept.journal.0 in
+    let file = two.kept.journal.0 in
+    let same : file ≡ bytes = same_bytes file bytes (sym two.kept.journal.1 ∙ one.kept.journal.1) in
     let again : Stands (head_texts b) bytes late =
     subst (λ (x : List ℕ). Stands (head_texts b) x late) same (record {
       before = in_front b;
-      each = two.each;
-      recovers = two.journal.2;
+      contents = two.kept.contents;
+      names = two.kept.names;
+      spell = two.kept.spell;
+      recovers = two.kept.journal.2;
     }) in
     let here : Stands (head_texts a) bytes early = record {
       before = in_front a;
-      each = one.each;
-      recovers = one.journal.2;
+      contents = one.kept.contents;
+      names = one.kept.names;
+      spell = one.kept.spell;
+      recovers = one.kept.journal.2;
     } in
     let front = one_list bytes (head_texts a) (head_texts b) early late
-    (fits journal_name bytes one.journal.1) here again in
+    (fits journal_name bytes one.kept.journal.1) here again in
     sym (one_head a b one.head two.head front.0)
 
 -- so the values mean what they meant from the first

@@ -8,7 +8,7 @@ ghost use Rattle.store_folder.specs.Codes.{refused_code, step_cause};
 use crate::error::{BlockFault, ReadError, RollFault, StartCause, StartError, UnreadBlock};
 use block::BlockError;
 use data_folder::RollError;
-use event_journal::Refused;
+use event_journal::{ContentError, Refused};
 use event_text::{EventError, TextError};
 use head::{CommitError, RefusedEvent, ResumeError};
 use head_record::RefusedHead;
@@ -83,12 +83,13 @@ fn head_cause(error: TextError) -> StartCause
 }
 
 /// What the refusal of an event's content is.
-fn event_cause(error: EventError) -> StartCause
+fn event_cause(error: ContentError) -> StartCause
     ensures { result ≡ event_cause error }
 {
     match error {
-        EventError::Text(error) => head_cause(error),
-        EventError::Matcher(_) => StartCause::Refused,
+        ContentError::Event(EventError::Text(error)) => head_cause(error),
+        ContentError::Event(EventError::Matcher(_)) | ContentError::Number | ContentError::Named =>
+            StartCause::Refused,
     }
 }
 

@@ -15,7 +15,8 @@ pub enum ReadError {
     Journal(JournalError),
     /// `J8` to `J10`, `J13`: it does not begin with a head.
     Head(RefusedHead),
-    /// `J8` to `J14`: a content after the head is no event; its number counts from the head's end.
+    /// `J8` to `J14`, `J19`, `J20`: a content after the head is no event; its number counts from
+    /// the head's end.
     Event(Refused),
 }
 
@@ -48,7 +49,8 @@ pub struct UnreadBlock {
 pub enum StartError {
     /// The folder could not be read or written.
     Medium,
-    /// `J1` to `J4`, `J8` to `J14`: the journal is refused; or no memory was left for it.
+    /// `J1` to `J4`, `J8` to `J14`, `J19`, `J20`: the journal is refused; or no memory was left for
+    /// it.
     Journal(ReadError),
     /// `J15`, `J16`: a block is not opened.
     Block(UnreadBlock),

@@ -5,6 +5,7 @@ use crate::store_journal::{Beginning, StoreJournal};
 use crate::terms::RollTerms;
 use block::Block;
 use data_folder::Folder;
+use event_journal::numbered_records;
 use head::Snapshot;
 use head_record::BlockPlace;
 use keeper::{KeepError, Keeper, keep_error};
@@ -127,9 +128,18 @@ impl<N: Beginning, F: Folder + Drop> Keeper for StoreKeeper<N, F> {
         if self.store.events.journal.closed {
             return Err(KeepError::Closed);
         }
-        match self.store.events.append(records) {
-            Ok(()) => Ok(()),
-            Err(error) => Err(keep_error(error)),
+        let names = &mut self.store.events.journal.medium.names;
+        let count = names.len();
+        let alloc = names.alloc();
+        match numbered_records(alloc, names, records) {
+            Err(_) => Err(KeepError::Memory),
+            Ok(numbered) => match self.store.events.append(&numbered) {
+                Ok(()) => Ok(()),
+                Err(error) => {
+                    self.store.events.journal.medium.names.forget(count);
+                    Err(keep_error(error))
+                }
+            },
         }
     }
 

@@ -3,7 +3,8 @@
 ghost use Rattle.std.specs.Prelude.{◌≡◌, ◌⊎◌, ◌-◌, ◌++◌, [], length, map, true, IfOk, IfErr, OnOk};
 ghost use Rattle.data_folder.specs.Folders.{HasFile, KeepsOthers, LeavesOnly};
 ghost use Rattle.data_folder.specs.JournalFile.{journal_name, next_name};
-ghost use Rattle.event_journal.specs.Holding.{Spell, Stands, contents_with};
+ghost use Rattle.event_journal.specs.Holding.{Stands};
+ghost use Rattle.event_journal.specs.Naming.{Spell};
 ghost use Rattle.event_text.specs.declared.error.TextError.TheVariants.{Kind};
 ghost use Rattle.head.specs.Blocks.{part_in};
 ghost use Rattle.head_record.specs.Spelling.{head_texts, IsSaved};
@@ -11,7 +12,6 @@ ghost use Rattle.journal.specs.Contents.{contents_in};
 ghost use Rattle.journal.specs.Group.{IsJournalText};
 ghost use Rattle.journal.specs.Records.{file_of};
 ghost use Rattle.journal.specs.declared.error.JournalError.TheVariants.{Memory as NoRecord};
-ghost use Rattle.keeper.specs.Together.{texts_of};
 ghost use Rattle.store_folder.specs.Finding.{IsFoundStore};
 ghost use Rattle.store_folder.specs.Plain.{DeniesAdmitting, DeniesEvents, DeniesPlain, DeniesText};
 ghost use Rattle.store_folder.specs.Plain.{HasEither, begins_plain};
@@ -29,6 +29,7 @@ use event_text::TextError;
 use head::{Event, Snapshot, replay};
 use head_record::{RefusedHead, head_contents};
 use journal::{JournalError, file_text, recover};
+use name_table::NameTable;
 use std::alloc::{AllocError, Global};
 
 /// Whether a file may be a journal of events alone: its first content begins as that of an event.
@@ -52,14 +53,20 @@ fn no_head() -> ReadError
 }
 
 /// The events that all of the contents are, of which there are some.
-fn plain_events(alloc: Global, contents: &[Vec<u8>]) -> Result<Vec<Event>, ReadError>
-    ensures found { IfOk result (λ events. Spell (contents_in contents.now) events.items) }
+fn plain_events(
+    alloc: Global,
+    names: &mut NameTable,
+    contents: &[Vec<u8>],
+) -> Result<Vec<Event>, ReadError>
+    requires { names.old ≡ [] }
+    ensures found { IfOk result (λ events.
+        Spell (contents_in contents.now) events.items names.new) }
     ensures refused { IfErr result (λ e. DeniesEvents (contents_in contents.now) e) }
 {
     if contents.is_empty() {
         return Err(no_head());
     }
-    match read_events(alloc, contents) {
+    match read_events(alloc, names, contents) {
         Ok(events) => Ok(events),
         Err(refused) => Err(ReadError::Event(refused)),
     }
@@ -68,19 +75,21 @@ fn plain_events(alloc: Global, contents: &[Vec<u8>]) -> Result<Vec<Event>, ReadE
 /// The events of a journal's file that has no head, of which there are some, or the first fault.
 /// The head is given as that of a store that has nothing.
 pub fn read_plain(alloc: Global, file: &[u8]) -> Result<FoundJournal, ReadError>
-    // What is answered is what the file stands for.
-    ensures found { IfOk result (λ j. Stands [] file.now j.events.items) }
+    // What is answered is what the file stands for, and how many bytes of it.
+    ensures found { IfOk result (λ j. (stands : Stands [] file.now j.events.items)
+        × (j.len ≡ length (file_of stands.contents))) }
     ensures head { IfOk result (λ j. j.head ≡ nothing_saved) }
-    ensures len { IfOk result (λ j. j.len ≡ length (file_of (texts_of j.events.items))) }
     ensures torn { IfOk result (λ j. j.torn ≡ length file.now - j.len) }
     // A refusal tells which check failed first, and where.
     ensures refused { IfErr result (λ e. DeniesPlain file.now e) }
 {
+    let mut names = NameTable::new(alloc);
     match recover(alloc, file) {
-        Ok(recovered) => match plain_events(alloc, &recovered.contents) {
+        Ok(recovered) => match plain_events(alloc, &mut names, &recovered.contents) {
             Ok(events) => Ok(FoundJournal {
                 head: nothing(alloc),
                 events,
+                names,
                 len: recovered.len,
                 torn: file.len().saturating_sub(recovered.len),
             }),
@@ -136,10 +145,15 @@ fn admit(alloc: Global, events: &[Event]) -> Result<(), StartError>
 
 /// The text that a journal of events alone has with the head of a store that has nothing, and these
 /// events; or why the journal is refused.
-fn plain_text(alloc: Global, file: &[u8]) -> Result<(Vec<u8>, Vec<Event>), StartError>
-    ensures events { IfOk result (λ x. Stands [] file.now x.1.items) }
-    ensures text { IfOk result (λ x.
-        IsJournalText (contents_with (head_texts nothing_saved) x.1.items) x.0.items) }
+fn plain_text(
+    alloc: Global,
+    names: &mut NameTable,
+    file: &[u8],
+) -> Result<(Vec<u8>, Vec<Event>), StartError>
+    requires { names.old ≡ [] }
+    ensures found { IfOk result (λ x. (stands : Stands [] file.now x.1.items)
+        × (names.new ≡ stands.names)
+        × IsJournalText (head_texts nothing_saved ++ stands.contents) x.0.items) }
     ensures saved { OnOk result (IsSaved nothing_saved) }
     ensures refused { IfErr result (λ e. DeniesText file.now e) }
 {
@@ -147,7 +161,7 @@ fn plain_text(alloc: Global, file: &[u8]) -> Result<(Vec<u8>, Vec<Event>), Start
         Ok(recovered) => recovered,
         Err(error) => return Err(StartError::Journal(ReadError::Journal(error))),
     };
-    let events = match plain_events(alloc, &recovered.contents) {
+    let events = match plain_events(alloc, names, &recovered.contents) {
         Ok(events) => events,
         Err(error) => return Err(StartError::Journal(error)),
     };
@@ -183,7 +197,8 @@ pub(crate) fn adopt<F: Folder>(
         (HasEither file.now) }
     ensures others { KeepsOthers F.shows F.kept next_name journal_name folder.old folder.new }
 {
-    let (text, events) = match plain_text(alloc, file) {
+    let mut names = NameTable::new(alloc);
+    let (text, events) = match plain_text(alloc, &mut names, file) {
         Ok(plain) => plain,
         Err(error) => return Err(error),
     };
@@ -192,6 +207,7 @@ pub(crate) fn adopt<F: Folder>(
             journal: FoundJournal {
                 head: nothing(alloc),
                 events,
+                names,
                 len: text.len(),
                 torn: 0,
             },

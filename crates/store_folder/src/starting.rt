@@ -39,6 +39,7 @@ use head::{Event, RefusedEvent, ResumeError, Snapshot, apply};
 use head_record::HeadRecord;
 use journal::{JournalError, MediumError};
 use labels::MIN_TIME;
+use name_table::NameTable;
 use std::alloc::Global;
 
 /// A store that goes on, or one that begins.
@@ -150,7 +151,7 @@ impl<N: Beginning, F: Folder + Drop> StoreJournal<N, F> {
             Ok(text) => text,
             Err(_) => return Err((no_memory(), folder)),
         };
-        match begin(folder, &text) {
+        match begin(alloc, folder, &text) {
             Ok(journal) => Ok(StoreJournal {
                 events: EventJournal { journal },
                 meaning: Meaning::new(values),
@@ -161,10 +162,16 @@ impl<N: Beginning, F: Folder + Drop> StoreJournal<N, F> {
 
     /// Goes on after the events of a journal, whose torn end is cut off. An `Err` gives the folder
     /// back where that fails.
-    pub fn resume(folder: F, journal: &FoundJournal) -> Result<StoreJournal<N, F>, (MediumError, F)>
+    pub fn resume(
+        folder: F,
+        names: NameTable,
+        journal: &FoundJournal,
+    ) -> Result<StoreJournal<N, F>, (MediumError, F)>
         requires found { (parts : List BlockPart)
             × IsFoundStore F.shows F.kept journal.now parts folder }
         requires sound { F.sound folder ≡ true }
+        // These are the names that were found.
+        requires names { names ≡ journal.now.names }
         requires values { journal.now.head.values ≡ N.first.values }
         ensures holds { IfOk result (λ k. (parts : List BlockPart)
             → IsFoundStore F.shows F.kept journal.now parts folder
@@ -186,7 +193,7 @@ impl<N: Beginning, F: Folder + Drop> StoreJournal<N, F> {
             k.events.journal.medium.folder)
             (λ e. KeepsOthers F.shows F.kept next_name journal_name folder e.1) }
     {
-        match EventJournal::resume(JournalFile { folder }, journal.len) {
+        match EventJournal::resume(JournalFile { folder, names }, journal.len) {
             Ok(events) => Ok(StoreJournal {
                 events,
                 meaning: Meaning::new(journal.head.values()),
@@ -238,6 +245,7 @@ pub fn begin_store<N: Beginning, F: Folder + Drop>(
             let journal = FoundJournal {
                 head: nothing_with(alloc, values),
                 events: Vec::new(alloc),
+                names: NameTable::new(alloc),
                 len: store.len(),
                 torn: 0,
             };
@@ -312,11 +320,14 @@ pub fn resume_store<N: Beginning, F: Folder + Drop>(
     let Ok(places) = Vec::from_slice(alloc, journal.head.places()) else {
         return Err((StartError::Head(ResumeError::Memory), folder));
     };
+    let Ok(names) = journal.names.copied(alloc) else {
+        return Err((StartError::Head(ResumeError::Memory), folder));
+    };
     let snapshot = match snapshot_of(alloc, &journal, blocks) {
         Ok(snapshot) => snapshot,
         Err(error) => return Err((error, folder)),
     };
-    match StoreJournal::resume(folder, &journal) {
+    match StoreJournal::resume(folder, names, &journal) {
         Ok(store) => Ok(StartedStore {
             snapshot,
             keeper: StoreKeeper {

@@ -18,6 +18,7 @@ use Rattle.head_record.specs.Saved.{Place, Saved, save}
 use Rattle.head_record.specs.Spelling.{head_texts, IsSaved}
 use Rattle.journal.specs.Group.{IsJournalText}
 use Rattle.labels.specs.Contents.{Content}
+use Rattle.name_table.specs.Names.{Label}
 use Rattle.labels.specs.Parts.{Part, laid_over, over, rows_in}
 use Rattle.labels.specs.Rows.{points_of}
 use Rattle.store_folder.specs.Holding.{AreAt, HoldsAfterHead, HoldsAt}
@@ -127,7 +128,7 @@ module _ {F : Type 0} (shows : F → List ℕ → Option (List ℕ) → Type 0)
       (m : IsNext first next old saved made)
       → IsOldOrNew
       (files_of_both shows kept h.saved.places saved.places h.parts made old.folder h.blocks m.blocks)
-      (contents_with (head_texts h.saved) h.late) (contents_with (head_texts saved) []) left
+      (head_texts h.saved ++ h.journal.contents) (contents_with (head_texts saved) []) left
       → StandsFor first [] left ⊎ StandsFor (other_of first next) [] left
   stands_so first next old len was saved made left h m is =
       let split =
@@ -144,8 +145,12 @@ module _ {F : Type 0} (shows : F → List ℕ → Option (List ℕ) → Type 0)
         begins = h.begins;
         state = record {
           head = h.head;
-          each = h.journal.each;
-          journal = had;
+          kept = record {
+            contents = h.journal.contents;
+            names = h.journal.after;
+            spell = h.journal.spell;
+            journal = had;
+          };
           blocks = lie_at shows kept h.saved.places h.parts old.folder left h.blocks split.0;
         };
       }))
@@ -158,8 +163,7 @@ module _ {F : Type 0} (shows : F → List ℕ → Option (List ℕ) → Type 0)
         begins = record { world = ap fine m.world; values = m.values };
         state = record {
           head = m.head;
-          each = tt;
-          journal = has;
+          kept = record { contents = []; names = []; spell = refl; journal = has };
           blocks = lie_at shows kept saved.places made old.folder left m.blocks split.1;
         };
       }))
@@ -172,7 +176,7 @@ module _ {F : Type 0} (shows : F → List ℕ → Option (List ℕ) → Type 0)
       (m : IsNext first next old saved made)
       → LeavesOnly moment left_since old.folder new.folder (IsOldOrNew
       (files_of_both shows kept h.saved.places saved.places h.parts made old.folder h.blocks m.blocks)
-      (contents_with (head_texts h.saved) h.late) (contents_with (head_texts saved) []))
+      (head_texts h.saved ++ h.journal.contents) (contents_with (head_texts saved) []))
       → FindsEither moment left_since old.folder new.folder first next
   rolling_finds first next old new len was saved made h m leaves =
       let P = λ (v : World). (v ≡ first.world) ⊎ (v ≡ next) in
@@ -184,13 +188,13 @@ module _ {F : Type 0} (shows : F → List ℕ → Option (List ℕ) → Type 0)
   -- then the store is the other
   pub begun_anew : (first : Origin) (next : World) (old new : JournalFile F) (new_len : ℕ)
       (saved : Saved) (made : List BlockPart) → IsNext first next old saved made
-      → rolls.Keeps shows kept sound (contents_with (head_texts saved) []) new.folder new_len
+      → new.names ≡ [] → rolls.Keeps shows kept sound (contents_with (head_texts saved) []) new.folder new_len
       → ((files : List Named) → AllByRecursion IsApart files → AreThere shows kept files old.folder
       → AreThere shows kept files new.folder)
       → At (other_of first next) new new_len false saved.places made
-  begun_anew first next old new new_len saved made m k stay = (
+  begun_anew first next old new new_len saved made m named k stay = (
     after_head shows kept sound moment left_since only_now earlier (other_of first next) new new_len
-        false saved made [] [] [] refl m.head tt
+        false saved made [] [] [] [] [] refl m.head refl named
         (record { world = ap fine m.world; values = m.values }) k
         (blocks_rolled shows kept saved.places made old.folder new.folder stay m.blocks),
     refl,
@@ -204,17 +208,19 @@ module _ {F : Type 0} (shows : F → List ℕ → Option (List ℕ) → Type 0)
   pub still_at : (first : Origin) (old : JournalFile F) (new : F) (len : ℕ) (closed : Bool)
       (places : List Place) (parts : List BlockPart) → At first old len closed places parts
       → closed ≡ false → Stays places old.folder new
-      → At first (record { folder = new }) len closed places parts
+      → At first (record (old) { folder = new }) len closed places parts
   still_at first old new len closed places parts at opened stays =
-      holds_swept shows kept sound moment left_since only_now earlier first old (record { folder = new })
-      len closed [] places parts (names_at places) at opened refl stays
+      holds_swept shows kept sound moment left_since only_now earlier first old
+      (record (old) { folder = new }) len closed [] places parts (names_at places) at opened refl
+      refl stays
 
   pub meanwhile : (first : Origin) (old : JournalFile F) (new : F) (len : ℕ) (closed : Bool)
       (places : List Place) (parts : List BlockPart) → At first old len closed places parts
       → closed ≡ false → Stays places old.folder new
       → StartFinds moment left_since old.folder new first []
   meanwhile first old new len closed places parts at opened stays =
-      swept_finds shows kept sound moment left_since only_now earlier first old (record { folder = new })
+      swept_finds shows kept sound moment left_since only_now earlier first old
+      (record (old) { folder = new })
       len closed [] places parts (names_at places) at opened refl stays
 
   -- what was written of a snapshot is the head that is to be
@@ -240,42 +246,46 @@ module _ {F : Type 0} (shows : F → List ℕ → Option (List ℕ) → Type 0)
       → AllByRecursion IsApart files → AreThere shows kept files old
       → LeavesOnly moment left_since old new (IsOldOrNew files before after)
 
-  pub roll_either : (first : Origin) (next : World) (old new : F) (len : ℕ) (closed : Bool)
+  pub roll_either : (first : Origin) (next : World) (old : F) (names : List Label) (new : F)
+      (len : ℕ) (closed : Bool)
       (places : List Place) (parts : List BlockPart) (saved : Saved) (made : List BlockPart)
-      (text : List ℕ) → At first (record { folder = old }) len closed places parts → closed ≡ false
-      → IsNext first next (record { folder = old }) saved made
+      (text : List ℕ) → At first (record { folder = old; names = names }) len closed places parts → closed ≡ false
+      → IsNext first next (record { folder = old; names = names }) saved made
       → IsJournalText (contents_with (head_texts saved) []) text → RollLeaves old new len text
       → FindsEither moment left_since old new first next
-  roll_either first next old new len closed places parts saved made text at opened m whole leaves =
-      let h : HoldsAfterHead shows kept sound moment left_since first (record { folder = old }) len
+  roll_either first next old names new len closed places parts saved made text at opened m whole leaves =
+      let h : HoldsAfterHead shows kept sound moment left_since first (record { folder = old; names = names }) len
       closed [] = at.0 in
-      rolling_finds first next (record { folder = old }) (record { folder = new })
-      len closed saved made h m
-      (leaves (contents_with (head_texts h.saved) h.late) (contents_with (head_texts saved) [])
+      rolling_finds first next (record { folder = old; names = names })
+      (record { folder = new; names = names }) len closed saved made h m
+      (leaves (head_texts h.saved ++ h.journal.contents) (contents_with (head_texts saved) [])
       (files_of_both shows kept h.saved.places saved.places h.parts made old h.blocks m.blocks)
-      (keeps_now shows kept sound moment left_since only_now earlier first (record { folder = old }) len
+      (keeps_now shows kept sound moment left_since only_now earlier first (record { folder = old; names = names }) len
       closed [] h opened)
       whole
       (apart_both shows kept h.saved.places saved.places h.parts made old h.blocks m.blocks)
       (there_both shows kept h.saved.places saved.places h.parts made old h.blocks m.blocks))
 
   -- what the journal has before
-  pub keeps_before : (first : Origin) (old : F) (len : ℕ) (closed : Bool) (places : List Place)
-      (parts : List BlockPart) (at : At first (record { folder = old }) len closed places parts)
+  pub keeps_before : (first : Origin) (old : F) (names : List Label) (len : ℕ) (closed : Bool) (places : List Place)
+      (parts : List BlockPart) (at : At first (record { folder = old; names = names }) len closed places parts)
       → closed ≡ false
-      → rolls.Keeps shows kept sound (contents_with (head_texts at.0.saved) at.0.late) old len
-  keeps_before first old len closed places parts at opened =
-      keeps_now shows kept sound moment left_since only_now earlier first (record { folder = old }) len
+      → rolls.Keeps shows kept sound (head_texts at.0.saved ++ at.0.journal.contents) old len
+  keeps_before first old names len closed places parts at opened =
+      keeps_now shows kept sound moment left_since only_now earlier first (record { folder = old; names = names }) len
       closed [] at.0 opened
 
   -- where it failed and goes on
-  pub as_before : (first : Origin) (old new : F) (len new_len : ℕ) (was closed : Bool)
+  pub as_before : (first : Origin) (old : F) (names : List Label) (new : JournalFile F)
+      (len new_len : ℕ) (was closed : Bool)
       (places : List Place) (parts : List BlockPart)
-      (at : At first (record { folder = old }) len was places parts)
-      → rolls.Keeps shows kept sound (contents_with (head_texts at.0.saved) at.0.late) new new_len
+      (at : At first (record { folder = old; names = names }) len was places parts)
+      → was ≡ false → new.names ≡ names
+      → rolls.Keeps shows kept sound (head_texts at.0.saved ++ at.0.journal.contents) new.folder
+      new_len
       → ((files : List Named) → AllByRecursion IsApart files → AreThere shows kept files old
-      → AreThere shows kept files new)
-      → At first (record { folder = new }) new_len closed places parts
-  as_before first old new len new_len was closed places parts at k stay =
-      same_head shows kept sound moment left_since only_now earlier first (record { folder = old })
-      (record { folder = new }) len new_len was closed [] places parts at k stay
+      → AreThere shows kept files new.folder)
+      → At first new new_len closed places parts
+  as_before first old names new len new_len was closed places parts at opened same k stay =
+      same_head shows kept sound moment left_since only_now earlier first (record { folder = old; names = names })
+      new len new_len was closed [] places parts at opened same k stay

@@ -10,7 +10,6 @@ use Rattle.data_folder.specs.declared.journal_file.JournalFile.{JournalFile}
 use Rattle.data_folder.specs.Folders.{Left, LeavesAll, LeavesOnly, MayLeaveOf, Untouched}
 use Rattle.data_folder.specs.JournalFile.{journal_name}
 use Rattle.data_folder.proofs.Moments.{joined, weaker}
-use Rattle.event_journal.specs.Holding.{contents_with}
 use Rattle.head.specs.Blocks.{part_in}
 use Rattle.head.specs.Heads.{BlockPart, world_of}
 use Rattle.head.specs.Refusals.{Refusal}
@@ -108,13 +107,18 @@ module _ {F : Type 0} (shows : F → List ℕ → Option (List ℕ) → Type 0)
       h.begins
       (blocks_left shows kept h.saved.places h.parts f left h.store.blocks
       (λ n x k away shown durable. may n x k shown durable))
-      h.store.journal.stands.each (
-        h.store.file,
-        whole_left h.store.file (left journal_name)
-            (may journal_name (Some h.store.file) (length h.store.file) h.store.has.shown
-            h.store.has.durable),
-        h.store.journal.stands.recovers,
-      )
+      (record {
+        contents = h.store.journal.stands.contents;
+        names = h.store.journal.stands.names;
+        spell = h.store.journal.stands.spell;
+        journal = (
+          h.store.file,
+          whole_left h.store.file (left journal_name)
+              (may journal_name (Some h.store.file) (length h.store.file) h.store.has.shown
+              h.store.has.durable),
+          h.store.journal.stands.recovers,
+        );
+      })
 
   pub untouched_finds : (first : Origin) (events : List Event) (old new : F)
       → HasStoreFor shows kept first events old → Untouched shows kept moment left_since old new
@@ -168,7 +172,7 @@ module _ {F : Type 0} (shows : F → List ℕ → Option (List ℕ) → Type 0)
       (events : List Event) → HoldsAfterHead shows kept sound moment left_since first m len closed
       events → closed ≡ false → HasStoreFor shows kept first events m.folder
   has_kept first m len closed events h opened =
-      let contents = contents_with (head_texts h.saved) h.late in
+      let contents = head_texts h.saved ++ h.journal.contents in
       let k = h.journal.keeps opened in record {
         saved = h.saved;
         parts = h.parts;
@@ -183,7 +187,9 @@ module _ {F : Type 0} (shows : F → List ℕ → Option (List ℕ) → Type 0)
             head = h.head;
             stands = record {
               before = h.journal.before;
-              each = h.journal.each;
+              contents = h.journal.contents;
+              names = h.journal.after;
+              spell = h.journal.spell;
               recovers = itself contents k.each;
             };
           };

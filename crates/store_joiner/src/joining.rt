@@ -27,7 +27,7 @@ use crate::joined::joined_snapshot;
 use crate::opened::{Found, save};
 use crate::replacing::replace;
 use data_folder::{Folder, RollError};
-use head::Snapshot;
+use head::{ResumeError, Snapshot};
 use std::alloc::Global;
 use std::marker::Brand;
 use store_folder::{Beginning, FoundStore, RollFault, StartError, StoreJournal, open_store};
@@ -73,7 +73,15 @@ fn sweep<N: Beginning, F: Folder + Drop>(
         (λ e. KeepsForeign F.shows F.kept found.folder e.1) }
 {
     let Found { folder, store } = found;
-    let mut journal: StoreJournal<N, F> = match StoreJournal::resume(folder, &store.journal) {
+    let Ok(names) = store.journal.names.copied(alloc) else {
+        let none = StartError::Head(ResumeError::Memory);
+        return Err((ChangeFault::Resume(none), folder));
+    };
+    let mut journal: StoreJournal<N, F> = match StoreJournal::resume(
+        folder,
+        names,
+        &store.journal,
+    ) {
         Ok(journal) => journal,
         Err((_, folder)) => return Err((ChangeFault::Resume(StartError::Medium), folder)),
     };

@@ -13,7 +13,7 @@ use crate::error::ChangeFault;
 use crate::opened::Found;
 use crate::storing::replace_store;
 use data_folder::{Folder, RollError};
-use head::Snapshot;
+use head::{ResumeError, Snapshot};
 use std::alloc::Global;
 use store_folder::{Beginning, RollFault, StartError, StoreJournal};
 
@@ -49,7 +49,11 @@ pub(crate) fn replace<N: Beginning, F: Folder + Drop>(
         (λ e. KeepsForeign F.shows F.kept found.folder e.1) }
 {
     let Found { folder, store } = found;
-    let journal: StoreJournal<N, F> = match StoreJournal::resume(folder, &store.journal) {
+    let Ok(names) = store.journal.names.copied(alloc) else {
+        let none = StartError::Head(ResumeError::Memory);
+        return Err((ChangeFault::Resume(none), folder));
+    };
+    let journal: StoreJournal<N, F> = match StoreJournal::resume(folder, names, &store.journal) {
         Ok(journal) => journal,
         Err((_, folder)) => return Err((ChangeFault::Resume(StartError::Medium), folder)),
     };

@@ -1,6 +1,6 @@
-//! Tests of the subcommands of `querier` from outside, of what needs types: runs that are refused
-//! memory, and writers that refuse. Command lines and what they give stand in `case_files`; files of
-//! the host are read by the scripts of `tests/`.
+//! Tests from outside of the subcommands of `querier`, as far as they need types: runs that are
+//! refused memory, and writers that refuse. Command lines and what they give are in `case_files`.
+//! The scripts of `tests/` read files of the host.
 
 mod directories;
 mod refusals;

@@ -15,8 +15,8 @@ pub type Said = (Intervals, &'static [u32], &'static [u32]);
 
 pub const FOUND: &[u32] = &[6, 7];
 
-/// The answer to `up{job="a"}`, 0 to 100: 4 and 5 are rejected by their name, those from 8 on by
-/// their job.
+/// The answer to `up{job="a"}`, 0 to 100. The series 4 and 5 are rejected by their name, those from
+/// 8 on by their job.
 pub const SOUND: Said = (
     &[
         (4, 6, Verdict::Rejected(0)),

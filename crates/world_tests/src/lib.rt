@@ -1,9 +1,9 @@
 //! Tests from outside of what needs a store and no server: an audit of each answer of a store while
 //! many threads change it (`many`), what a start makes of all that a crash may leave (`restarts`),
-//! and audits that are refused memory. What the auditor says of replies stands in `case_files`.
+//! and audits that are refused memory. What the auditor says of replies is in `case_files`.
 //!
-//! They stand in a crate of their own, which needs no server, so that the gate proves them beside
-//! `store_tests`.
+//! They are in a crate of their own, which needs no server, so the gate proves them at the same
+//! time as `store_tests`.
 #![tactic(auto)]
 
 #[cfg(test)]

@@ -1,5 +1,5 @@
-//! Many threads at once: eight commit, one cuts, one deletes and four ask. Each refusal is looked
-//! at, each answer is audited, and what was accepted is replayed.
+//! Many threads at once: eight commit, one cuts, one deletes and four ask. The tests look at each
+//! refusal, audit each answer, and replay what was accepted.
 
 ghost use Rattle.std.specs.Prelude.{◌≡◌, []};
 ghost use Rattle.head.specs.Blocks.{opening_of};
@@ -12,7 +12,7 @@ use head::{CommitError, Event, Snapshot};
 use history::{Reply, Step, run};
 use labels::{LabelSet, Row, Sample, is_time};
 use matchers::{Query, Selector};
-use snapshots::{Appender, Committer, Naming, Pass, Receipt, Seat, Store};
+use snapshots::{Appender, Committer, Naming, Open, OpenNaming, Pass, Receipt, Seat, Store};
 use std::alloc::{AllocError, Global};
 use std::marker::Brand;
 use std::sync::atomic::{AtomicU64, Ordering};
@@ -43,10 +43,10 @@ type Done = (u64, usize, i64);
 
 const JOBS: [&str; 8] = ["0", "1", "2", "3", "4", "5", "6", "7"];
 
-/// The zones of the two series of a job: each has two of the four samples of a batch.
+/// The zones of the two series of a job. Each has two of the four samples of a batch.
 const ZONES: [&str; 4] = ["a", "b", "a", "b"];
 
-/// The time of the last cut: no batch from there on is refused.
+/// The time of the last cut. No batch from there on is refused.
 const LAST_CUT: i64 = 1_520;
 
 /// What is asked: a selector, and the range.
@@ -62,7 +62,7 @@ const ASKED: [Asked; 4] = [
 ];
 
 /// What threads share: the next time, how many of them still change the store, and the receipts of
-/// all events so far.
+/// all events until now.
 #[derive(Drop)]
 struct Board<J: Naming> {
     clock: AtomicU64,
@@ -78,7 +78,7 @@ enum Actor<J: Naming> {
 }
 
 impl<J: Naming> Board<J> {
-    /// The time of a seat's event. For a batch the clock goes on; a cut and a deletion wait for it.
+    /// The time of a seat's event. For a batch the clock goes on. A cut and a deletion wait for it.
     fn time_of(&self, rt: &impl Wait, seat: usize, round: u64) -> i64 {
         if seat < CUTTER {
             let time = self.clock.fetch_add(4, Ordering::SeqCst);
@@ -168,9 +168,9 @@ fn query_of(alloc: Global, asked: Asked) -> Option<Query> {
 /// What a deletion asks for.
 const DELETED: &str = "{zone=\"b\"}";
 
-/// The receipt of a batch, and none where a cut has passed it; nothing where it is refused by
-/// anything else.
-fn commit<J: Naming, C: Wait + Drop>(
+/// The receipt of a batch, or none if a cut has passed it. There is nothing if it is refused for
+/// another reason.
+fn commit<J: OpenNaming, C: Wait + Drop>(
     rt: &impl Wait,
     alloc: Global,
     committer: &Committer<J, C>,
@@ -187,7 +187,7 @@ fn commit<J: Naming, C: Wait + Drop>(
     }
 }
 
-fn delete<J: Naming, C: Wait + Drop>(
+fn delete<J: OpenNaming, C: Wait + Drop>(
     rt: &impl Wait,
     alloc: Global,
     committer: &Committer<J, C>,
@@ -202,7 +202,7 @@ fn delete<J: Naming, C: Wait + Drop>(
     committer.delete(rt, seat, matchers, at, to).ok()
 }
 
-fn cut<J: Naming, C: Wait + Drop>(
+fn cut<J: OpenNaming, C: Wait + Drop>(
     rt: &impl Wait,
     committer: &Committer<J, C>,
     seat: &mut Seat<J>,
@@ -214,9 +214,9 @@ fn cut<J: Naming, C: Wait + Drop>(
     committer.cut(rt, seat, at).ok()
 }
 
-/// The receipt of a seat's event; none where a cut has passed it, and nothing where it is refused
-/// by anything else.
-fn change<J: Naming, C: Wait + Drop>(
+/// The receipt of a seat's event, or none if a cut has passed it. There is nothing if it is refused
+/// for another reason.
+fn change<J: OpenNaming, C: Wait + Drop>(
     rt: &impl Wait,
     alloc: Global,
     committer: &Committer<J, C>,
@@ -242,9 +242,9 @@ fn keep<J: Naming>(
     board.keep(rt, receipt)
 }
 
-/// So many events of a seat's, and which of them were accepted; nothing where one was refused that
-/// should not have been.
-fn change_often<J: Naming, C: Wait + Drop>(
+/// Makes this many events of a seat. Returns which of them were accepted, or nothing if one was
+/// refused that should not have been.
+fn change_often<J: OpenNaming, C: Wait + Drop>(
     rt: &impl Wait,
     alloc: Global,
     committer: &Committer<J, C>,
@@ -262,7 +262,7 @@ fn change_often<J: Naming, C: Wait + Drop>(
     Some(done)
 }
 
-/// Asks once; none where an audit tells a flaw.
+/// Asks once. Returns nothing if an audit reports a flaw.
 fn ask<J: Naming, R: Threads + Wait + Sync>(
     rt: &R,
     alloc: Global,
@@ -274,7 +274,8 @@ fn ask<J: Naming, R: Threads + Wait + Sync>(
     audit_parts(alloc, &snapshot, query, &answers)
 }
 
-/// Asks until no other thread changes the store, and once more; none where an audit tells a flaw.
+/// Asks until no other thread changes the store, and once more. Returns nothing if an audit reports
+/// a flaw.
 fn ask_often<J: Naming, R: Threads + Wait + Sync>(
     rt: &R,
     alloc: Global,
@@ -305,7 +306,7 @@ fn ask_as<J: Naming, R: Threads + Wait + Sync>(
     Some(Vec::new(alloc))
 }
 
-fn change_as<J: Naming, C: Wait + Drop>(
+fn change_as<J: OpenNaming, C: Wait + Drop>(
     rt: &impl Wait,
     alloc: Global,
     committer: &Committer<J, C>,
@@ -322,8 +323,8 @@ fn change_as<J: Naming, C: Wait + Drop>(
     done
 }
 
-/// The events of an actor that were accepted: none of one that asks.
-fn act<J: Naming, C: Wait + Drop, R: Threads + Wait + Sync>(
+/// The events of an actor that were accepted. An actor that asks has none.
+fn act<J: OpenNaming, C: Wait + Drop, R: Threads + Wait + Sync>(
     rt: &R,
     alloc: Global,
     committer: &Committer<J, C>,
@@ -369,7 +370,7 @@ fn sorted(before: Vec<Done>, told: Vec<Option<Vec<Done>>>) -> Option<Vec<Done>> 
 
 /// The events of all actors that were accepted, each actor in a thread of its own, and those that
 /// were before, in their order.
-fn act_at_once<J: Naming + Send + Sync, C: Wait + Drop + Send + Sync, R: Threads + Wait + Sync>(
+fn act_at_once<J: OpenNaming + Send + Sync, C: Wait + Drop + Send + Sync, R: Threads + Wait + Sync>(
     rt: &R,
     alloc: Global,
     committer: &Committer<J, C>,
@@ -385,7 +386,7 @@ fn act_at_once<J: Naming + Send + Sync, C: Wait + Drop + Send + Sync, R: Threads
     sorted(before, told.ok()?)
 }
 
-/// Whether receipts have the numbers of so many events, from 1, each number once.
+/// Whether receipts have the numbers of this many events, from 1, each number once.
 fn are_numbered(done: &[Done], events: u64) -> bool {
     let mut next = 1u64;
     for (number, _, _) in done {
@@ -562,9 +563,8 @@ fn is_kept<J: Naming>(alloc: Global, pass: &mut Pass<J>, done: &[Done], held: &H
     }
 }
 
-/// How many events are accepted, those before and those of the actors, where all that is to hold
-/// does.
-fn count_kept<J: Naming + Send + Sync, C: Wait + Drop + Send + Sync, R: Threads + Wait + Sync>(
+/// How many events are accepted, those before and those of the actors, if all that is to hold does.
+fn count_kept<J: OpenNaming + Send + Sync, C: Wait + Drop + Send + Sync, R: Threads + Wait + Sync>(
     rt: &R,
     alloc: Global,
     committer: &Committer<J, C>,
@@ -584,7 +584,7 @@ fn count_kept<J: Naming + Send + Sync, C: Wait + Drop + Send + Sync, R: Threads 
 }
 
 /// The first event, of the first seat.
-fn begin<J: Naming, C: Wait + Drop>(
+fn begin<J: OpenNaming, C: Wait + Drop>(
     rt: &impl Wait,
     alloc: Global,
     committer: &Committer<J, C>,
@@ -594,8 +594,12 @@ fn begin<J: Naming, C: Wait + Drop>(
     change_often(rt, alloc, committer, board, seats.first_mut()?, 1)
 }
 
-/// How many events of a store are accepted, where all that is to hold does.
-fn count_accepted<J: Naming + Send + Sync, C: Wait + Drop + Send + Sync, R: Threads + Wait + Sync>(
+/// How many events of a store are accepted, if all that is to hold does.
+fn count_accepted<
+    J: OpenNaming + Send + Sync,
+    C: Wait + Drop + Send + Sync,
+    R: Threads + Wait + Sync,
+>(
     rt: &R,
     alloc: Global,
     committer: &Committer<J, C>,
@@ -624,12 +628,12 @@ fn accepted_by<J: Naming + Send + Sync, R: Threads + Wait + Sync>(
     requires book { store.seen.book ≡ J.book }
     requires opening { opening_of [] ≡ J.opening }
 {
-    let opened = store.open::<J, &R>(rt, alloc, Vec::new(alloc), 5, 10);
+    let opened = store.open::<Open<J>, &R>(rt, alloc, Vec::new(alloc), 5, 10);
     let (committer, passes, seats) = opened.ok()?;
     count_accepted(rt, alloc, &committer, passes, seats)
 }
 
-/// Of 401 batches each of ten cuts can refuse one of each seat, where it comes between the batch's
+/// Of 401 batches each of ten cuts can refuse one of each seat, if it comes between the batch's
 /// time and its commit.
 #[test]
 fn each_answer_is_audited_while_others_change_the_store(rt: HostRuntime) {

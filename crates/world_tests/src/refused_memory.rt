@@ -48,8 +48,8 @@ fn are_judged(alloc: Global, table: &Table, answer: &PartAnswer) -> Option<bool>
     )
 }
 
-/// Whether all is told as it should be, the rows of an answer are those of all answers, and not
-/// those of none; `None` where the part, the answer or a query are refused memory.
+/// Whether all is reported as it should be, and the rows of an answer are those of all answers, and
+/// not those of none. It is `None` if the part, the answer or a query are refused memory.
 fn is_told(alloc: Global) -> Option<bool> {
     let table = table_of_files(alloc, INDEX, CHUNKS, TOMBSTONES).ok()?;
     let (answer, rows) = answer(alloc, &table, &SOUND).zip(rows_at(alloc, &table, FOUND))?;

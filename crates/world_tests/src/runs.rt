@@ -106,7 +106,7 @@ fn is_run(alloc: Global) -> bool {
     }
 }
 
-/// Whether a run says these lines, if not at first, where memory is refused, then when it is made
+/// Whether a run says these lines. If memory is refused at first, it says them when it is made
 /// again.
 fn is_run_again(alloc: Global) -> bool {
     match told_by_run(alloc) {

@@ -23,7 +23,7 @@ fn table_of_head(alloc: Global, head: &HeadView) -> Option<Table> {
 
 /// The table of what a block lists.
 fn table_of_block(alloc: Global, block: &Block) -> Option<Table> {
-    // What holds of a block's part is known where its range is asked for.
+    // What holds of a block's part is known once its range is asked for.
     let _ = block.range();
     Some(Table::of_series(block.list_all(alloc).ok()?))
 }
@@ -36,8 +36,8 @@ fn table_of(alloc: Global, snapshot: &Snapshot, part: PartName) -> Option<Table>
     }
 }
 
-/// 1 where a row that is left out of an answer is found, and 0 where the answer has no row; nothing
-/// where it is not found.
+/// 1 if a row that is left out of an answer is found, and 0 if the answer has no row. It is nothing
+/// if the row is not found.
 fn count_spoiled(
     alloc: Global,
     snapshot: &Snapshot,
@@ -64,7 +64,7 @@ fn audit_part(
     audit(alloc, &table, query, answer).ok()
 }
 
-/// Audits each of these answers; nothing where one has a flaw.
+/// Audits each of the answers. Returns nothing if one has a flaw.
 pub fn audit_parts(
     alloc: Global,
     snapshot: &Snapshot,
@@ -77,8 +77,8 @@ pub fn audit_parts(
     Some(())
 }
 
-/// Whether a row that is left out is found, in each of these answers that has rows, and one of them
-/// has.
+/// Whether a row that is left out is found in each answer that has rows, and at least one answer
+/// has rows.
 pub fn finds_spoiled(
     alloc: Global,
     snapshot: &Snapshot,

@@ -90,7 +90,7 @@ fn is_worked(table: &Table) -> bool {
     true
 }
 
-/// The refusal of these files, or `part` where they spell the part of the worked block.
+/// The refusal of these files, or `part` if they spell the part of the worked block.
 pub fn walk_outcome(alloc: Global, index: &[u8], chunks: &[u8], tombstones: &[u8]) -> &'static str {
     match table_of_files(alloc, index, chunks, tombstones) {
         Ok(table) if is_worked(&table) => "part",

@@ -1,4 +1,4 @@
-//! What an appender takes. Batches and what is answered to them stand in `case_files`.
+//! What an appender takes. Batches and what is answered to them are in `case_files`.
 
 use crate::changes::rows::set_of;
 use head::AppendError;
@@ -21,7 +21,7 @@ fn append(appender: &mut Appender, set: &LabelSet, t: i64) -> &'static str {
     }
 }
 
-/// Whether samples at these times are each answered so.
+/// Whether each of the samples at these times gets this answer.
 fn are_answered(appender: &mut Appender, set: &LabelSet, times: &[i64], want: &str) -> bool {
     for t in times {
         if append(appender, set, *t) != want {
@@ -31,7 +31,7 @@ fn are_answered(appender: &mut Appender, set: &LabelSet, times: &[i64], want: &s
     true
 }
 
-/// Whether a sample at each of the times from 0, so many of them, is added.
+/// Whether a sample is added at each of the times from 0, which are this many.
 fn are_added(appender: &mut Appender, set: &LabelSet, count: i64) -> bool {
     for t in 0..count {
         if append(appender, set, t) != "ok" {

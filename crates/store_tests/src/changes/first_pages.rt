@@ -1,5 +1,5 @@
-//! The examples of the first pages of `head`, `history` and `snapshots`, and what an actor is
-//! replied to before another commits and after it.
+//! The examples of the first pages of `head`, `history` and `snapshots`, and the replies to an
+//! actor before another commits and after it.
 
 ghost use Rattle.std.specs.Prelude.{◌≡◌, []};
 ghost use Rattle.head.specs.Blocks.{opening_of};
@@ -10,7 +10,7 @@ use head::{Event, HeadView, Snapshot, apply};
 use history::{Reply, Step, run};
 use labels::{LabelSet, Row, Sample, SeriesRef};
 use matchers::{Query, Selector};
-use snapshots::{Appender, Naming, Store};
+use snapshots::{Appender, Naming, Open, OpenNaming, Store};
 use std::alloc::Global;
 use std::marker::Brand;
 use std::sync::{Arc, Wait};
@@ -33,7 +33,7 @@ fn apply_one_batch(alloc: Global, opening: &Snapshot) -> Option<Snapshot> {
     apply(alloc, opening, &Event::batch(samples)).ok()
 }
 
-/// Whether the first series has so many samples.
+/// Whether the first series has this many samples.
 fn has(alloc: Global, head: &HeadView, count: usize) -> bool {
     match head.samples_of(alloc, SeriesRef::new(1), 0, 30) {
         Ok(found) => found.len() == count,
@@ -116,7 +116,7 @@ fn appender_of_one(alloc: Global) -> Option<Appender> {
 }
 
 /// What the example of `snapshots` does with a store that it opened.
-fn commit_and_learn<J: Naming, R: Wait + Drop>(
+fn commit_and_learn<J: OpenNaming, R: Wait + Drop>(
     rt: &impl Wait,
     alloc: Global,
     store: &mut EmptyStore<J, R>,
@@ -132,7 +132,7 @@ fn commit_and_look<J: Naming, R: Wait>(rt: &R, alloc: Global, store: Store) -> O
     requires book { store.seen.book ≡ J.book }
     requires opening { opening_of [] ≡ J.opening }
 {
-    let mut store = open_empty::<J, &R>(rt, alloc, store)?;
+    let mut store = open_empty::<Open<J>, &R>(rt, alloc, store)?;
     let snapshot = commit_and_learn(rt, alloc, &mut store)?;
     Some(store.pass.events() == 1 && has(alloc, snapshot.head(), 1))
 }
@@ -149,7 +149,7 @@ fn commit_and_look_untold<J: Naming, R: Wait>(rt: &R, alloc: Global, store: Stor
     requires book { store.seen.book ≡ J.book }
     requires opening { opening_of [] ≡ J.opening }
 {
-    let opened = store.open::<J, &R>(rt, alloc, Vec::new(alloc), 2, 1);
+    let opened = store.open::<Open<J>, &R>(rt, alloc, Vec::new(alloc), 2, 1);
     let (committer, mut passes, seats) = opened.ok()?;
     let mut second = passes.pop()?;
     let (pass, seat) = last(passes).zip(last(seats))?;

@@ -1,4 +1,4 @@
-//! What commits to a head copy. Batches, deletions and cuts with what is then answered stand in
+//! What commits to a head copy. Batches, deletions and cuts with what is then answered are in
 //! `case_files`.
 
 use crate::changes::rows::{Wanted, after, counted, with_samples};
@@ -13,7 +13,7 @@ fn of_two_thousand(alloc: Global) -> Option<Snapshot> {
     after(alloc, &one, &samples).ok()
 }
 
-/// Whether a series has so many samples at the times from 0 to 3,000.
+/// Whether a series has this many samples at the times from 0 to 3,000.
 fn has(alloc: Global, snapshot: &Snapshot, number: u32, count: usize) -> bool {
     let series = SeriesRef::new(number);
     match snapshot.head().samples_of(alloc, series, 0, 3_000) {
@@ -22,13 +22,13 @@ fn has(alloc: Global, snapshot: &Snapshot, number: u32, count: usize) -> bool {
     }
 }
 
-/// Whether the two series have so many samples.
+/// Whether the two series have this many samples.
 fn have(alloc: Global, snapshot: &Snapshot, one: usize, two: usize) -> bool {
     has(alloc, snapshot, 1, one) && has(alloc, snapshot, 2, two)
 }
 
 /// Batches to two series of 1,000 samples, each with two open chunks of 40, and how many samples
-/// these copy and the two series then have.
+/// the batches copy and the two series then have.
 const TO_BOTH: &[(&[Wanted], u64, usize, usize)] = &[
     (&[(1, 2_000, 1), (2, 2_000, 1)], 80, 1_001, 1_001),
     (

@@ -1,5 +1,5 @@
 //! Commits, deletions and cuts that are refused memory. What was asked comes back, the store shows
-//! what it showed, and the same call is then answered as if nothing had been.
+//! what it showed, and the same call is then answered as if nothing had happened.
 //! `tests/allocations.sh` runs this with each of its allocations refused in turn.
 
 ghost use Rattle.std.specs.Prelude.{◌≡◌, []};
@@ -11,7 +11,7 @@ use block::Block;
 use head::{CommitError, Event, HeadView, Snapshot};
 use labels::{LabelSet, Row, Sample, SeriesRef, is_time};
 use matchers::{Matcher, Op};
-use snapshots::{Appender, Naming, Pass, Store};
+use snapshots::{Appender, Naming, Open, OpenNaming, Pass, Store};
 use std::alloc::{AllocError, Global};
 use std::marker::Brand;
 use std::sync::Wait;
@@ -98,7 +98,7 @@ fn asked_of(alloc: Global, step: Step) -> Option<Asked> {
     }
 }
 
-/// The same, made again where memory was refused.
+/// The same, made again if memory was refused.
 fn asked_again(alloc: Global, step: Step) -> Option<Asked> {
     match asked_of(alloc, step) {
         None => asked_of(alloc, step),
@@ -121,7 +121,7 @@ fn gathered(alloc: Global, samples: Vec<(LabelSet, Sample)>) -> Option<Appender>
     Some(appender)
 }
 
-/// A batch that came back, gathered again; nothing where it is another.
+/// A batch that came back, gathered again, or nothing if it is another batch.
 fn same_batch(alloc: Global, appender: Appender, wanted: &[Wanted]) -> Option<Asked> {
     let samples = appender.into_event().into_batch()?;
     if are_samples(alloc, &samples, wanted) {
@@ -131,7 +131,7 @@ fn same_batch(alloc: Global, appender: Appender, wanted: &[Wanted]) -> Option<As
     }
 }
 
-/// Whether these are the one matcher of job `a`.
+/// Whether the only matcher is that of job `a`.
 fn are_job_a(matchers: &[Matcher]) -> bool {
     match matchers {
         [one] => one.name() == "job" && one.op() == Op::Equal && one.text() == "a",
@@ -169,7 +169,7 @@ fn same_commit(alloc: Global, appender: Appender, step: Step) -> Option<Asked> {
     }
 }
 
-/// What came back of a step, to be asked again; nothing where it is another thing.
+/// What came back of a step, to be asked again, or nothing if it is another thing.
 fn same(alloc: Global, asked: Asked, step: Step) -> Option<Asked> {
     match asked {
         Asked::Commit(appender) => same_commit(alloc, appender, step),
@@ -179,7 +179,7 @@ fn same(alloc: Global, asked: Asked, step: Step) -> Option<Asked> {
 }
 
 /// How many events the store has after a commit, or what came back.
-fn commit<J: Naming, R: Wait + Drop>(
+fn commit<J: OpenNaming, R: Wait + Drop>(
     rt: &impl Wait,
     store: &mut EmptyStore<J, R>,
     appender: Appender,
@@ -190,7 +190,7 @@ fn commit<J: Naming, R: Wait + Drop>(
     }
 }
 
-fn delete<J: Naming, R: Wait + Drop>(
+fn delete<J: OpenNaming, R: Wait + Drop>(
     rt: &impl Wait,
     store: &mut EmptyStore<J, R>,
     matchers: Vec<Matcher>,
@@ -209,7 +209,7 @@ fn delete<J: Naming, R: Wait + Drop>(
     }
 }
 
-fn cut<J: Naming, R: Wait + Drop>(
+fn cut<J: OpenNaming, R: Wait + Drop>(
     rt: &impl Wait,
     store: &mut EmptyStore<J, R>,
     at: i64,
@@ -223,7 +223,7 @@ fn cut<J: Naming, R: Wait + Drop>(
     }
 }
 
-fn ask<J: Naming, R: Wait + Drop>(
+fn ask<J: OpenNaming, R: Wait + Drop>(
     rt: &impl Wait,
     store: &mut EmptyStore<J, R>,
     asked: Asked,
@@ -275,7 +275,7 @@ fn parts_of(alloc: Global, snapshot: &Snapshot) -> Result<String, AllocError> {
     Ok(text)
 }
 
-/// The same, made again where memory was refused.
+/// The same, made again if memory was refused.
 fn parts_again(alloc: Global, snapshot: &Snapshot) -> Option<String> {
     match parts_of(alloc, snapshot) {
         Ok(text) => Some(text),
@@ -294,7 +294,8 @@ fn shows<J: Naming>(alloc: Global, pass: &mut Pass<J>, parts: &str) -> bool {
     }
 }
 
-/// Whether the store shows what it showed before a call, and the seat has published so many events.
+/// Whether the store shows what it showed before a call, and the seat has published this many
+/// events.
 fn is_left<J: Naming, R: Wait + Drop>(
     alloc: Global,
     store: &mut EmptyStore<J, R>,
@@ -306,7 +307,7 @@ fn is_left<J: Naming, R: Wait + Drop>(
 
 /// Whether what came back is what was asked, the store is left as it was, and the call is then
 /// made.
-fn is_made_again<J: Naming, R: Wait + Drop>(
+fn is_made_again<J: OpenNaming, R: Wait + Drop>(
     rt: &impl Wait,
     alloc: Global,
     store: &mut EmptyStore<J, R>,
@@ -323,9 +324,9 @@ fn is_made_again<J: Naming, R: Wait + Drop>(
     }
 }
 
-/// Whether a call is made. Where it was refused memory, all that it was made with comes back, the
+/// Whether a call is made. If it was refused memory, all that it was made with comes back, the
 /// store is left as it was, and the call is made again.
-fn is_made<J: Naming, R: Wait + Drop>(
+fn is_made<J: OpenNaming, R: Wait + Drop>(
     rt: &impl Wait,
     alloc: Global,
     store: &mut EmptyStore<J, R>,
@@ -350,7 +351,7 @@ fn number_of(made: Result<u64, (Asked, CommitError)>) -> Result<u64, CommitError
 }
 
 /// Whether a step is made, and the store then shows what it should.
-fn is_step<J: Naming, R: Wait + Drop>(
+fn is_step<J: OpenNaming, R: Wait + Drop>(
     rt: &impl Wait,
     alloc: Global,
     store: &mut EmptyStore<J, R>,
@@ -368,7 +369,7 @@ fn is_step<J: Naming, R: Wait + Drop>(
 
 /// How many steps are made, up to the first after which the store shows another thing than it
 /// should.
-fn count_made<J: Naming, R: Wait + Drop>(
+fn count_made<J: OpenNaming, R: Wait + Drop>(
     rt: &impl Wait,
     alloc: Global,
     store: &mut EmptyStore<J, R>,
@@ -385,12 +386,12 @@ fn count_made<J: Naming, R: Wait + Drop>(
     count
 }
 
-/// How many steps are made in a store of its own; `None` where it is refused memory.
+/// How many steps are made in a store of its own, or `None` if it is refused memory.
 fn count_in<J: Naming, R: Wait>(rt: &R, alloc: Global, store: Store) -> Option<usize>
     requires book { store.seen.book ≡ J.book }
     requires opening { opening_of [] ≡ J.opening }
 {
-    let mut store = open_empty::<J, &R>(rt, alloc, store)?;
+    let mut store = open_empty::<Open<J>, &R>(rt, alloc, store)?;
     Some(count_made(rt, alloc, &mut store))
 }
 

@@ -69,7 +69,7 @@ pub fn appender_of(alloc: Global, wanted: &[Wanted]) -> Option<Appender> {
     Some(appender)
 }
 
-/// A batch of these samples, where they are one.
+/// A batch of these samples, if they are one.
 fn batch_of(alloc: Global, wanted: &[Wanted]) -> Result<Event, CommitError> {
     let Some(samples) = samples_of(alloc, wanted) else {
         return Err(CommitError::Memory);
@@ -103,14 +103,14 @@ pub fn counted(alloc: Global, number: usize, from: i64, until: i64) -> Option<Ve
     Some(samples)
 }
 
-/// A snapshot with so many samples of the series 1, at the times from 0.
+/// A snapshot with this many samples of the series 1, at the times from 0.
 pub fn with_samples(alloc: Global, count: i64) -> Option<Snapshot> {
     let empty = empty(alloc).ok()?;
     let samples = counted(alloc, 1, 0, count)?;
     after(alloc, &empty, &samples).ok()
 }
 
-/// The one matcher of `{job="a"}`.
+/// The only matcher of `{job="a"}`.
 pub fn job_a(alloc: Global) -> Option<Vec<Matcher>> {
     let name = String::from_str(alloc, "job").ok()?;
     let text = String::from_str(alloc, "a").ok()?;
@@ -118,7 +118,7 @@ pub fn job_a(alloc: Global) -> Option<Vec<Matcher>> {
     Vec::from_array(alloc, [matcher]).ok()
 }
 
-/// Each pair, a space before it.
+/// Each pair, with a space before it.
 pub fn put_labels(text: &mut String, labels: &LabelSet) -> Result<(), AllocError> {
     for at in 0..labels.len() {
         let (name, value) = labels.pair(at);
@@ -127,7 +127,7 @@ pub fn put_labels(text: &mut String, labels: &LabelSet) -> Result<(), AllocError
     Ok(())
 }
 
-/// Each sample behind its time, a space before it.
+/// Each sample behind its time, with a space before it.
 pub fn put_samples(text: &mut String, samples: &[Sample]) -> Result<(), AllocError> {
     for sample in samples {
         write!(text, " {}:{}", sample.t(), sample.v())?;

@@ -13,7 +13,7 @@ const BATCH: &[u8] = b"\x01\x03\
     \x02\x08__name__\x02up\x03job\x01a\x01\x03\x00\
     \x01\x08__name__\x02up\x01\xDA\x04\x02";
 
-/// Of `up`, where the job is not `a` and the zone matches `x.*`, from -1 to 300.
+/// Of `up`, of which the job is not `a` and the zone matches `x.*`, from -1 to 300.
 const DELETION: &[u8] =
     b"\x02\x03\x00\x08__name__\x02up\x01\x03job\x01a\x02\x04zone\x03x.*\x01\xD8\x04";
 
@@ -98,7 +98,7 @@ fn each_fault_has_its_code(rt: HostRuntime) {
         )
     );
     assert!(rt; is_refused(alloc, b"\x02\x01\x04\x01a\x01a\x00\x00", TextError::Field));
-    // Names that fall, an empty value.
+    // Names that fall, and an empty value.
     let falls = b"\x01\x01\x02\x01b\x01x\x01a\x01x\x01\x00\x00";
     assert!(rt; is_refused(alloc, falls, TextError::Labels));
     assert!(rt;
@@ -112,7 +112,7 @@ fn each_fault_has_its_code(rt: HostRuntime) {
     assert!(rt; is_refused(alloc, b"\x01\x01\x00\x00", TextError::Runs));
     let twice = b"\x01\x02\x00\x01\x00\x00\x00\x01\x02\x00";
     assert!(rt; is_refused(alloc, twice, TextError::Runs));
-    // The time 2^62, which is the number 2^63; a range that ends before it begins.
+    // The time 2^62, which is the number 2^63, and a range that ends before it begins.
     let late = b"\x03\x80\x80\x80\x80\x80\x80\x80\x80\x80\x01";
     assert!(rt; is_refused(alloc, late, TextError::Bounds));
     assert!(rt; is_refused(alloc, b"\x02\x00\x02\x00", TextError::Bounds));

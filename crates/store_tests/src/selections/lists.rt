@@ -58,7 +58,7 @@ fn slice_leaves(alloc: Global, row: &Row) -> Option<bool> {
     Some(leaves(list_of(&references)?, row.1, row.2))
 }
 
-/// Targets that are sought one after another in 2, 5 and 9, and where the list then stands.
+/// Targets that are sought one after another in 2, 5 and 9, and where the list then is.
 const IN_TURN: &[(u32, Option<u32>)] = &[(5, Some(5)), (3, Some(5)), (10, None), (1, None)];
 
 #[test]

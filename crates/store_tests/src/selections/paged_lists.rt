@@ -24,7 +24,7 @@ fn the_example_of_the_first_page(rt: HostRuntime) -> Result<(), Fail> {
 /// A list now, and as it was.
 type Versions<E> = (PagedList<E, 16>, PagedList<E, 16>);
 
-/// So many pointers in a list.
+/// 200 pointers in a list.
 fn pointers(alloc: Global) -> Result<PagedList<Arc<u64>, 16>, AllocError> {
     let mut list = PagedList::new(alloc)?;
     for n in 0..200u64 {
@@ -44,7 +44,7 @@ fn with_another(alloc: Global) -> Option<Versions<Arc<u64>>> {
     Some((list, old))
 }
 
-/// What stands behind a pointer, or 0 where there is none.
+/// What is behind a pointer, or 0 if there is none.
 fn number_at(list: &PagedList<Arc<u64>, 16>, at: usize) -> u64 {
     match list.get(at) {
         Some(pointer) => **pointer,
@@ -52,7 +52,7 @@ fn number_at(list: &PagedList<Arc<u64>, 16>, at: usize) -> u64 {
     }
 }
 
-/// How many own a pointer, or 0 where there is none.
+/// How many own a pointer, or 0 if there is none.
 fn owners_at(list: &PagedList<Arc<u64>, 16>, at: usize) -> usize {
     match list.get(at) {
         Some(pointer) => Arc::strong_count(pointer),

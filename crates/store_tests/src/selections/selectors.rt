@@ -1,5 +1,5 @@
-//! Matchers and queries by worked rows, each with what is to be told of it. Texts of selectors
-//! stand in `case_files`.
+//! Matchers and queries by worked rows, each with what is to be reported of it. Texts of selectors
+//! are in `case_files`.
 
 use matchers::{Matcher, MatcherError, Op, Query, Selector, SelectorError};
 use std::alloc::Global;

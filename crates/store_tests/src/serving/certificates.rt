@@ -1,5 +1,5 @@
 //! Certificates of six series in a head, of a query without a matcher too: how often lists move.
-//! Others stand in `case_files`.
+//! Others are in `case_files`.
 
 use crate::serving::counting::Counting;
 use crate::serving::searches::six;
@@ -8,7 +8,7 @@ use head::HeadView;
 use matchers::{Query, Selector};
 use std::alloc::Global;
 
-/// A query by a selector; by no matcher where its text is empty.
+/// A query by a selector, or by no matcher if its text is empty.
 fn query(alloc: Global, text: &str, from: i64, to: i64) -> Option<Query> {
     let matchers = if text.is_empty() {
         Vec::new(alloc)
@@ -34,13 +34,13 @@ fn has(part: &PartCover, count: usize, last: Verdict) -> bool {
     }
 }
 
-/// Whether the moves that are told are those that were made; a seek to where a list stands already
-/// is told, and moves no list.
+/// Whether the moves that are reported are those that were made. A seek to where a list is already
+/// is reported, and moves no list.
 fn are_all(moves: &Moves, counting: &Counting<&HeadView>) -> bool {
     counting.moves.get() <= moves.of_lists && moves.of_live == counting.live_moves.get()
 }
 
-/// Whether the certificate of this head is so long and ends so, and all moves are told.
+/// Whether the certificate of this head has this length and this end, and all moves are reported.
 fn tells_all_moves(
     alloc: Global,
     head: &HeadView,

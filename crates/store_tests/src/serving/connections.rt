@@ -6,7 +6,7 @@ ghost use Rattle.head.specs.Blocks.{opening_of};
 use crate::serving::script::{Script, Sink};
 use crate::serving::store::{EmptyStore, open_empty};
 use query_http::{Served, serve_one};
-use snapshots::{Naming, Store};
+use snapshots::{Naming, Open, OpenNaming, Store};
 use std::alloc::Global;
 use std::marker::Brand;
 use std::sync::Wait;
@@ -15,9 +15,9 @@ use std::thread::Threads;
 /// More bytes than a reply of these tests has.
 const ROOM: usize = 2000;
 
-/// How a connection is served, in pieces of seven bytes, and what is written; nothing where there
-/// is no memory to write to.
-fn serve<J: Naming, R: Wait + Drop>(
+/// How a connection is served, in pieces of seven bytes, and what is written. There is nothing if
+/// there is no memory to write to.
+fn serve<J: OpenNaming, R: Wait + Drop>(
     rt: &(impl Wait + Threads + Sync),
     alloc: Global,
     store: &mut EmptyStore<J, R>,
@@ -54,8 +54,8 @@ fn serve<J: Naming, R: Wait + Drop>(
     Some((served, bytes))
 }
 
-/// The same, where a connection that is refused memory, and gets nothing, is made again.
-fn serve_again<J: Naming, R: Wait + Drop>(
+/// The same, but a connection that is refused memory, and gets nothing, is made again.
+fn serve_again<J: OpenNaming, R: Wait + Drop>(
     rt: &(impl Wait + Threads + Sync),
     alloc: Global,
     store: &mut EmptyStore<J, R>,
@@ -162,7 +162,7 @@ const SESSION: &[(&[u8], &[u8])] = &[
 ];
 
 /// Whether a request gets this reply.
-fn is_replied<J: Naming, R: Wait + Drop>(
+fn is_replied<J: OpenNaming, R: Wait + Drop>(
     rt: &(impl Wait + Threads + Sync),
     alloc: Global,
     store: &mut EmptyStore<J, R>,
@@ -176,7 +176,7 @@ fn is_replied<J: Naming, R: Wait + Drop>(
 }
 
 /// Whether each request of the session gets its reply.
-fn are_replied<J: Naming, R: Wait + Drop>(
+fn are_replied<J: OpenNaming, R: Wait + Drop>(
     rt: &(impl Wait + Threads + Sync),
     alloc: Global,
     store: &mut EmptyStore<J, R>,
@@ -189,7 +189,7 @@ fn are_replied<J: Naming, R: Wait + Drop>(
     true
 }
 
-/// The same of a store that is opened for it; nothing where none was opened.
+/// The same of a store that is opened for it, or nothing if none was opened.
 fn is_session<J: Naming, R: Wait + Threads + Sync>(
     rt: &R,
     alloc: Global,
@@ -198,11 +198,11 @@ fn is_session<J: Naming, R: Wait + Threads + Sync>(
     requires book { store.seen.book ≡ J.book }
     requires opening { opening_of [] ≡ J.opening }
 {
-    let mut store = open_empty::<J, &R>(rt, alloc, store)?;
+    let mut store = open_empty::<Open<J>, &R>(rt, alloc, store)?;
     Some(are_replied(rt, alloc, &mut store))
 }
 
-/// The same of a new store, which is opened again where that was refused memory.
+/// The same of a new store, which is opened again if that was refused memory.
 fn is_held<R: Wait + Threads + Sync>(rt: &R, alloc: Global) -> Option<bool> {
     match is_session::<Brand, R>(rt, alloc, Store::new()) {
         None => is_session::<Brand, R>(rt, alloc, Store::new()),

@@ -41,8 +41,8 @@ impl<'a, P: Postings> Postings for Tally<'a, P> {
     ghost two_seeks = { λ t a b. P.two_seeks t.list a b };
 }
 
-/// A part that counts the lists of pairs that it lends, the values that it tells, and the moves of
-/// its lists: those of live series apart from the others.
+/// A part that counts the lists of pairs that it lends, the values that it gives, and the moves of
+/// its lists. It counts those of live series apart from the others.
 #[derive(Drop)]
 pub struct Counting<S> {
     pub source: S,

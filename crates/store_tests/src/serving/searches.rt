@@ -1,5 +1,5 @@
-//! A store of six series, which lists a search of it walks, what its workers answer beside one
-//! thread, and what it answers where memory was refused.
+//! A store of six series, which lists a search of it walks, what its workers answer compared with
+//! one thread, and what it answers if memory was refused.
 
 use crate::serving::counting::Counting;
 use answers::{AuditedAnswer, answer, answer_by_workers, body};
@@ -59,7 +59,7 @@ pub fn after(alloc: Global, at: &Snapshot, samples: Vec<(LabelSet, Sample)>) -> 
     apply(alloc, at, &Event::batch(samples)).ok()
 }
 
-/// The snapshot after a sample more of each of the six series, at this time.
+/// The snapshot after a further sample of each of the six series, at this time.
 pub fn with_six(alloc: Global, at: &Snapshot, t: i64) -> Option<Snapshot> {
     let mut samples = Vec::new(alloc);
     for series in SERIES {
@@ -74,7 +74,7 @@ fn push_numbered(alloc: Global, samples: &mut Vec<(LabelSet, Sample)>, number: u
     push(alloc, samples, ("up", job.as_str(), ""), Sample::new(10, 1))
 }
 
-/// The snapshot after a sample more, at time 10, of each of so many series `up` whose jobs are
+/// The snapshot after a further sample, at time 10, of each of this many series `up` whose jobs are
 /// numbers.
 fn with_many(alloc: Global, at: &Snapshot, count: u32) -> Option<Snapshot> {
     let mut samples = Vec::new(alloc);
@@ -92,7 +92,7 @@ fn cut(alloc: Global, snapshot: &Snapshot, t: i64) -> Option<Snapshot> {
     apply(alloc, snapshot, &Event::cut(t)).ok()
 }
 
-/// The snapshot after a sample more of each of the six series, and a cut right after it.
+/// The snapshot after a further sample of each of the six series, and a cut right after it.
 fn with_block(alloc: Global, at: &Snapshot, t: i64) -> Option<Snapshot> {
     let more = with_six(alloc, at, t)?;
     cut(alloc, &more, t.saturating_add(5))
@@ -124,8 +124,8 @@ pub fn query(alloc: Global, selector: &str) -> Option<Query> {
     Query::new(matchers, 0, 1_000).ok()
 }
 
-/// Of a search over a head: how many lists of pairs were lent, how many values told, whether all
-/// lists moved no more often than is told, and how many rows there are.
+/// Of a search over a head: how many lists of pairs were lent, how many values were given, whether
+/// all lists moved no more often than is reported, and how many rows there are.
 type Walk = (u64, u64, bool, usize);
 
 /// What was walked until this answer.
@@ -167,7 +167,7 @@ fn text_of(alloc: Global, answer: Result<AuditedAnswer, AllocError>) -> Option<V
     body(alloc, answer.parts(), answer.rows()).ok()
 }
 
-/// Whether these are one text, of so many bytes at least.
+/// Whether these are one text, of at least this many bytes.
 fn are_one(one: Option<Vec<u8>>, other: Option<Vec<u8>>, least: usize) -> bool {
     match one.zip(other) {
         Some((one, other)) => one.as_slice() == other.as_slice() && one.len() > least,
@@ -183,8 +183,8 @@ pub fn is_text(made: Option<Vec<u8>>, want: &str) -> bool {
     }
 }
 
-/// Whether workers answer `up` with the text that one thread gives, and it is longer than so many
-/// rows: each stands in it twice, of forty bytes at least.
+/// Whether workers answer `up` with the text that one thread gives, and it is longer than this many
+/// rows. Each row is in it twice, of at least forty bytes.
 fn is_answered<R: Threads + Sync>(
     rt: &R,
     alloc: Global,
@@ -211,7 +211,7 @@ pub const ONE: &str = r#"down{job="a"}"#;
 const MERGED: &str =
     r#""rows":[{"labels":{"__name__":"down","job":"a"},"samples":[[0,0],[10,10]]}]}"#;
 
-/// Two blocks, made again where memory was refused.
+/// Two blocks, made again if memory was refused.
 fn blocks_again(alloc: Global) -> Option<Snapshot> {
     match blocks(alloc, 2) {
         None => blocks(alloc, 2),
@@ -219,7 +219,7 @@ fn blocks_again(alloc: Global) -> Option<Snapshot> {
     }
 }
 
-/// The query, made again where memory was refused.
+/// The query, made again if memory was refused.
 fn query_again(alloc: Global) -> Option<Query> {
     match query(alloc, ONE) {
         None => query(alloc, ONE),
@@ -228,7 +228,7 @@ fn query_again(alloc: Global) -> Option<Query> {
 }
 
 /// The text of the answer over the two blocks. The blocks, the query and the text are each made
-/// again where memory was refused.
+/// again if memory was refused.
 fn text_again<R: Threads + Sync>(rt: &R, alloc: Global) -> Option<Vec<u8>> {
     let (snapshot, query) = blocks_again(alloc).zip(query_again(alloc))?;
     match text_of(alloc, answer_by_workers(rt, alloc, &snapshot, &query)) {
@@ -245,7 +245,7 @@ fn an_answer_refused_memory_is_the_same_when_asked_for_again(rt: HostRuntime) {
     assert!(rt; text.ends_with(MERGED.as_bytes()));
 }
 
-/// Holds the first part until the second is reached, for at most so many turns.
+/// Holds the first part until the second is reached, for at most `TURNS` turns.
 #[derive(Drop)]
 struct Meeting {
     second: AtomicU64,

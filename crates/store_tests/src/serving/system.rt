@@ -5,7 +5,7 @@ ghost use Rattle.head.specs.Blocks.{opening_of};
 
 use guard::Rules;
 use server::{Listeners, Terms, Workers, serve};
-use snapshots::{Naming, Store};
+use snapshots::{Naming, Open, OpenNaming, Store};
 use std::alloc::Global;
 use std::io::{Read, Write};
 use std::marker::Brand;
@@ -18,7 +18,7 @@ fn connect<R: Net<Stream = TcpStream>>(rt: &R, port: u16) -> Option<TcpStream> {
     TcpStream::connect(rt, ("127.0.0.1", port)).ok()
 }
 
-/// As many clients that say nothing.
+/// This many clients that say nothing.
 fn connect_silent<R: Net<Stream = TcpStream>>(
     rt: &R,
     alloc: Global,
@@ -59,7 +59,7 @@ fn ask_each<R: Net<Stream = TcpStream>>(
     Some(replies)
 }
 
-/// The same, while so many clients stay silent.
+/// The same, while this many clients stay silent.
 fn ask_all<R: Net<Stream = TcpStream>>(
     rt: &R,
     alloc: Global,
@@ -73,7 +73,7 @@ fn ask_all<R: Net<Stream = TcpStream>>(
 
 /// Whether the workers all ended.
 fn serve_all<
-    J: Naming + Send + Sync,
+    J: OpenNaming + Send + Sync,
     C: Wait + Drop + Send + Sync,
     R: Threads + Wait + Clock + Eprint + Sync,
 >(rt: &R, alloc: Global, workers: Workers<J, C>, listener: &TcpListener) -> bool {
@@ -90,9 +90,9 @@ fn serve_all<
     serve(rt, alloc, workers, listeners, &rules, terms).is_ok()
 }
 
-/// The replies to these requests, asked by a thread beside the workers, if these all ended.
+/// The replies to these requests, asked by a thread beside the workers, if the workers all ended.
 fn serve_beside<
-    J: Naming + Send + Sync,
+    J: OpenNaming + Send + Sync,
     C: Wait + Drop + Send + Sync,
     R: Threads + Wait + Clock + Eprint + Net<Stream = TcpStream> + Sync,
 >(
@@ -120,7 +120,7 @@ fn port_of(listener: &TcpListener) -> Option<u16> {
 }
 
 /// The replies to these requests by two workers of an empty store, of two connections each, while
-/// so many clients stay silent.
+/// this many clients stay silent.
 fn replies_of_two<
     J: Naming + Send + Sync,
     R: Threads + Wait + Clock + Eprint + Net<Stream = TcpStream> + Sync,
@@ -135,7 +135,7 @@ fn replies_of_two<
     requires opening { opening_of [] ≡ J.opening }
 {
     let port = port_of(listener)?;
-    let workers = Workers::<J, &R>::open(rt, alloc, store, Vec::new(alloc), 2, 2).ok()?;
+    let workers = Workers::<Open<J>, &R>::open(rt, alloc, store, Vec::new(alloc), 2, 2).ok()?;
     serve_beside(rt, alloc, workers, listener, port, asked)
 }
 
@@ -174,8 +174,8 @@ fn is_replied<R: Threads + Wait + Clock + Eprint + Net<Stream = TcpStream> + Syn
     }
 }
 
-/// Two workers serve one store; and two clients that say nothing hold no worker for ever, where one
-/// asks twice.
+/// Two workers serve one store. Two clients that say nothing hold no worker for ever while another
+/// client asks twice.
 #[test]
 fn two_workers_serve_one_store_and_silent_clients_hold_none_for_ever(rt: HostRuntime) {
     let listener = TcpListener::bind(&rt, "127.0.0.1:0").ok();

@@ -7,7 +7,7 @@ use crate::serving::searches::{is_text, labels, query};
 use crate::serving::store::last;
 use answers::{ask, body};
 use labels::Sample;
-use snapshots::{Appender, Committer, Naming, Pass, Receipt, Seat, Store};
+use snapshots::{Appender, Committer, Naming, Open, OpenNaming, Pass, Receipt, Seat, Store};
 use std::alloc::Global;
 use std::marker::Brand;
 use std::sync::Wait;
@@ -38,11 +38,11 @@ const SECOND: &[Wanted] = &[
 
 const ASKED: &str = r#"up{job="a"}"#;
 
-/// The answer where the first batch was published first.
+/// The answer if the first batch was published first.
 const FIRST_THEN_SECOND: &str =
     r#"{"parts":[{"intervals":[{"from":1,"until":2,"verdict":"match"},{"from":2,"until":4,"verdict":1},{"from":4,"until":6,"verdict":0},{"from":6,"until":4294967296,"verdict":"match"}],"part":"head","rows":[{"labels":{"__name__":"up","job":"a"},"samples":[[10,1],[20,1]]},{"labels":{"__name__":"up","job":"a","zone":"x"},"samples":[[10,6],[20,6]]}],"separators":[1,2,4,6]}],"rows":[{"labels":{"__name__":"up","job":"a"},"samples":[[10,1],[20,1]]},{"labels":{"__name__":"up","job":"a","zone":"x"},"samples":[[10,6],[20,6]]}]}"#;
 
-/// The answer where the second batch was published first.
+/// The answer if the second batch was published first.
 const SECOND_THEN_FIRST: &str =
     r#"{"parts":[{"intervals":[{"from":1,"until":3,"verdict":0},{"from":3,"until":4,"verdict":"match"},{"from":4,"until":5,"verdict":"match"},{"from":5,"until":4294967296,"verdict":1}],"part":"head","rows":[{"labels":{"__name__":"up","job":"a"},"samples":[[10,1],[20,1]]},{"labels":{"__name__":"up","job":"a","zone":"x"},"samples":[[10,6],[20,6]]}],"separators":[1,3,4,5]}],"rows":[{"labels":{"__name__":"up","job":"a"},"samples":[[10,1],[20,1]]},{"labels":{"__name__":"up","job":"a","zone":"x"},"samples":[[10,6],[20,6]]}]}"#;
 
@@ -59,7 +59,7 @@ fn appender_of(alloc: Global, wanted: &[Wanted]) -> Option<Appender> {
 /// What a thread commits, and from which seat.
 type Job<J> = (Seat<J>, Appender);
 
-fn commit_as<J: Naming, C: Wait + Drop>(
+fn commit_as<J: OpenNaming, C: Wait + Drop>(
     rt: &impl Wait,
     committer: &Committer<J, C>,
     job: Job<J>,
@@ -68,8 +68,8 @@ fn commit_as<J: Naming, C: Wait + Drop>(
     committer.commit(rt, &mut seat, appender).ok()
 }
 
-/// The receipts of two threads, each of which does one of the jobs.
-fn commit_both<J: Naming + Send + Sync, C: Wait + Drop + Send + Sync, R: Threads + Wait + Sync>(
+/// The receipts of two threads, each of which does one job.
+fn commit_both<J: OpenNaming + Send + Sync, C: Wait + Drop + Send + Sync, R: Threads + Wait + Sync>(
     rt: &R,
     committer: &Committer<J, C>,
     first: Job<J>,
@@ -90,7 +90,7 @@ fn job_of<J: Naming>(alloc: Global, seats: &mut Vec<Seat<J>>, wanted: &[Wanted])
 
 /// The receipts of both batches, each committed from one of two seats.
 fn receipts_of_both<
-    J: Naming + Send + Sync,
+    J: OpenNaming + Send + Sync,
     C: Wait + Drop + Send + Sync,
     R: Threads + Wait + Sync,
 >(
@@ -136,9 +136,9 @@ fn is_answered_after_both<J: Naming + Send + Sync, R: Threads + Wait + Sync>(
     requires book { store.seen.book ≡ J.book }
     requires opening { opening_of [] ≡ J.opening }
 {
-    let opened = store.open::<J, &R>(rt, alloc, Vec::new(alloc), 1, 2);
+    let opened = store.open::<Open<J>, &R>(rt, alloc, Vec::new(alloc), 1, 2);
     let (committer, passes, seats) = opened.ok()?;
-    let receipts = receipts_of_both::<J, &R, R>(rt, alloc, &committer, seats);
+    let receipts = receipts_of_both::<Open<J>, &R, R>(rt, alloc, &committer, seats);
     let (mut pass, receipts) = last(passes).zip(receipts)?;
     Some(is_answered(alloc, &mut pass, &receipts))
 }

@@ -2,7 +2,7 @@
 
 use requests::Refusal;
 
-/// The reply where the store lends no snapshot.
+/// The reply if the store lends no snapshot.
 const UNAVAILABLE: &[u8] =
     b"HTTP/1.1 503 Service Unavailable\r\nContent-Type: application/json\r\nContent-Length: 17\r\nConnection: close\r\n\r\n{\"refused\":\"H10\"}";
 

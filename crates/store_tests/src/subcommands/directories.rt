@@ -5,7 +5,7 @@ ghost use Rattle.std.specs.Prelude.{◌≡◌};
 use commands::{ReadError, ReadFiles};
 use std::alloc::{AllocError, Global};
 
-/// The bytes of a file, piece after piece; a file without a piece is not there.
+/// The bytes of a file, piece after piece. A file without a piece is not there.
 type Pieces = &'static [&'static [u8]];
 
 /// A directory's name, and its files: the meta, the index, the chunks and the tombstones.
@@ -60,11 +60,11 @@ const META: Pieces = &[br#"{"minTime":0,"maxTime":20,"version":1}"#];
 
 const NOTHING_DELETED: Pieces = &[b"\x01\x30\xBA\x30\x01\0\0\0\0"];
 
-/// Of the indexes of two blocks of one series, `up{job="a"}` at 3: what stands before its entry.
+/// Of the indexes of two blocks of one series, `up{job="a"}` at 3: what comes before its entry.
 const ONE_SYMBOLS: &[u8] =
     b"\xBA\xAA\xD7\0\x02\0\0\0\x16\0\0\0\x04\x08__name__\x01a\x03job\x02up\x4C\x53\x9A\x65\0\0\0\0\0\0\0\0\0\0\0\0\0";
 
-/// Three lists of the one series.
+/// Three lists of this series.
 const ONE_LISTS: &[u8] =
     b"\0\0\0\x08\0\0\0\x01\0\0\0\x03\xA7\x69\x2E\xD2\0\0\0\x08\0\0\0\x01\0\0\0\x03\xA7\x69\x2E\xD2\0\0\0\x08\0\0\0\x01\0\0\0\x03\xA7\x69\x2E\xD2";
 

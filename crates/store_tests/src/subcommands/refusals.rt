@@ -26,7 +26,7 @@ enum Batch {
     Second,
 }
 
-/// The store after a batch more.
+/// The store after a further batch.
 fn after(alloc: Global, at: &Snapshot, batch: &Batch) -> Option<Snapshot> {
     let appender = match batch {
         Batch::First => first_batch(alloc),
@@ -57,7 +57,7 @@ fn text_of(alloc: Global, store: &Snapshot, from: i64, to: i64) -> Option<Vec<u8
     body(alloc, answer.parts(), answer.rows()).ok()
 }
 
-/// Whether a store answers with this text, if not when first asked, then when asked again.
+/// Whether a store answers with this text, when it is first asked or when it is asked again.
 fn tells(alloc: Global, store: &Snapshot, from: i64, to: i64, text: &str) -> bool {
     let told = match text_of(alloc, store, from, to) {
         None => text_of(alloc, store, from, to),
@@ -103,7 +103,7 @@ fn is_unwritten<
     }
 }
 
-/// Whether a run whose fault cannot be told keeps its status.
+/// Whether a run whose fault cannot be reported keeps its status.
 fn is_untold<
     Q: Wait + Threads + Net<Listener = TcpListener, Stream = TcpStream> + Clock + Eprint + Sync,
 >(rt: &Q, alloc: Global) -> bool {
@@ -133,7 +133,7 @@ fn a_writer_that_refuses_is_told_and_a_fault_that_cannot_be_told_keeps_its_statu
 const A_THEN_B: &str =
     "{\"parts\":[{\"intervals\":[{\"from\":3,\"until\":4294967296,\"verdict\":\"match\"}],\"part\":\"block 0\",\"rows\":[{\"labels\":{\"__name__\":\"up\",\"job\":\"a\"},\"samples\":[[10,1],[15,2]]}],\"separators\":[3]},{\"intervals\":[{\"from\":3,\"until\":4294967296,\"verdict\":\"match\"}],\"part\":\"block 1\",\"rows\":[{\"labels\":{\"__name__\":\"up\",\"job\":\"a\"},\"samples\":[[10,9]]}],\"separators\":[3]},{\"intervals\":[],\"part\":\"head\",\"rows\":[],\"separators\":[]}],\"rows\":[{\"labels\":{\"__name__\":\"up\",\"job\":\"a\"},\"samples\":[[10,9],[15,2]]}]}\n";
 
-/// How a run ends that was refused memory once, or whose writer was: it is told.
+/// How a run ends that was refused memory once, or whose writer was. It is reported.
 fn is_refusal(told: &Told) -> bool {
     match told.status {
         3 => told.err.as_slice() == b"cannot write\n".as_slice(),
@@ -142,8 +142,8 @@ fn is_refusal(told: &Told) -> bool {
     }
 }
 
-/// Whether a run with these words writes this line, if not at first, where memory is refused, then
-/// when it is made again.
+/// Whether a run with these words writes this line. If memory is refused at first, it writes the
+/// line when it is made again.
 fn is_run_again<
     Q: Wait + Threads + Net<Listener = TcpListener, Stream = TcpStream> + Clock + Eprint + Sync,
 >(rt: &Q, alloc: Global, words: &[&str], line: &str) -> bool {

@@ -20,7 +20,7 @@ fn given_of(alloc: Global, words: &[&str]) -> Result<Vec<String>, AllocError> {
     Ok(given)
 }
 
-/// How a run ends, which writes to these writers.
+/// How a run that writes to these writers ends.
 pub fn ending_of<
     Q: Wait + Threads + Net<Listener = TcpListener, Stream = TcpStream> + Clock + Eprint + Sync,
     F: ReadFiles,

@@ -20,7 +20,7 @@ pub enum Wish {
 }
 
 /// Commits, deletions and cuts. The deletions take the newest sample of a series, with others left
-/// in the head and with none, samples of one block or of two, and samples of the head; the cuts
+/// in the head and with none, samples of one block or of two, and samples of the head. The cuts
 /// leave a series without samples in the head, and move others out of it.
 pub const SESSION: &[Wish] = &[
     Wish::Batch(&[
@@ -46,8 +46,8 @@ pub const SESSION: &[Wish] = &[
     Wish::Batch(&[("c", 95, 4), ("b", 95, 2)]),
 ];
 
-/// Samples of a value that no other has, between the times of the others: which of them a store
-/// takes tells its floor and the newest samples of its series, also of those that were deleted.
+/// Samples of a value that no other has, between the times of the others. Which of them a store
+/// takes shows its floor and the newest samples of its series, also of those that were deleted.
 pub const PROBES: &[Wish] = &[
     Wish::Batch(&[("a", 15, 77)]),
     Wish::Batch(&[("a", 30, 77)]),

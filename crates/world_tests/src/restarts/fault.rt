@@ -7,7 +7,7 @@ pub enum Fault {
     Session,
     /// The answer of the step with this number.
     Answer(usize),
-    /// A start, in the step with this number, from what a crash leaves after so many changes of the
-    /// folder, with so many bytes that were not synced.
+    /// A start, in the step with this number, from what a crash leaves after this many changes of
+    /// the folder, with this many bytes that were not synced.
     Start(usize, usize, usize),
 }

@@ -59,8 +59,8 @@ impl<K: Keeper + Drop> Running<K> {
         apply(alloc, &self.snapshot, event).ok()
     }
 
-    /// Keeps an event, and publishes what it makes after that, as the book of a store does. Where
-    /// it is not kept, nothing is published.
+    /// Keeps an event, and publishes what it makes after that, as the book of a store does. If it
+    /// is not kept, nothing is published.
     pub fn commit(&mut self, alloc: Global, event: &Event) -> Result<(), KeepError> {
         let Ok(next) = apply(alloc, &self.snapshot, event) else {
             return Err(KeepError::Memory);

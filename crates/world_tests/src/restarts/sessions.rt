@@ -63,7 +63,7 @@ impl Ended {
     }
 }
 
-/// What was so before a step.
+/// The state before a step.
 #[derive(Clone, Copy)]
 struct Before {
     number: usize,
@@ -82,8 +82,8 @@ impl Before {
         }
     }
 
-    /// How the step was answered. It has to be done where no call failed and the store was open;
-    /// and where the store was closed nothing may be done.
+    /// How the step was answered. It has to be done if no call failed and the store was open. If
+    /// the store was closed, nothing may be done.
     fn answer<N: Beginning>(self, store: &Store<N>, is_done: bool) -> Result<Answer, Fault> {
         let has_failed = store.folder().to_fail() < self.to_fail;
         let has_changed = store.folder().entries() != self.changes;
@@ -104,7 +104,7 @@ fn text_of(alloc: Global, at: &Snapshot) -> Result<String, Fault> {
     }
 }
 
-/// What the snapshot of a store would tell after an event.
+/// What the snapshot of a store would have after an event, as text.
 fn text_after<N: Beginning>(alloc: Global, store: &Store<N>, wish: Wish) -> Result<String, Fault> {
     let Some(event) = event_of(alloc, wish) else {
         return Err(Fault::Session);
@@ -123,7 +123,7 @@ fn is_kept<N: Beginning>(alloc: Global, store: &mut Store<N>, wish: Wish) -> Res
     Ok(store.commit(alloc, &event).is_ok())
 }
 
-/// Commits an event, and looks at each crash meanwhile. How many starts that takes.
+/// Commits an event, and looks at each crash meanwhile. Returns how many starts that takes.
 fn commit<N: Beginning>(
     alloc: Global,
     store: &mut Store<N>,
@@ -146,7 +146,7 @@ fn commit<N: Beginning>(
     step.look(alloc, store.folder(), from)
 }
 
-/// Looks at each crash while the store is saved, which changes nothing that a start tells.
+/// Looks at each crash while the store is saved, which changes nothing that a start reports.
 fn look_at_roll<N: Beginning>(
     alloc: Global,
     store: &Store<N>,
@@ -219,8 +219,8 @@ fn look_at_begin(
     step.look(alloc, folder, from)
 }
 
-/// Runs a session over a folder of which so many calls go well, and then so many fail; looks at
-/// each crash in it that comes after at least so many changes.
+/// Runs a session over a folder of which `before` calls go well, and then `failing` calls fail.
+/// Looks at each crash in it that comes after at least `from` changes.
 pub fn run_session<N: Beginning>(
     alloc: Global,
     before: u64,

@@ -38,7 +38,7 @@ fn resume<N: Beginning, F: Folder + Drop>(
     }
 }
 
-/// What a start tells of what was found in a folder; `None` if it is refused.
+/// What a start reports of what was found in a folder, or `None` if it is refused.
 fn told_of<N: Beginning, F: Folder + Drop>(
     alloc: Global,
     folder: F,
@@ -53,7 +53,7 @@ fn told_of<N: Beginning, F: Folder + Drop>(
     tell(alloc, store.snapshot())
 }
 
-/// What a start tells of a folder: no text if it has no store, `None` if it is refused.
+/// What a start reports of a folder: no text if it has no store, and `None` if it is refused.
 fn told<F: Folder + Drop>(alloc: Global, folder: F) -> Option<String>
     requires { F.sound folder ≡ true }
 {
@@ -65,7 +65,7 @@ fn told<F: Folder + Drop>(alloc: Global, folder: F) -> Option<String>
     }
 }
 
-/// Whether a store takes one event more, and a start finds it.
+/// Whether a store takes a further event, and a start finds it.
 fn takes_more<N: Beginning>(alloc: Global, store: &mut Store<N>) -> Option<bool> {
     let event = event_of(alloc, ONE_MORE)?;
     store.commit(alloc, &event).ok()?;
@@ -76,7 +76,7 @@ fn takes_more<N: Beginning>(alloc: Global, store: &mut Store<N>) -> Option<bool>
     Some(found.as_str() == after.as_str())
 }
 
-/// What a start tells of what was found in a folder, and goes on with; else `None`.
+/// What a start reports of what was found in a folder, and goes on with, or else `None`.
 fn go_on<N: Beginning>(alloc: Global, folder: LoggedFolder, found: FoundStore) -> Option<String>
     requires sound { logged_sound folder ≡ true }
     requires found { IsFoundStore ⟦<LoggedFolder as Folder>⟧.shows
@@ -91,8 +91,8 @@ fn go_on<N: Beginning>(alloc: Global, folder: LoggedFolder, found: FoundStore) -
     None
 }
 
-/// What a start tells of a folder, and goes on with: no text if it has no store, `None` if it is
-/// refused, or does not go on.
+/// What a start reports of a folder, and goes on with: no text if it has no store, and `None` if it
+/// is refused, or does not go on.
 pub fn start(alloc: Global, folder: LoggedFolder) -> Option<String>
     requires { logged_sound folder ≡ true }
 {

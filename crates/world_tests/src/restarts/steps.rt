@@ -16,23 +16,23 @@ pub enum Answer {
     Closed,
 }
 
-/// A step: what a start tells before it, and after it if it is done.
+/// A step: what a start reports before it, and after it if it is done.
 #[derive(Drop)]
 pub struct Step {
     /// Its number in the session.
     pub number: usize,
     /// After how many changes of the folder the first crash in it comes.
     pub first: usize,
-    /// What a start tells if nothing of it is there.
+    /// What a start reports if nothing of the step is there.
     pub before: String,
-    /// What a start tells if all of it is there.
+    /// What a start reports if all of the step is there.
     pub after: String,
     /// How it was answered.
     pub answer: Answer,
 }
 
 impl Step {
-    /// Whether a start may tell this after a crash in the step, or else after its answer.
+    /// Whether a start may report this after a crash in the step, or else after its answer.
     fn allows(&self, is_answered: bool, told: &str) -> bool {
         let is_before = told == self.before.as_str();
         let is_after = told == self.after.as_str();
@@ -43,8 +43,8 @@ impl Step {
         }
     }
 
-    /// Looks at what a start makes of what a crash leaves after so many changes, with so many bytes
-    /// that were not synced.
+    /// Looks at what a start makes of what a crash leaves after this many changes, with this many
+    /// bytes that were not synced.
     fn look_at(
         &self,
         alloc: Global,
@@ -65,8 +65,8 @@ impl Step {
         Err(fault)
     }
 
-    /// Looks at a crash after so many changes: with none of the bytes that were not synced, one,
-    /// half of them, all but one, and all. How many starts that takes.
+    /// Looks at a crash after this many changes: with none of the bytes that were not synced, one,
+    /// half of them, all but one, and all. Returns how many starts that takes.
     fn look_after(
         &self,
         alloc: Global,
@@ -84,8 +84,8 @@ impl Step {
         Ok(5)
     }
 
-    /// Looks at each crash in the step and after it that comes after at least so many changes. How
-    /// many starts that takes.
+    /// Looks at each crash in the step and after it that comes after at least `from` changes.
+    /// Returns how many starts that takes.
     pub fn look(&self, alloc: Global, folder: &LoggedFolder, from: usize) -> Result<usize, Fault> {
         let mut starts = 0usize;
         for entries in from.max(self.first)..=folder.entries() {

@@ -6,8 +6,8 @@ use std::alloc::Global;
 use std::marker::Brand;
 use std::test::Fail;
 
-/// A session of which so many calls go well, and then so many fail, from the crash on that comes
-/// after so many changes.
+/// A session of which `before` calls go well, and then `failing` calls fail, from the crash on that
+/// comes after `from` changes.
 fn run(alloc: Global, before: u64, failing: u64, from: usize) -> Result<Ended, Fault> {
     run_session::<Brand>(alloc, before, failing, from)
 }
@@ -17,8 +17,8 @@ fn run_whole(alloc: Global) -> Result<Ended, Fault> {
     run(alloc, u64::MAX, 0, 0)
 }
 
-/// All sessions of which so many calls fail, after at most so many that go well. A crash before the
-/// first of them is one of the session in which none fails.
+/// All sessions of which `failing` calls fail, after at most `most` that go well. A crash before
+/// the first that fails is also a crash of the session in which none fails.
 fn run_each(alloc: Global, most: usize, failing: u64) -> Result<Ended, Fault> {
     let mut all = Ended::nothing();
     for before in 0..=most {

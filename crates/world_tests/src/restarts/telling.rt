@@ -1,4 +1,4 @@
-//! What a snapshot has, as text: two snapshots are alike where these are.
+//! What a snapshot has, as text. Two snapshots are alike if their texts are.
 
 use crate::restarts::events::{PROBES, Wish, event_of};
 use head::{SavedSeries, Snapshot, apply};

@@ -8,4 +8,5 @@ ghosts-hold g a = record {
   book = a.store.seen.book;
   opening = opening_of (map part_in a.blocks.items);
   before = [];
+  asked = λ event seat place. Unit {0};
 }

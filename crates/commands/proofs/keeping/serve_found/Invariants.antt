@@ -6,4 +6,5 @@ ghosts-serve_kept g a = record {
   book = a.store.seen.book;
   opening = a.kept.snapshot;
   before = a.kept.journal.events.items;
+  asked = λ event seat place. Unit {0};
 }

@@ -1,21 +1,29 @@
-use Rattle.std.proofs.Common.{◌≡◌, List, ℕ, ◌++◌, ap, length, rules, ◌∙◌}
-use Rattle.event_journal.specs.Holding.{contents_with}
-use Rattle.head_record.specs.Spelling.{head_texts}
+use Rattle.std.proofs.Common.{◌≡◌, [], List, ℕ, ◌++◌, ap, length, rules, ◌∙◌}
+use Rattle.event_journal.specs.Holding.{Stands}
 use Rattle.journal.specs.Records.{file_of}
-use Rattle.store_folder.specs.Journals.{IsJournalOf}
-use Rattle.commands.specs.Listing.{head_line}
-use Rattle.commands.proofs.Listings.{summed_up}
+use Rattle.store_folder.specs.Journals.{IsFoundJournal}
+use Rattle.commands.specs.Listing.{head_line, summary_line}
+use Rattle.commands.proofs.Listings.{plain_summed_up, summed_up}
 use Rattle.commands.proofs.listing.listing_of.Goals as goal
 
 pub returns-clause-ok : goal.returns-clause-ok
 returns-clause-ok c =
     let found = c.in_ok-found-2.found in
-    let is : IsJournalOf c.args.file.now found.head found.events.items = search rules in
-    let counted : found.len
-    ≡ length (file_of (contents_with (head_texts found.head) found.events.items)) = search rules in
+    let j : IsFoundJournal c.args.file.now found = search rules in
     let events = c.in_ok-append_events-2.ensures in
     summed_up c.args.file.now found.head found.events.items found.len events.0
-    c.append_head.new.out.items c.append_events-2.new.text.items is counted events.1
+    c.append_head.new.out.items c.append_events-2.new.text.items j.is j.counted events.1
     (c.in_ok-append_head.ensures
     ∙ ap (λ (text : List ℕ). text ++ head_line found.head) c.new-text.ensures.items)
     events.2
+
+pub returns-then-begins_plain-clause-ok : goal.returns-then-begins_plain-clause-ok
+returns-then-begins_plain-clause-ok c =
+    let found = c.in_ok-found.found in
+    let file = c.args.file.now in
+    let s : (stands : Stands [] file found.events.items)
+    × (found.len ≡ length (file_of stands.contents)) = search rules in
+    let events = c.in_ok-append_events.ensures in
+    let rest = events.0 ++ summary_line (length found.events.items) found.len (length file) in
+    plain_summed_up file found.events.items found.len events.0 c.append_events.new.text.items s.0
+    s.1 events.1 (events.2 ∙ ap (λ (text : List ℕ). text ++ rest) c.new-text.ensures.items)

@@ -7,12 +7,12 @@ use Rattle.snapshots.proofs.Growing.{admits}
 use Rattle.snapshots.proofs.store.passes_of.Goals as goal
 
 pub reader-requires : goal.reader-requires
-reader-requires g c = admits g.J.Naming.book g.J.Naming.opening
+reader-requires g c = admits g.J.Naming.book g.J.Naming.opening g.J.Naming.asked
 
 pub loop-i-preserved : goal.loop-i-preserved
 loop-i-preserved g c =
     let told : c.of.result ≡ nothing =
-    c.of.ensures ∙ ap (λ (l : List Mark). record { seen = []; told = accepted l }) (c.share.ensures ∙ c.requires) in
+    c.of.ensures ∙ ap (λ (l : List Mark). record { seen = []; told = accepted l }) (c.share.ensures.same ∙ c.requires) in
     let items : c.push.new.self.items ≡ c.loop-i.passes.items ++ c.of.result ∷ [] = search rules in (
       search rules,
       rw items (All-push (λ (p : Known). p ≡ nothing) c.loop-i.passes.items c.of.result c.loop-i.invariant.1 told),

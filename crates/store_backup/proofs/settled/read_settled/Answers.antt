@@ -85,3 +85,20 @@ returns-clause-told g c =
     let f = g.F.Folder in
     of_start f.shows f.kept f.failed c.read_store-read.new.folder c.in-Err-read.error
     c.in-Err-read.ensures.refused
+
+-- whatever was read of the other view
+
+pub returns-in-Err-journal_of-clause-untouched : goal.returns-in-Err-journal_of-clause-untouched
+returns-in-Err-journal_of-clause-untouched g c =
+    let f = g.F.Folder in
+    untouched_on f.shows f.kept f.moment f.left_since g.met.F.Folder.earlier c.args.source.now
+    c.journal_of.new.folder c.read_store-read.new.folder c.journal_of.ensures.untouched
+    c.read_store-read.ensures.untouched
+
+pub returns-then-not-starts_with-clause-untouched :
+    goal.returns-then-not-starts_with-clause-untouched
+returns-then-not-starts_with-clause-untouched g c =
+    let f = g.F.Folder in
+    untouched_on f.shows f.kept f.moment f.left_since g.met.F.Folder.earlier c.args.source.now
+    c.journal_of.new.folder c.read_store-read.new.folder c.journal_of.ensures.untouched
+    c.read_store-read.ensures.untouched

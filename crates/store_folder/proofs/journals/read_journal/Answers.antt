@@ -1,41 +1,25 @@
-use Rattle.std.proofs.Common.{ℕ, List, length, ap, sym, ◌∙◌, ◌-◌}
-use Rattle.std.proofs.lemmas.Result.{IfOk-weaker, IfErr-weaker}
-use Rattle.event_journal.specs.Holding.{contents_with}
+use Rattle.std.proofs.Common.{◌++◌}
+use Rattle.std.proofs.lemmas.Result.{IfErr-weaker}
 use Rattle.head_record.specs.Spelling.{head_texts}
 use Rattle.journal.specs.Contents.{contents_in}
-use Rattle.journal.specs.Records.{file_of}
-use Rattle.store_folder.proofs.OpenedBlocks.{ok_and}
-use Rattle.store_folder.proofs.Contents.{contents_of, denies_journal, denies_records, journal_of}
+use Rattle.store_folder.proofs.Contents.{contents_of, denies_journal, denies_records, journal_given}
 use Rattle.store_folder.proofs.journals.read_journal.Goals as goal
 
 pub returns-in-Ok-clause-found : goal.returns-in-Ok-clause-found
 returns-in-Ok-clause-found c =
-    IfOk-weaker c.of_recovered.result _ _
-    (λ j h. journal_of c.args.file.now (contents_in c.in-Ok.recovered.contents.items) j.head
-    j.events.items c.in-Ok.ensures.found h) c.of_recovered.ensures.found
-
-pub returns-in-Ok-clause-len : goal.returns-in-Ok-clause-len
-returns-in-Ok-clause-len c =
-    ok_and c.of_recovered.result _ _ _
-    (λ j h is. is ∙ (c.in-Ok.ensures.len
-    ∙ ap (λ (x : List (List ℕ)). length (file_of x)) h.whole))
-    c.of_recovered.ensures.found c.of_recovered.ensures.len
-
-pub returns-in-Ok-clause-torn : goal.returns-in-Ok-clause-torn
-returns-in-Ok-clause-torn c =
-    ok_and c.of_recovered.result _ _ _
-    (λ j is torn. torn ∙ ap (λ (n : ℕ). length c.args.file.now - n) (sym is))
-    c.of_recovered.ensures.len c.of_recovered.ensures.torn
+    journal_given c.args.file.now (contents_in c.in-Ok.recovered.contents.items)
+    c.in-Ok.recovered.len c.of_recovered.result c.in-Ok.ensures.found c.in-Ok.ensures.len
+    c.of_recovered.ensures.found c.of_recovered.ensures.len c.of_recovered.ensures.torn
 
 pub returns-in-Ok-clause-only : goal.returns-in-Ok-clause-only
 returns-in-Ok-clause-only c saved events h =
-    c.of_recovered.ensures.only saved events
-    (contents_of c.args.file.now (contents_in c.in-Ok.recovered.contents.items) saved events
-    (c.in-Ok.ensures.only (contents_with (head_texts saved) events) h.stands.recovers) h)
+    c.of_recovered.ensures.only saved events h.stands.names
+    (contents_of c.args.file.now (contents_in c.in-Ok.recovered.contents.items) saved events h
+    (c.in-Ok.ensures.only (head_texts saved ++ h.stands.contents) h.stands.recovers))
 
 pub returns-in-Err-clause-only : goal.returns-in-Err-clause-only
 returns-in-Err-clause-only c saved events h =
-    c.in-Err.ensures.only (contents_with (head_texts saved) events) h.stands.recovers
+    c.in-Err.ensures.only (head_texts saved ++ h.stands.contents) h.stands.recovers
 
 pub returns-in-Ok-clause-refused : goal.returns-in-Ok-clause-refused
 returns-in-Ok-clause-refused c =

@@ -14,8 +14,8 @@ returns-in-Ok-create-clause-begun g c =
     begun_goes_on f.shows f.kept f.sound f.moment f.left_since g.met.F.Folder.only_now
     g.met.F.Folder.earlier g.N.Beginning.first c.args.values j.medium j.len j.closed _ _ _ c.in-Ok.snapshot
     c.requires.first opened c.new-in-Ok-create.ensures.items
-    c.new-in-Ok-create-2.ensures.items
-    (ap (λ (bs : List Shown). map part_in bs) c.new-in-Ok-create-3.ensures.items)
+    c.new-in-Ok-create-3.ensures.items
+    (ap (λ (bs : List Shown). map part_in bs) c.new-in-Ok-create-4.ensures.items)
     c.in-Ok-create.ensures.open c.in-Ok-create.ensures.places
 
 -- nothing was done

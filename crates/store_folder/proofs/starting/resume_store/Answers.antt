@@ -84,6 +84,13 @@ returns-in_default-from_slice-clause-any_moment g c =
     g.N.Beginning.first c.args.folder c.args.found.journal (map part_in c.args.found.blocks.items)
     c.requires.found c.requires.first
 
+pub returns-in_default-copied-clause-any_moment : goal.returns-in_default-copied-clause-any_moment
+returns-in_default-copied-clause-any_moment g c =
+    let f = g.F.Folder in
+    stays_found f.shows f.kept f.sound f.moment f.left_since g.met.F.Folder.only_now
+    g.N.Beginning.first c.args.folder c.args.found.journal (map part_in c.args.found.blocks.items)
+    c.requires.found c.requires.first
+
 pub returns-in-Err-resume-clause-unchanged : goal.returns-in-Err-resume-clause-unchanged
 returns-in-Err-resume-clause-unchanged g c unless = absurd (unless refl)
 
@@ -99,5 +106,10 @@ returns-in_default-clause-others g c =
 
 pub returns-in_default-from_slice-clause-others : goal.returns-in_default-from_slice-clause-others
 returns-in_default-from_slice-clause-others g c =
+    let f = g.F.Folder in
+    nothing_changed f.shows f.kept next_name journal_name c.args.folder
+
+pub returns-in_default-copied-clause-others : goal.returns-in_default-copied-clause-others
+returns-in_default-copied-clause-others g c =
     let f = g.F.Folder in
     nothing_changed f.shows f.kept next_name journal_name c.args.folder

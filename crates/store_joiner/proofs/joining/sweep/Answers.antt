@@ -3,7 +3,8 @@ use Rattle.head.specs.Blocks.{part_in}
 use Rattle.store_folder.specs.Holding.{HoldsAt}
 use Rattle.store_folder.specs.Origins.{Origin}
 use Rattle.store_folder.proofs.Rolls.{finds_on}
-use Rattle.data_folder.proofs.Foreign.{foreign_beside, foreign_then}
+use Rattle.data_folder.proofs.Foreign.{foreign_beside, foreign_rests, foreign_then}
+use Rattle.store_folder.proofs.Starts.{stays_found}
 use Rattle.store_joiner.proofs.joining.sweep.Goals as goal
 
 pub resume-requires-clause-values : goal.resume-requires-clause-values
@@ -14,13 +15,28 @@ sweep_blocks-requires-clause-held g c =
     let f = g.F.Folder in
     let store = c.args.found.store in
     let parts = map part_in store.blocks.items in
-    let j = c.in-Ok.journal.events.journal in (
+    let j = c.in-Ok-resume.journal.events.journal in (
       store.journal.events.items,
       parts,
       subst (λ places. HoldsAt f.shows f.kept f.sound f.moment f.left_since g.N.Beginning.first
           j.medium j.len j.closed store.journal.events.items places parts) (sym c.places.ensures)
-          (c.in-Ok.ensures.holds parts c.requires.found c.requires.first),
+          (c.in-Ok-resume.ensures.holds parts c.requires.found c.requires.first),
     )
+
+-- no memory was left
+
+pub returns-in_default-clause-any_moment : goal.returns-in_default-clause-any_moment
+returns-in_default-clause-any_moment g c =
+    let f = g.F.Folder in
+    let store = c.args.found.store in
+    stays_found f.shows f.kept f.sound f.moment f.left_since g.met.F.Folder.only_now
+    g.N.Beginning.first c.args.found.folder store.journal (map part_in store.blocks.items)
+    c.requires.found c.requires.first
+
+pub returns-in_default-clause-foreign : goal.returns-in_default-clause-foreign
+returns-in_default-clause-foreign g c =
+    let f = g.F.Folder in
+    foreign_rests f.shows f.kept c.args.found.folder
 
 pub returns-in-Err-clause-any_moment : goal.returns-in-Err-clause-any_moment
 returns-in-Err-clause-any_moment g c =
@@ -32,14 +48,14 @@ returns-clause-any_moment g c =
     let f = g.F.Folder in
     let store = c.args.found.store in
     let parts = map part_in store.blocks.items in
-    let j = c.in-Ok.journal.events.journal in
+    let j = c.in-Ok-resume.journal.events.journal in
     finds_on f.moment f.left_since g.N.Beginning.first store.journal.events.items
     c.args.found.folder j.medium.folder c.sweep_blocks.new.self.events.journal.medium.folder
-    (c.in-Ok.ensures.any_moment parts c.requires.found c.requires.first)
+    (c.in-Ok-resume.ensures.any_moment parts c.requires.found c.requires.first)
     (c.sweep_blocks.ensures.any_moment store.journal.events.items parts
     (subst (λ places. HoldsAt f.shows f.kept f.sound f.moment f.left_since g.N.Beginning.first
     j.medium j.len j.closed store.journal.events.items places parts) (sym c.places.ensures)
-    (c.in-Ok.ensures.holds parts c.requires.found c.requires.first)))
+    (c.in-Ok-resume.ensures.holds parts c.requires.found c.requires.first)))
 
 pub returns-in-Err-clause-foreign : goal.returns-in-Err-clause-foreign
 returns-in-Err-clause-foreign g c =
@@ -50,8 +66,8 @@ pub returns-clause-foreign : goal.returns-clause-foreign
 returns-clause-foreign g c =
     let f = g.F.Folder in
     foreign_then f.shows f.kept c.args.found.folder
-    c.in-Ok.journal.events.journal.medium.folder
+    c.in-Ok-resume.journal.events.journal.medium.folder
     c.sweep_blocks.new.self.events.journal.medium.folder
     (foreign_beside f.shows f.kept c.args.found.folder
-    c.in-Ok.journal.events.journal.medium.folder c.in-Ok.ensures.others)
+    c.in-Ok-resume.journal.events.journal.medium.folder c.in-Ok-resume.ensures.others)
     c.sweep_blocks.ensures.foreign

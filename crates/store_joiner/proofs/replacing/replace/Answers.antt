@@ -7,7 +7,8 @@ use Rattle.store_folder.specs.declared.error.RollFault.{RollFault}
 use Rattle.store_joiner.specs.declared.error.ChangeFault.{ChangeFault}
 use Rattle.store_joiner.specs.declared.error.ChangeFault.TheVariants as faults
 use Rattle.store_joiner.proofs.Stores.{finds_all, now_first, replaced}
-use Rattle.data_folder.proofs.Foreign.{foreign_beside, foreign_then}
+use Rattle.data_folder.proofs.Foreign.{foreign_beside, foreign_rests, foreign_then}
+use Rattle.store_folder.proofs.Starts.{stays_found}
 use Rattle.store_joiner.proofs.replacing.replace.Goals as goal
 
 abbrev rolled : RollFault → ChangeFault
@@ -22,14 +23,45 @@ replace_store-requires-clause-held g c =
     let first = g.N.Beginning.first in
     let store = c.args.found.store in
     let parts = map part_in store.blocks.items in
-    let j = c.in-Ok.journal.events.journal in (
+    let j = c.in-Ok-resume.journal.events.journal in (
       parts,
       subst (λ events. HoldsAt f.shows f.kept f.sound f.moment f.left_since first j.medium j.len
           j.closed events c.places.result.now parts) c.requires.saved
           (subst (λ places. HoldsAt f.shows f.kept f.sound f.moment f.left_since first j.medium
           j.len j.closed store.journal.events.items places parts) (sym c.places.ensures)
-          (c.in-Ok.ensures.holds parts c.requires.found c.requires.first)),
+          (c.in-Ok-resume.ensures.holds parts c.requires.found c.requires.first)),
     )
+
+-- no memory was left
+
+pub returns-in_default-clause-any_moment : goal.returns-in_default-clause-any_moment
+returns-in_default-clause-any_moment g c =
+    let f = g.F.Folder in
+    let store = c.args.found.store in
+    let folder = c.args.found.folder in
+    let first = g.N.Beginning.first in
+    finds_all f.moment f.left_since folder folder first
+    store.journal.events.items (λ v. (v ≡ first.world) ⊎ (v ≡ world_of c.args.next.now))
+    c.requires.saved (inl refl)
+    (stays_found f.shows f.kept f.sound f.moment f.left_since g.met.F.Folder.only_now first folder
+    store.journal (map part_in store.blocks.items) c.requires.found c.requires.first)
+
+pub returns-in_default-clause-stays : goal.returns-in_default-clause-stays
+returns-in_default-clause-stays g c unless =
+    let f = g.F.Folder in
+    let met = g.met.F.Folder in
+    let store = c.args.found.store in
+    let folder = c.args.found.folder in
+    let first = g.N.Beginning.first in
+    now_first f.shows f.kept f.sound f.moment f.left_since met.only_now met.earlier
+    folder folder first store.journal.events.items c.requires.saved
+    (stays_found f.shows f.kept f.sound f.moment f.left_since met.only_now first folder
+    store.journal (map part_in store.blocks.items) c.requires.found c.requires.first)
+
+pub returns-in_default-clause-foreign : goal.returns-in_default-clause-foreign
+returns-in_default-clause-foreign g c =
+    let f = g.F.Folder in
+    foreign_rests f.shows f.kept c.args.found.folder
 
 -- where the journal does not go on
 
@@ -63,9 +95,9 @@ returns-in-Ok-replace_store-clause-any_moment g c =
     let store = c.args.found.store in
     let first = g.N.Beginning.first in
     replaced f.moment f.left_since c.args.found.folder
-    c.in-Ok.journal.events.journal.medium.folder c.in-Ok-replace_store.replaced.folder first
+    c.in-Ok-resume.journal.events.journal.medium.folder c.in-Ok-replace_store.replaced.folder first
     (world_of c.args.next.now) store.journal.events.items c.requires.saved
-    (c.in-Ok.ensures.any_moment (map part_in store.blocks.items) c.requires.found
+    (c.in-Ok-resume.ensures.any_moment (map part_in store.blocks.items) c.requires.found
     c.requires.first) c.in-Ok-replace_store.ensures.any_moment
 
 pub returns-clause-any_moment : goal.returns-clause-any_moment
@@ -74,9 +106,9 @@ returns-clause-any_moment g c =
     let store = c.args.found.store in
     let first = g.N.Beginning.first in
     replaced f.moment f.left_since c.args.found.folder
-    c.in-Ok.journal.events.journal.medium.folder c.in-Err-replace_store.folder first
+    c.in-Ok-resume.journal.events.journal.medium.folder c.in-Err-replace_store.folder first
     (world_of c.args.next.now) store.journal.events.items c.requires.saved
-    (c.in-Ok.ensures.any_moment (map part_in store.blocks.items) c.requires.found
+    (c.in-Ok-resume.ensures.any_moment (map part_in store.blocks.items) c.requires.found
     c.requires.first) c.in-Err-replace_store.ensures.any_moment
 
 pub returns-clause-stays : goal.returns-clause-stays
@@ -92,15 +124,15 @@ returns-in-Err-clause-foreign g c =
 pub returns-in-Ok-replace_store-clause-foreign : goal.returns-in-Ok-replace_store-clause-foreign
 returns-in-Ok-replace_store-clause-foreign g c =
     let f = g.F.Folder in
-    foreign_then f.shows f.kept c.args.found.folder c.in-Ok.journal.events.journal.medium.folder
+    foreign_then f.shows f.kept c.args.found.folder c.in-Ok-resume.journal.events.journal.medium.folder
     c.in-Ok-replace_store.replaced.folder
-    (foreign_beside f.shows f.kept c.args.found.folder c.in-Ok.journal.events.journal.medium.folder
-    c.in-Ok.ensures.others) c.in-Ok-replace_store.ensures.foreign
+    (foreign_beside f.shows f.kept c.args.found.folder c.in-Ok-resume.journal.events.journal.medium.folder
+    c.in-Ok-resume.ensures.others) c.in-Ok-replace_store.ensures.foreign
 
 pub returns-clause-foreign : goal.returns-clause-foreign
 returns-clause-foreign g c =
     let f = g.F.Folder in
-    foreign_then f.shows f.kept c.args.found.folder c.in-Ok.journal.events.journal.medium.folder
+    foreign_then f.shows f.kept c.args.found.folder c.in-Ok-resume.journal.events.journal.medium.folder
     c.in-Err-replace_store.folder
-    (foreign_beside f.shows f.kept c.args.found.folder c.in-Ok.journal.events.journal.medium.folder
-    c.in-Ok.ensures.others) c.in-Err-replace_store.ensures.foreign
+    (foreign_beside f.shows f.kept c.args.found.folder c.in-Ok-resume.journal.events.journal.medium.folder
+    c.in-Ok-resume.ensures.others) c.in-Err-replace_store.ensures.foreign

@@ -45,7 +45,7 @@ returns-in-Err-clause-stays g c unless =
     let old = c.args.store.events.journal in
     let held = c.requires.held in
     now_at f.shows f.kept f.sound f.moment f.left_since met.only_now met.earlier first
-    (record { folder = c.write_saved.new.folder }) old.len old.closed c.args.held.now held.0
+    (record (old.medium) { folder = c.write_saved.new.folder }) old.len old.closed c.args.held.now held.0
     (still_at f.shows f.kept f.sound f.moment f.left_since met.only_now met.earlier first old.medium
     c.write_saved.new.folder old.len old.closed c.args.held.now held.0 held.1 c.requires.open
     c.write_saved.ensures.stays) c.requires.open
@@ -71,7 +71,7 @@ returns-in_default-clause-stays g c unless =
     let old = c.args.store.events.journal in
     let held = c.requires.held in
     now_at f.shows f.kept f.sound f.moment f.left_since met.only_now met.earlier first
-    (record { folder = c.write_saved.new.folder }) old.len old.closed c.args.held.now held.0
+    (record (old.medium) { folder = c.write_saved.new.folder }) old.len old.closed c.args.held.now held.0
     (still_at f.shows f.kept f.sound f.moment f.left_since met.only_now met.earlier first old.medium
     c.write_saved.new.folder old.len old.closed c.args.held.now held.0 held.1 c.requires.open
     c.write_saved.ensures.stays) c.requires.open
@@ -97,7 +97,7 @@ returns-in-Err-head_journal-clause-stays g c unless =
     let old = c.args.store.events.journal in
     let held = c.requires.held in
     now_at f.shows f.kept f.sound f.moment f.left_since met.only_now met.earlier first
-    (record { folder = c.write_saved.new.folder }) old.len old.closed c.args.held.now held.0
+    (record (old.medium) { folder = c.write_saved.new.folder }) old.len old.closed c.args.held.now held.0
     (still_at f.shows f.kept f.sound f.moment f.left_since met.only_now met.earlier first old.medium
     c.write_saved.new.folder old.len old.closed c.args.held.now held.0 held.1 c.requires.open
     c.write_saved.ensures.stays) c.requires.open
@@ -115,9 +115,9 @@ roll-requires-clause-kept g c opened =
     still_at f.shows f.kept f.sound f.moment f.left_since met.only_now met.earlier first old.medium
     c.write_saved.new.folder old.len old.closed c.args.held.now held.0 held.1 c.requires.open
     c.write_saved.ensures.stays in (
-      contents_with (head_texts at.0.saved) at.0.late,
+      head_texts at.0.saved ++ at.0.journal.contents,
       keeps_before f.shows f.kept f.sound f.moment f.left_since met.only_now met.earlier first
-          c.write_saved.new.folder old.len old.closed c.args.held.now held.0 at c.requires.open,
+          c.write_saved.new.folder old.medium.names old.len old.closed c.args.held.now held.0 at c.requires.open,
     )
 
 pub roll-requires-clause-whole : goal.roll-requires-clause-whole
@@ -143,7 +143,7 @@ returns-in-Ok-roll-clause-any_moment g c =
     mid old.len old.closed c.args.held.now held.0 held.1 c.requires.open c.write_saved.ensures.stays in
     let next =
     next_head f.shows f.kept f.sound f.moment f.left_since met.only_now met.earlier first
-    (record { folder = mid }) s c.values-values.result head
+    (record (old.medium) { folder = mid }) s c.values-values.result head
     (take 0 c.args.held.now ++ places_from c.next_number.result (n - 0)) there.0 c.values-values.ensures
     c.in-Ok.ensures.saved c.in-Ok-head_journal.ensures.saved there.1 there.2 in
     let whole =
@@ -151,7 +151,7 @@ returns-in-Ok-roll-clause-any_moment g c =
     c.in-Ok-head_journal.ensures.text in
     let after =
     begun_anew f.shows f.kept f.sound f.moment f.left_since met.only_now met.earlier first
-    (world_of s) (record { folder = mid }) new.medium new.len head there.0 next
+    (world_of s) (record (old.medium) { folder = mid }) new.medium new.len head there.0 next c.in-Ok-roll.ensures.named
     (c.in-Ok-roll.ensures.ok (contents_with (head_texts head) []) whole) c.in-Ok-roll.ensures.files in
     joined f.moment f.left_since old.medium.folder mid c.sweep_apart.new.folder _
     (finds_first f.moment f.left_since old.medium.folder mid first (world_of s)
@@ -159,7 +159,7 @@ returns-in-Ok-roll-clause-any_moment g c =
     mid old.len old.closed c.args.held.now held.0 held.1 c.requires.open c.write_saved.ensures.stays))
     (joined f.moment f.left_since mid new.medium.folder c.sweep_apart.new.folder _
     (roll_either f.shows f.kept f.sound f.moment f.left_since met.only_now met.earlier first
-    (world_of s) mid new.medium.folder old.len old.closed c.args.held.now held.0 head there.0 c.deref.result.now at
+    (world_of s) mid old.medium.names new.medium.folder old.len old.closed c.args.held.now held.0 head there.0 c.deref.result.now at
     c.requires.open next whole c.in-Ok-roll.ensures.any_moment)
     (finds_other f.moment f.left_since new.medium.folder c.sweep_apart.new.folder first (world_of s)
     (meanwhile f.shows f.kept f.sound f.moment f.left_since met.only_now met.earlier
@@ -174,6 +174,7 @@ returns-in-Ok-roll-clause-finds g c =
     let f = g.F.Folder in
     let met = g.met.F.Folder in
     let first = g.N.Beginning.first in
+    let old = c.args.store.events.journal in
     let s = c.args.next.now in
     let n = length s.blocks in
     let mid = c.write_saved.new.folder in
@@ -182,7 +183,7 @@ returns-in-Ok-roll-clause-finds g c =
     let there = c.in-Ok.ensures.there in
     let next =
     next_head f.shows f.kept f.sound f.moment f.left_since met.only_now met.earlier first
-    (record { folder = mid }) s c.values-values.result head
+    (record (old.medium) { folder = mid }) s c.values-values.result head
     (take 0 c.args.held.now ++ places_from c.next_number.result (n - 0)) there.0 c.values-values.ensures
     c.in-Ok.ensures.saved c.in-Ok-head_journal.ensures.saved there.1 there.2 in
     let whole =
@@ -190,10 +191,10 @@ returns-in-Ok-roll-clause-finds g c =
     c.in-Ok-head_journal.ensures.text in
     let after =
     begun_anew f.shows f.kept f.sound f.moment f.left_since met.only_now met.earlier first
-    (world_of s) (record { folder = mid }) new.medium new.len head there.0 next
+    (world_of s) (record (old.medium) { folder = mid }) new.medium new.len head there.0 next c.in-Ok-roll.ensures.named
     (c.in-Ok-roll.ensures.ok (contents_with (head_texts head) []) whole) c.in-Ok-roll.ensures.files in
     now_at f.shows f.kept f.sound f.moment f.left_since met.only_now met.earlier
-    (other_of first (world_of s)) (record { folder = c.sweep_apart.new.folder }) new.len false head.places
+    (other_of first (world_of s)) (record (new.medium) { folder = c.sweep_apart.new.folder }) new.len false head.places
     there.0
     (still_at f.shows f.kept f.sound f.moment f.left_since met.only_now met.earlier
     (other_of first (world_of s)) new.medium c.sweep_apart.new.folder new.len false head.places there.0 after
@@ -220,7 +221,7 @@ returns-clause-any_moment g c =
     mid old.len old.closed c.args.held.now held.0 held.1 c.requires.open c.write_saved.ensures.stays in
     let next =
     next_head f.shows f.kept f.sound f.moment f.left_since met.only_now met.earlier first
-    (record { folder = mid }) s c.values-values.result head
+    (record (old.medium) { folder = mid }) s c.values-values.result head
     (take 0 c.args.held.now ++ places_from c.next_number.result (n - 0)) there.0 c.values-values.ensures
     c.in-Ok.ensures.saved c.in-Ok-head_journal.ensures.saved there.1 there.2 in
     joined f.moment f.left_since old.medium.folder mid new.medium.folder _
@@ -228,7 +229,7 @@ returns-clause-any_moment g c =
     (meanwhile f.shows f.kept f.sound f.moment f.left_since met.only_now met.earlier first old.medium
     mid old.len old.closed c.args.held.now held.0 held.1 c.requires.open c.write_saved.ensures.stays))
     (roll_either f.shows f.kept f.sound f.moment f.left_since met.only_now met.earlier first
-    (world_of s) mid new.medium.folder old.len old.closed c.args.held.now held.0 head there.0 c.deref.result.now at
+    (world_of s) mid old.medium.names new.medium.folder old.len old.closed c.args.held.now held.0 head there.0 c.deref.result.now at
     c.requires.open next
     (subst (IsJournalText (contents_with (head_texts head) [])) (sym c.deref.ensures.value)
     c.in-Ok-head_journal.ensures.text)
@@ -252,10 +253,11 @@ returns-clause-stays g c unless =
     now_at f.shows f.kept f.sound f.moment f.left_since met.only_now met.earlier first new.medium
     new.len new.closed c.args.held.now held.0
     (as_before f.shows f.kept f.sound f.moment f.left_since met.only_now met.earlier first mid
-    new.medium.folder old.len new.len old.closed new.closed c.args.held.now held.0 at
-    (c.in-Err-roll.ensures.err (contents_with (head_texts at.0.saved) at.0.late)
+    old.medium.names new.medium old.len new.len old.closed new.closed c.args.held.now held.0 at
+    c.requires.open c.in-Err-roll.ensures.names
+    (c.in-Err-roll.ensures.err (head_texts at.0.saved ++ at.0.journal.contents)
     (keeps_before f.shows f.kept f.sound f.moment f.left_since met.only_now met.earlier first mid
-    old.len old.closed c.args.held.now held.0 at c.requires.open) opened)
+    old.medium.names old.len old.closed c.args.held.now held.0 at c.requires.open) opened)
     c.in-Err-roll.ensures.files) opened
 
 pub returns-in-Ok-roll-clause-places : goal.returns-in-Ok-roll-clause-places

@@ -1,41 +1,43 @@
-use Rattle.std.proofs.Common.{◌∙◌, ap}
+use Rattle.std.proofs.Common.{◌∙◌, ◌++◌, ap}
 use Rattle.journal.specs.declared.error.JournalError.TheVariants.{Closed}
 use Rattle.journal.specs.declared.journal.Journal.{Journal}
-use Rattle.keeper.specs.Together.{texts_of}
-use Rattle.event_journal.specs.Holding.{contents_with}
 use Rattle.event_journal.proofs.Kept.{any_moment, holds_more, holds_on, in_flight, on_err, on_ok}
-use Rattle.event_journal.proofs.Kept.{was_open}
+use Rattle.event_journal.proofs.Kept.{spelled_next, was_open}
 use Rattle.event_journal.proofs.keep.EventJournal.append.Goals as goal
 
 pub append_records-requires-clause-journal : goal.append_records-requires-clause-journal
 append_records-requires-clause-journal g c is_open =
-    let h = c.requires.held in (contents_with h.0 h.1, h.2.keeps is_open)
+    let h = c.requires.held in (h.0 ++ h.3.contents, h.3.keeps is_open)
 
 pub append_records-requires-clause-records : goal.append_records-requires-clause-records
 append_records-requires-clause-records g c =
-    let s = c.requires.spelled in (texts_of s.0, s.1.are)
+    let s = c.requires.spelled.3 in (s.contents, s.are)
 
 pub returns-clause-any_moment : goal.returns-clause-any_moment
-returns-clause-any_moment g c front events more h s opened =
+returns-clause-any_moment g c front names after events more h s opened =
     let m = g.M.Medium in
     let j = c.args.self.now.journal in
     let n = c.append_records.new.self in
     in_flight m.shows m.kept m.sound m.moment m.left_since g.met.M.Medium.only_now
-    g.met.M.Medium.earlier front j.medium n.medium j.len j.closed events more h s.each
-    (c.append_records.ensures.any_moment (contents_with front events) (texts_of more)
-    (h.keeps opened) s.are)
+    g.met.M.Medium.earlier front s.contents j.medium n.medium j.len j.closed names after events
+    more opened h s.spell
+    (c.append_records.ensures.any_moment (front ++ h.contents) s.contents (h.keeps opened) s.are)
 
 pub returns-clause-ok : goal.returns-clause-ok
 returns-clause-ok g c =
     let m = g.M.Medium in
     let j = c.args.self.now.journal in
     let n = c.append_records.new.self in
-    on_ok c.append_records.result _ _ (λ x done ok front events more h s.
+    on_ok c.append_records.result _ _ (λ x done ok front names after events more h s.
     let opened = was_open j.closed c.append_records.result x Closed done
     (λ t. (c.append_records.ensures.closed t).0) in
     holds_more m.shows m.kept m.sound m.moment m.left_since g.met.M.Medium.only_now
-    g.met.M.Medium.earlier front n.medium n.len n.closed events more h.before h.each s.each
-    (ok (contents_with front events) (texts_of more) (h.keeps opened) s.are))
+    g.met.M.Medium.earlier front h.contents s.contents n.medium n.len n.closed h.after after events
+    more h.before h.spell
+    (spelled_next m.shows m.kept m.sound m.moment m.left_since g.met.M.Medium.only_now
+    g.met.M.Medium.earlier front s.contents j.medium j.len j.closed names after events more opened
+    h s.spell)
+    (ok (front ++ h.contents) s.contents (h.keeps opened) s.are))
     c.append_records.ensures.ok
 
 pub returns-clause-err : goal.returns-clause-err
@@ -43,16 +45,15 @@ returns-clause-err g c =
     let m = g.M.Medium in
     let j = c.args.self.now.journal in
     let n = c.append_records.new.self in
-    let s = c.requires.spelled in
-    on_err c.append_records.result _ _ (λ e front events h.
+    on_err c.append_records.result _ _ (λ e front names after events more h s.
     holds_on m.shows m.kept m.sound m.moment m.left_since g.met.M.Medium.only_now
-    g.met.M.Medium.earlier front j.medium n.medium j.len n.len j.closed n.closed events h
+    g.met.M.Medium.earlier front j.medium n.medium j.len n.len j.closed n.closed names events h
     (λ t. ap (λ (x : Journal g.row.M.Denot). x.closed) (c.append_records.ensures.closed t).1 ∙ t)
-    (λ k f. e (contents_with front events) k f)
+    (λ k f. e (front ++ h.contents) k f)
     (any_moment m.shows m.kept m.sound m.moment m.left_since g.met.M.Medium.only_now
-    g.met.M.Medium.earlier front j.medium n.medium j.len j.closed events s.0 h
+    g.met.M.Medium.earlier front j.medium n.medium j.len j.closed names events more h
     (λ t. ap (λ (x : Journal g.row.M.Denot). x.medium) (c.append_records.ensures.closed t).1)
-    (λ opened. returns-clause-any_moment g c front events s.0 h s.1 opened)))
+    (λ opened. returns-clause-any_moment g c front names after events more h s opened)))
     c.append_records.ensures.err
 
 pub returns-clause-closed : goal.returns-clause-closed

@@ -1,4 +1,5 @@
 use Rattle.std.proofs.Common.{refl, arith, ◌<◌, ◌^◌, length}
+use Rattle.snapshots.proofs.Asked.{void_asked}
 use Rattle.snapshots.proofs.Accepts.{tally_void, voids_short}
 use Rattle.snapshots.proofs.prefix.LogPrefix.add_void.Goals as goal
 
@@ -13,3 +14,7 @@ pub add-requires-clause-tally : goal.add-requires-clause-tally
 add-requires-clause-tally g c =
     rw (← c.self.view_is)
     (tally_void c.self.inside.tally _ c.self.inside.seen.log c.self.invariant.2 refl refl refl refl)
+
+pub add-requires-clause-asked : goal.add-requires-clause-asked
+add-requires-clause-asked g c =
+    rw (← c.self.view_is) (void_asked g.J.Naming.asked c.self.inside.seen.log c.self.invariant.3)

@@ -12,7 +12,7 @@ returns-then-self-other-clause-this g c =
     c.learn.ensures.2 in
     let less : length c.self.inside.seen.log ≤ length c.other.inside.seen.log =
     omega (arith, c.self.invariant.0, c.other.invariant.0) in
-    rw (c.share.ensures, ← c.self.view_is, ← c.other.view_is)
+    rw (c.share.ensures.same, ← c.self.view_is, ← c.other.view_is)
     (prefix_shorter c.self.inside.seen.log c.other.inside.seen.log both this c.learn.ensures.3 less)
 
 pub returns-clause-that : goal.returns-clause-that
@@ -23,5 +23,5 @@ returns-clause-that g c =
     c.learn.ensures.2 in
     let less : length c.other.inside.seen.log ≤ length c.self.inside.seen.log =
     omega (arith, c.self.invariant.0, c.other.invariant.0) in
-    rw (c.share-else-self-other.ensures, ← c.self.view_is, ← c.other.view_is)
+    rw (c.share-else-self-other.ensures.same, ← c.self.view_is, ← c.other.view_is)
     (prefix_shorter c.other.inside.seen.log c.self.inside.seen.log both c.learn.ensures.3 this less)

@@ -11,7 +11,7 @@ use Rattle.snapshots.specs.Views.{Ledger}
 use Rattle.snapshots.proofs.Accepts.{accepted_try}
 use Rattle.snapshots.proofs.Counting.{counted_next}
 use Rattle.snapshots.proofs.Prefixes.{prefix_more}
-use Rattle.snapshots.proofs.Tips.{tried_all, tried_behind, tried_stands}
+use Rattle.snapshots.proofs.Tips.{current_tried, tried_all, tried_behind, tried_stands}
 use Rattle.snapshots.proofs.tip.Tip.place.Goals as goal
 
 pub invariant_of-self-2 : goal.invariant_of-self-2
@@ -38,7 +38,7 @@ returns-clause-list g c =
     let t = c.self.inside in
     let event = g.C.Change.event c.args.change.now in
     let entry : Entry = record { event = event; seat = c.number-number.result } in
-    ap tried_of c.share.ensures
+    ap tried_of c.share.ensures.same
     ∙ (tried_all t.waits t.log c.add_try.new.self entry c.if-is_given_up.ensures c.add_try.ensures
     ∙ (ap (λ (k : ℕ). current t.waits t.log ++ record { event = event; seat = k } ∷ []) c.number-number.ensures
     ∙ ap (λ (l : Ledger). l.entries ++ record { event = event; seat = c.args.seat.now.number } ∷ []) c.self.view_is))
@@ -47,7 +47,7 @@ pub returns-clause-begins : goal.returns-clause-begins
 returns-clause-begins g c =
     let t = c.self.inside in
     let entry : Entry = record { event = g.C.Change.event c.args.change.now; seat = c.number-number.result } in
-    subst (λ (z : List Mark). IsPrefix c.args.seat.now.seen (tried_of z)) (sym c.share.ensures)
+    subst (λ (z : List Mark). IsPrefix c.args.seat.now.seen (tried_of z)) (sym c.share.ensures.same)
     (prefix_more c.args.seat.now.seen (current t.waits t.log) (tried_of c.add_try.new.self) entry
     (subst (λ (l : Ledger). IsPrefix c.args.seat.now.seen l.entries) (sym c.self.view_is) c.requires.begins)
     (tried_all t.waits t.log c.add_try.new.self entry c.if-is_given_up.ensures c.add_try.ensures))
@@ -57,7 +57,7 @@ returns-clause-counted g c =
     let t = c.self.inside in
     let fits : FitsSeat c.args.seat.now t.ahead.counts.items = subst (λ (l : Ledger). FitsSeat c.args.seat.now l.counts) (sym c.self.view_is) c.requires.fits in
     let entry : Entry = record { event = g.C.Change.event c.args.change.now; seat = c.number-number.result } in
-    subst (λ (z : List Mark). count_of c.args.seat.now.number (tried_of z) ≡ c.args.seat.now.count + 1) (sym c.share.ensures)
+    subst (λ (z : List Mark). count_of c.args.seat.now.number (tried_of z) ≡ c.args.seat.now.count + 1) (sym c.share.ensures.same)
     (counted_next t.ahead.counts.items (current t.waits t.log) (tried_of c.add_try.new.self) entry c.args.seat.now.number (c.args.seat.now.count + 1)
     c.self.invariant.0.counted
     (tried_all t.waits t.log c.add_try.new.self entry c.if-is_given_up.ensures c.add_try.ensures)
@@ -94,3 +94,16 @@ returns-clause-published g c =
     let t = c.self.inside in
     let entry : Entry = record { event = g.C.Change.event c.args.change.now; seat = c.number-number.result } in
     ap accepted c.add_try.ensures ∙ (accepted_try t.log entry ∙ ap (λ (l : Ledger). l.published) c.self.view_is)
+
+pub add_try-requires-clause-asked : goal.add_try-requires-clause-asked
+add_try-requires-clause-asked g c =
+    let t = c.self.inside in
+    let number = c.args.seat.now.number in
+    let event = g.C.Change.event c.args.change.now in
+    let fits : FitsSeat c.args.seat.now t.ahead.counts.items = subst (λ (l : Ledger). FitsSeat c.args.seat.now l.counts) (sym c.self.view_is) c.requires.fits in
+    let as_many : c.args.seat.now.count ≡ count_of number (tried_of t.log) =
+    sym fits.1
+    ∙ (c.self.invariant.0.counted number fits.0
+    ∙ ap (count_of number) (current_tried t.waits t.log c.if-is_given_up.ensures)) in
+    subst (λ (k : ℕ). g.J.Naming.asked event k (count_of k (tried_of t.log))) (sym c.number-number.ensures)
+    (subst (g.J.Naming.asked event number) as_many c.requires.asked)

@@ -25,7 +25,7 @@ invariant_of-self-2 g c =
       c.self.invariant.2,
       search rules,
       held_as g.K.Keeper.holds g.J.Naming.before (list_of group.log) _
-          (ap accepted c.share.ensures
+          (ap accepted c.share.ensures.same
           ∙ accepted_done g.J.Naming.book opening idle group.log t.log s m group.records.items c.requires.group c.if-not-lists.ensures.lists
           c.add_done.new.self c.add_done.ensures)
           c.requires.held,

@@ -37,7 +37,7 @@ returns-clause-group g c =
     let behind = behind_kept opening g.K.Keeper.idle t.waits t.log (arc_value t.base.snapshot) t.base.counts.items t.records.items is c.self.invariant.1 in
     group_as opening g.K.Keeper.idle c.add_seal.new.self c.share-2.result s (arc_value c.in-Ok.standing.snapshot)
     t.ahead.counts.items c.in-Ok.standing.counts.items t.records.items c.replace-records.result.items
-    c.share-2.ensures c.in-Ok.ensures.snapshot c.in-Ok.ensures.counts records
+    c.share-2.ensures.same c.in-Ok.ensures.snapshot c.in-Ok.ensures.counts records
     (sealed_group opening g.K.Keeper.idle t.log c.add_seal.new.self s (arc_value t.base.snapshot) t.ahead.counts.items t.base.counts.items t.records.items
     c.add_seal.ensures c.if-not-is_unsealed.ensures.unsealed stands behind)
 

@@ -1,10 +1,10 @@
-use Rattle.std.proofs.Common.{◌≡◌, ◌≢◌, true, [], ◌∷◌, ◌++◌, subst, rules}
+use Rattle.std.proofs.Common.{◌≡◌, ◌≢◌, true, [], ◌∷◌, ◌++◌, subst, sym, rules}
 use Rattle.head.specs.BatchRows.{batch_of_rows}
 use Rattle.head.specs.Heads.{SnapshotParts, world_of}
 use Rattle.head.specs.Laws.{reasons}
 use Rattle.head.specs.Sifting.{sifted}
 use Rattle.head.specs.Telling.{told_of}
-use Rattle.head.specs.Worlds.{batch}
+use Rattle.head.specs.Worlds.{Batch, batch}
 use Rattle.snapshots.specs.Marks.{tried_of}
 use Rattle.snapshots.specs.Sifts.{IsSiftedAt}
 use Rattle.snapshots.proofs.Sifts.{sifted_some}
@@ -25,3 +25,12 @@ returns-clause-sifted g c =
     let more : list ≡ entries ++ record { event = batch ys; seat = number } ∷ [] = c.in_ok-trial.ensures.list in
     subst (λ (s : SnapshotParts). IsSiftedAt number entries s xs (record { list = list; left = left; joined = true })) c.snapshot.ensures
     (sifted_some number entries list at xs left told ys some kept more)
+
+pub place-requires-clause-asked : goal.place-requires-clause-asked
+place-requires-clause-asked g c =
+    let xs = batch_of_rows c.args.rows.now in
+    let at = c.snapshot.result.now in
+    let ys = batch_of_rows c.in-Some.kept in
+    let kept : ys ≡ (sifted (world_of at) xs).kept = search rules in
+    subst (λ (zs : Batch). g.J.Naming.asked (batch zs) c.args.seat.now.number c.args.seat.now.count) (sym kept)
+    (c.requires.asked (world_of at))

@@ -14,8 +14,9 @@ returns-clause-held g c events more last =
     let k = c.args.self.now in
     inl (like_given_up f.shows f.kept f.sound f.moment f.left_since g.met.F.Folder.only_now
     g.N.Beginning.first old.medium new.medium old.len new.len old.closed new.closed events more
-    k.places.items (map part_in k.blocks.items) last c.close.ensures.beside
-    (c.close.ensures.held (head_texts h.saved) h.late more h.journal))
+    k.places.items (map part_in k.blocks.items) last c.close.ensures.beside.0
+    (c.close.ensures.held (head_texts h.saved) old.medium.names new.medium.names h.late more
+    h.journal))
 
 pub returns-clause-any_moment : goal.returns-clause-any_moment
 returns-clause-any_moment g c events more last =
@@ -25,8 +26,8 @@ returns-clause-any_moment g c events more last =
     let new = c.close.new.self.journal in
     let found = store_leaves f.shows f.kept f.sound f.moment f.left_since g.met.F.Folder.only_now
     g.N.Beginning.first old.medium new.medium h.saved h.parts h.early h.late events more h.all
-    h.head h.begins h.blocks c.close.ensures.beside
-    (c.close.ensures.any_moment (head_texts h.saved) h.late more h.journal) in
+    h.head h.begins h.blocks c.close.ensures.beside.0
+    (c.close.ensures.any_moment (head_texts h.saved) old.medium.names h.late more h.journal) in
     record {
       later = found.later;
       each = λ left had. each_kept f.moment f.left_since g.N.Beginning.first old.medium.folder
@@ -36,4 +37,4 @@ returns-clause-any_moment g c events more last =
     }
 
 pub returns-clause-beside : goal.returns-clause-beside
-returns-clause-beside g c = c.close.ensures.beside
+returns-clause-beside g c = c.close.ensures.beside.0

@@ -38,7 +38,7 @@ returns-in-Ok-begin-clause-places g c =
     let j = c.in-Ok-begin.journal in (
       holds_nothing f.shows f.kept f.sound f.moment f.left_since g.met.F.Folder.only_now
           g.met.F.Folder.earlier g.N.Beginning.first c.args.values j.medium j.len j.closed c.requires.first
-          (subst IsSaved c.nothing_with.ensures c.in-Ok.ensures.saved)
+          (subst IsSaved c.nothing_with.ensures c.in-Ok.ensures.saved) c.in-Ok-begin.ensures.named
           (c.in-Ok-begin.ensures.keeps (new_contents c.args.values)
           (given c.args.values c.nothing_with.result _ _ c.nothing_with.ensures c.deref.ensures.value
           c.in-Ok.ensures.text)),

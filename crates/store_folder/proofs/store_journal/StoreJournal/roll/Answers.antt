@@ -1,4 +1,4 @@
-use Rattle.std.proofs.Common.{◌≡◌, true, false, [], inl, subst, sym, ◌∙◌}
+use Rattle.std.proofs.Common.{◌≡◌, ◌++◌, true, false, [], inl, subst, sym, ◌∙◌}
 use Rattle.data_folder.specs.JournalFile.{journal_name, next_name}
 use Rattle.data_folder.proofs.Moments.{nothing_changed}
 use Rattle.event_journal.specs.Holding.{contents_with}
@@ -19,7 +19,7 @@ roll-requires-clause-kept g c opened =
     let h =
     open_head f.shows f.kept f.sound f.moment f.left_since met.only_now g.N.Beginning.first old.medium
     old.len old.closed r.0 r.2.holds c.if-self.false in (
-      contents_with (head_texts h.saved) h.late,
+      head_texts h.saved ++ h.journal.contents,
       keeps_now f.shows f.kept f.sound f.moment f.left_since met.only_now met.earlier
           g.N.Beginning.first old.medium old.len old.closed r.0 h c.if-self.false,
     )
@@ -38,7 +38,7 @@ returns-in-Ok-roll-clause-places g c events parts m =
     let new = contents_with (head_texts c.args.head.now) [] in
     rolled f.shows f.kept f.sound f.moment f.left_since met.only_now met.earlier
     g.N.Beginning.first old.medium made.medium old.len made.len old.closed made.closed
-    c.args.head.now parts events m c.in-Ok.ensures.saved
+    c.args.head.now parts events m c.in-Ok.ensures.saved c.in-Ok-roll.ensures.named
     (c.in-Ok-roll.ensures.ok new
     (subst (IsJournalText new) (sym c.deref.ensures.value) c.in-Ok.ensures.text))
     c.in-Ok-roll.ensures.files
@@ -77,7 +77,7 @@ returns-in-Ok-roll-clause-any_moment g c events parts m opened =
     roll_finds f.shows f.kept f.sound f.moment f.left_since met.only_now met.earlier
     g.N.Beginning.first old.medium made.medium old.len old.closed saved parts events h m
     c.in-Ok.ensures.saved
-    (c.in-Ok-roll.ensures.any_moment (contents_with (head_texts h.saved) h.late) new
+    (c.in-Ok-roll.ensures.any_moment (head_texts h.saved ++ h.journal.contents) new
     (files_of_both f.shows f.kept h.saved.places saved.places h.parts parts old.medium.folder
     h.blocks m.blocks)
     (keeps_now f.shows f.kept f.sound f.moment f.left_since met.only_now met.earlier
@@ -102,7 +102,7 @@ returns-clause-any_moment g c events parts m opened =
     roll_finds f.shows f.kept f.sound f.moment f.left_since met.only_now met.earlier
     g.N.Beginning.first old.medium made.medium old.len old.closed saved parts events h m
     c.in-Ok.ensures.saved
-    (c.in-Err-roll.ensures.any_moment (contents_with (head_texts h.saved) h.late) new
+    (c.in-Err-roll.ensures.any_moment (head_texts h.saved ++ h.journal.contents) new
     (files_of_both f.shows f.kept h.saved.places saved.places h.parts parts old.medium.folder
     h.blocks m.blocks)
     (keeps_now f.shows f.kept f.sound f.moment f.left_since met.only_now met.earlier
@@ -125,7 +125,8 @@ returns-clause-held g c events parts m =
     old.len old.closed events m.holds opened in
     not_rolled f.shows f.kept f.sound f.moment f.left_since met.only_now met.earlier
     g.N.Beginning.first old.medium made.medium old.len made.len old.closed made.closed events h
-    (c.in-Err-roll.ensures.err (contents_with (head_texts h.saved) h.late)
+    opened c.in-Err-roll.ensures.names
+    (c.in-Err-roll.ensures.err (head_texts h.saved ++ h.journal.contents)
     (keeps_now f.shows f.kept f.sound f.moment f.left_since met.only_now met.earlier
     g.N.Beginning.first old.medium old.len old.closed events h opened))
     c.in-Err-roll.ensures.files (returns-clause-any_moment g c events parts m opened)
@@ -139,8 +140,8 @@ returns-clause-err g c events places parts at goes_on =
     let h = at.0 in
     same_head f.shows f.kept f.sound f.moment f.left_since met.only_now met.earlier
     g.N.Beginning.first old.medium made.medium old.len made.len old.closed made.closed events places
-    parts at
-    (c.in-Err-roll.ensures.err (contents_with (head_texts h.saved) h.late)
+    parts at c.if-self.false c.in-Err-roll.ensures.names
+    (c.in-Err-roll.ensures.err (head_texts h.saved ++ h.journal.contents)
     (keeps_now f.shows f.kept f.sound f.moment f.left_since met.only_now met.earlier
     g.N.Beginning.first old.medium old.len old.closed events h c.if-self.false) goes_on)
     c.in-Err-roll.ensures.files

@@ -1,4 +1,4 @@
-use Rattle.std.proofs.Common.{◌-◌, ◌++◌, ap, inl, length, subst, sym, take, ◌∙◌, List, []}
+use Rattle.std.proofs.Common.{◌-◌, ◌++◌, ap, inl, length, subst, sym, take, ◌∙◌, List, [], refl}
 use Rattle.data_folder.proofs.Foreign.{foreign_beside, foreign_kept, foreign_rests, foreign_then}
 use Rattle.store_folder.specs.Sweeps.{names_at}
 use Rattle.block_folder.specs.declared.values.Values.{Values}
@@ -35,7 +35,8 @@ returns-in-Err-clause-err g c events parts may goes_on =
     let same = c.args.same in
     let first = g.N.Beginning.first in
     still_held f.shows f.kept f.sound f.moment f.left_since met.only_now met.earlier first old.medium
-    (record { folder = c.write_saved.new.folder }) old.len old.closed events s held parts same may c.if-self.false
+    (record (old.medium) { folder = c.write_saved.new.folder }) old.len old.closed events s held
+    parts same may c.if-self.false refl
     c.write_saved.ensures.stays
 
 pub returns-in-Err-clause-held : goal.returns-in-Err-clause-held
@@ -49,7 +50,8 @@ returns-in-Err-clause-held g c events parts may =
     let first = g.N.Beginning.first in
     let at =
     still_held f.shows f.kept f.sound f.moment f.left_since met.only_now met.earlier first old.medium
-    (record { folder = c.write_saved.new.folder }) old.len old.closed events s held parts same may c.if-self.false
+    (record (old.medium) { folder = c.write_saved.new.folder }) old.len old.closed events s held
+    parts same may c.if-self.false refl
     c.write_saved.ensures.stays in
     inl at.0
 
@@ -63,7 +65,8 @@ returns-in-Err-clause-any_moment g c events parts may opened =
     let same = c.args.same in
     let first = g.N.Beginning.first in
     writing_finds f.shows f.kept f.sound f.moment f.left_since met.only_now met.earlier first old.medium
-    (record { folder = c.write_saved.new.folder }) old.len old.closed events s held parts same may c.if-self.false
+    (record (old.medium) { folder = c.write_saved.new.folder }) old.len old.closed events s held
+    parts same may c.if-self.false
     c.write_saved.ensures.stays
 
 pub returns-in_default-clause-err : goal.returns-in_default-clause-err
@@ -76,7 +79,8 @@ returns-in_default-clause-err g c events parts may goes_on =
     let same = c.args.same in
     let first = g.N.Beginning.first in
     still_held f.shows f.kept f.sound f.moment f.left_since met.only_now met.earlier first old.medium
-    (record { folder = c.write_saved.new.folder }) old.len old.closed events s held parts same may c.if-self.false
+    (record (old.medium) { folder = c.write_saved.new.folder }) old.len old.closed events s held
+    parts same may c.if-self.false refl
     c.write_saved.ensures.stays
 
 pub returns-in_default-clause-held : goal.returns-in_default-clause-held
@@ -90,7 +94,8 @@ returns-in_default-clause-held g c events parts may =
     let first = g.N.Beginning.first in
     let at =
     still_held f.shows f.kept f.sound f.moment f.left_since met.only_now met.earlier first old.medium
-    (record { folder = c.write_saved.new.folder }) old.len old.closed events s held parts same may c.if-self.false
+    (record (old.medium) { folder = c.write_saved.new.folder }) old.len old.closed events s held
+    parts same may c.if-self.false refl
     c.write_saved.ensures.stays in
     inl at.0
 
@@ -104,7 +109,8 @@ returns-in_default-clause-any_moment g c events parts may opened =
     let same = c.args.same in
     let first = g.N.Beginning.first in
     writing_finds f.shows f.kept f.sound f.moment f.left_since met.only_now met.earlier first old.medium
-    (record { folder = c.write_saved.new.folder }) old.len old.closed events s held parts same may c.if-self.false
+    (record (old.medium) { folder = c.write_saved.new.folder }) old.len old.closed events s held
+    parts same may c.if-self.false
     c.write_saved.ensures.stays
 
 pub roll-requires : goal.roll-requires
@@ -121,9 +127,11 @@ roll-requires g c =
     let made = take same given.1 ++ there.0 in
     let rolls =
     may_roll f.shows f.kept f.sound f.moment f.left_since met.only_now met.earlier first old.medium
-    (record { folder = c.write_saved.new.folder }) old.len old.closed given.0 s held given.1 same
+    (record (old.medium) { folder = c.write_saved.new.folder }) old.len old.closed given.0 s held
+    given.1 same
     (places_from c.args.next (length s.blocks - same)) there.0 c.values-values.result
-    c.in-Ok.head given.2 c.if-self.false c.write_saved.ensures.stays there.1 there.2 c.values-values.ensures
+    c.in-Ok.head given.2 c.if-self.false refl c.write_saved.ensures.stays there.1 there.2
+    c.values-values.ensures
     c.in-Ok.ensures.saved in
     (given.0, made, rolls)
 
@@ -140,9 +148,11 @@ returns-in-Ok-roll-clause-held g c events parts may =
     let made = take same parts ++ there.0 in
     let rolls =
     may_roll f.shows f.kept f.sound f.moment f.left_since met.only_now met.earlier first old.medium
-    (record { folder = c.write_saved.new.folder }) old.len old.closed events s held parts same
+    (record (old.medium) { folder = c.write_saved.new.folder }) old.len old.closed events s held
+    parts same
     (places_from c.args.next (length s.blocks - same)) there.0 c.values-values.result
-    c.in-Ok.head may c.if-self.false c.write_saved.ensures.stays there.1 there.2 c.values-values.ensures
+    c.in-Ok.head may c.if-self.false refl c.write_saved.ensures.stays there.1 there.2
+    c.values-values.ensures
     c.in-Ok.ensures.saved in
     c.in-Ok-roll.ensures.held events made rolls
 
@@ -159,9 +169,11 @@ returns-in-Ok-roll-clause-places g c events parts may =
     let made = take same parts ++ there.0 in
     let rolls =
     may_roll f.shows f.kept f.sound f.moment f.left_since met.only_now met.earlier first old.medium
-    (record { folder = c.write_saved.new.folder }) old.len old.closed events s held parts same
+    (record (old.medium) { folder = c.write_saved.new.folder }) old.len old.closed events s held
+    parts same
     (places_from c.args.next (length s.blocks - same)) there.0 c.values-values.result
-    c.in-Ok.head may c.if-self.false c.write_saved.ensures.stays there.1 there.2 c.values-values.ensures
+    c.in-Ok.head may c.if-self.false refl c.write_saved.ensures.stays there.1 there.2
+    c.values-values.ensures
     c.in-Ok.ensures.saved in
     let now = c.roll.new.self.events.journal in (
       made,
@@ -185,14 +197,17 @@ returns-in-Ok-roll-clause-any_moment g c events parts may opened =
     let made = take same parts ++ there.0 in
     let rolls =
     may_roll f.shows f.kept f.sound f.moment f.left_since met.only_now met.earlier first old.medium
-    (record { folder = c.write_saved.new.folder }) old.len old.closed events s held parts same
+    (record (old.medium) { folder = c.write_saved.new.folder }) old.len old.closed events s held
+    parts same
     (places_from c.args.next (length s.blocks - same)) there.0 c.values-values.result
-    c.in-Ok.head may c.if-self.false c.write_saved.ensures.stays there.1 there.2 c.values-values.ensures
+    c.in-Ok.head may c.if-self.false refl c.write_saved.ensures.stays there.1 there.2
+    c.values-values.ensures
     c.in-Ok.ensures.saved in
     finds_on f.moment f.left_since first events old.medium.folder c.write_saved.new.folder
     c.roll.new.self.events.journal.medium.folder
     (writing_finds f.shows f.kept f.sound f.moment f.left_since met.only_now met.earlier first old.medium
-    (record { folder = c.write_saved.new.folder }) old.len old.closed events s held parts same may c.if-self.false
+    (record (old.medium) { folder = c.write_saved.new.folder }) old.len old.closed events s held
+    parts same may c.if-self.false
     c.write_saved.ensures.stays)
     (c.in-Ok-roll.ensures.any_moment events made rolls c.if-self.false)
 
@@ -209,9 +224,11 @@ returns-clause-held g c events parts may =
     let made = take same parts ++ there.0 in
     let rolls =
     may_roll f.shows f.kept f.sound f.moment f.left_since met.only_now met.earlier first old.medium
-    (record { folder = c.write_saved.new.folder }) old.len old.closed events s held parts same
+    (record (old.medium) { folder = c.write_saved.new.folder }) old.len old.closed events s held
+    parts same
     (places_from c.args.next (length s.blocks - same)) there.0 c.values-values.result
-    c.in-Ok.head may c.if-self.false c.write_saved.ensures.stays there.1 there.2 c.values-values.ensures
+    c.in-Ok.head may c.if-self.false refl c.write_saved.ensures.stays there.1 there.2
+    c.values-values.ensures
     c.in-Ok.ensures.saved in
     c.in-Err-roll.ensures.held events made rolls
 
@@ -226,7 +243,8 @@ returns-clause-err g c events parts may goes_on =
     let first = g.N.Beginning.first in
     c.in-Err-roll.ensures.err events held parts
     (still_held f.shows f.kept f.sound f.moment f.left_since met.only_now met.earlier first old.medium
-    (record { folder = c.write_saved.new.folder }) old.len old.closed events s held parts same may c.if-self.false
+    (record (old.medium) { folder = c.write_saved.new.folder }) old.len old.closed events s held
+    parts same may c.if-self.false refl
     c.write_saved.ensures.stays) goes_on
 
 pub returns-clause-any_moment : goal.returns-clause-any_moment
@@ -242,14 +260,17 @@ returns-clause-any_moment g c events parts may opened =
     let made = take same parts ++ there.0 in
     let rolls =
     may_roll f.shows f.kept f.sound f.moment f.left_since met.only_now met.earlier first old.medium
-    (record { folder = c.write_saved.new.folder }) old.len old.closed events s held parts same
+    (record (old.medium) { folder = c.write_saved.new.folder }) old.len old.closed events s held
+    parts same
     (places_from c.args.next (length s.blocks - same)) there.0 c.values-values.result
-    c.in-Ok.head may c.if-self.false c.write_saved.ensures.stays there.1 there.2 c.values-values.ensures
+    c.in-Ok.head may c.if-self.false refl c.write_saved.ensures.stays there.1 there.2
+    c.values-values.ensures
     c.in-Ok.ensures.saved in
     finds_on f.moment f.left_since first events old.medium.folder c.write_saved.new.folder
     c.roll.new.self.events.journal.medium.folder
     (writing_finds f.shows f.kept f.sound f.moment f.left_since met.only_now met.earlier first old.medium
-    (record { folder = c.write_saved.new.folder }) old.len old.closed events s held parts same may c.if-self.false
+    (record (old.medium) { folder = c.write_saved.new.folder }) old.len old.closed events s held
+    parts same may c.if-self.false
     c.write_saved.ensures.stays)
     (c.in-Err-roll.ensures.any_moment events made rolls c.if-self.false)
 

@@ -14,9 +14,9 @@ returns-clause-held g c events parts at =
     let met = g.met.F.Folder in
     let old = c.args.self.now.events.journal in
     holds_swept f.shows f.kept f.sound f.moment f.left_since met.only_now met.earlier
-    g.N.Beginning.first old.medium (record { folder = c.sweep_apart.new.folder }) old.len
-    old.closed events c.args.places.now parts (names_at c.args.places.now) at c.requires.open refl
-    c.sweep_apart.ensures.kept
+    g.N.Beginning.first old.medium (record (old.medium) { folder = c.sweep_apart.new.folder })
+    old.len old.closed events c.args.places.now parts (names_at c.args.places.now) at
+    c.requires.open refl refl c.sweep_apart.ensures.kept
 
 pub returns-clause-any_moment : goal.returns-clause-any_moment
 returns-clause-any_moment g c events parts at =
@@ -24,9 +24,9 @@ returns-clause-any_moment g c events parts at =
     let met = g.met.F.Folder in
     let old = c.args.self.now.events.journal in
     swept_finds f.shows f.kept f.sound f.moment f.left_since met.only_now met.earlier
-    g.N.Beginning.first old.medium (record { folder = c.sweep_apart.new.folder }) old.len
-    old.closed events c.args.places.now parts (names_at c.args.places.now) at c.requires.open refl
-    c.sweep_apart.ensures.kept
+    g.N.Beginning.first old.medium (record (old.medium) { folder = c.sweep_apart.new.folder })
+    old.len old.closed events c.args.places.now parts (names_at c.args.places.now) at
+    c.requires.open refl c.sweep_apart.ensures.kept
 
 pub returns-clause-foreign : goal.returns-clause-foreign
 returns-clause-foreign g c =

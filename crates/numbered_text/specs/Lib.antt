@@ -1,0 +1,4 @@
+pub mod Each
+pub mod Outcome
+pub mod Reading
+pub mod Writing

@@ -1,0 +1,4 @@
+pub mod Accepted
+pub mod Again
+pub mod Histories
+pub mod Moves
