@@ -1,7 +1,7 @@
 //! Where events are kept before they are published.
 
 ghost use Rattle.std.specs.Prelude.{◌≡◌, ◌⊎◌, ◌++◌, ℕ, Bool, List, true, false, Err, OnOk};
-ghost use Rattle.std.specs.Prelude.{None, OnErr, IsErrOf, Ok};
+ghost use Rattle.std.specs.Prelude.{None, OnErr, IfOk, IsErrOf, Ok};
 ghost use Rattle.head.specs.Heads.{SnapshotParts, world_of};
 ghost use Rattle.head.specs.Worlds.{Event as Change, World};
 ghost use Rattle.keeper.specs.Finding.{AreAll, AreAllAndMore, AreAllAndSome, IsOfAll};
@@ -19,15 +19,31 @@ use std::alloc::Global;
 /// the world of these, if they are accepted, each after those before it (`finds`), and no other
 /// world (`finds_only`). What is kept may be begun anew: a head then says the world of the events
 /// before it, and these are gone, though what is left still stands for them.
+///
+/// What it was handed last can be taken back, once: [`Keeper::keep`] gives the right to that, and
+/// one who gives the right up ([`Keeper::settle`]) has it shown that the events stay.
 pub trait Keeper {
+    /// The right to take back what was kept last. Keeping alone gives one.
+    type Last: Drop;
+
+    /// The token that what was kept stays. It is given for a right to take that back.
+    type Settled: Drop;
+
     /// The world before all events.
     ghost first: { World };
 
     /// These are the events that it keeps, in order, those before a head among them.
     ghost holds: { Self → List Change → Type 0 };
 
-    /// It keeps the first events and then the second ones, which it was handed last.
-    ghost kept_last: { Self → List Change → List Change → Type 0 };
+    /// All that it keeps may be these events: someone asked for each.
+    ghost may: { List Change → Type 0 };
+
+    /// It keeps the first events and then the second ones, which it was handed last, and this is
+    /// the right to take these back.
+    ghost kept_last: { Self → Self.Last → List Change → List Change → Type 0 };
+
+    /// These events stay.
+    ghost stays: { Self.Settled → List Change → Type 0 };
 
     /// Whether it takes nothing more.
     ghost closed: { Self → Bool };
@@ -62,18 +78,21 @@ pub trait Keeper {
     /// These hold any events.
     ghost any: { idle ≡ true → (k : Self) (events : List Change) → holds k events };
 
+    /// And in these any events stay.
+    ghost any_stays: { idle ≡ true → (s : Self.Settled) (events : List Change) → stays s events };
+
     /// Whether keepers of this kind keep nothing.
     fn is_idle() -> bool
         ensures { result ≡ idle };
 
     /// Keeps several events more, for good, by their records. After an `Err` it keeps what it kept.
-    fn keep(&mut self, records: &[u8]) -> Result<(), KeepError>
-        requires held { (events : List Change) × holds self.old events }
-        requires spelled { (more : List Change) × SpellTogether records.now more }
+    fn keep(&mut self, records: &[u8]) -> Result<Self::Last, KeepError>
+        requires held { (events more : List Change) × holds self.old events
+            × SpellTogether records.now more × may (events ++ more) }
         ensures ok { OnOk result ((events more : List Change) → holds self.old events
             → SpellTogether records.now more → holds self.new (events ++ more)) }
-        ensures last { OnOk result ((events more : List Change) → holds self.old events
-            → SpellTogether records.now more → kept_last self.new events more) }
+        ensures last { IfOk result (λ last. (events more : List Change) → holds self.old events
+            → SpellTogether records.now more → kept_last self.new last events more) }
         ensures err { OnErr result ((events : List Change) → holds self.old events
             → holds self.new events) }
         // Nothing can fail where nothing is kept.
@@ -95,13 +114,19 @@ pub trait Keeper {
         ensures lost { closed self.new ≡ true
             → (closed self.old ≡ true) ⊎ (failed self.new ≡ true) };
 
+    /// The right to take back what was kept last is given up: all of it stays.
+    fn settle(&self, last: Self::Last) -> Self::Settled
+        ensures { (events more : List Change) → kept_last self.now last events more
+            → stays result (events ++ more) };
+
     /// The events that were kept last are not published: it takes nothing more, and a start finds
     /// the first few of these events, or none, after all before them.
-    fn close(&mut self)
-        requires { closed self.old ≡ false }
-        ensures held { (events more : List Change) → kept_last self.old events more
+    fn close(&mut self, last: Self::Last)
+        requires open { closed self.old ≡ false }
+        requires last { (events more : List Change) × kept_last self.old last events more }
+        ensures held { (events more : List Change) → kept_last self.old last events more
             → holds self.new events }
-        ensures any_moment { (events more : List Change) → kept_last self.old events more
+        ensures any_moment { (events more : List Change) → kept_last self.old last events more
             → LeavesEvents moment left_since stands self.old self.new
             (AreAllAndSome events more) }
         ensures closed { idle ≡ false → closed self.new ≡ true };
@@ -158,6 +183,10 @@ pub trait Keeper {
 pub struct NoKeeper;
 
 impl Keeper for NoKeeper {
+    type Last = ();
+
+    type Settled = ();
+
     ghost use Rattle.std.specs.Prelude.{false, []};
     ghost use Rattle.head.specs.Blocks.{opening_of};
     ghost use Rattle.head.specs.Heads.{world_of};
@@ -168,9 +197,15 @@ impl Keeper for NoKeeper {
 
     ghost any = { λ idle k events. tt };
 
+    ghost any_stays = { λ idle s events. tt };
+
     ghost holds = { λ k events. Unit {0} };
 
-    ghost kept_last = { λ k events more. Unit {0} };
+    ghost may = { λ events. Unit {0} };
+
+    ghost kept_last = { λ k last events more. Unit {0} };
+
+    ghost stays = { λ s events. Unit {0} };
 
     ghost closed = { λ k. false };
 
@@ -198,7 +233,9 @@ impl Keeper for NoKeeper {
         Ok(())
     }
 
-    fn close(&mut self) {}
+    fn settle(&self, _last: ()) {}
+
+    fn close(&mut self, _last: ()) {}
 
     fn checkpoint(
         &mut self,

@@ -1,5 +1,5 @@
 -- What a log lists was asked for, if all that was tried is.
-use Rattle.std.proofs.Common.{◌≡◌, ℕ, List, [], ◌∷◌, ◌++◌, drop, take, sym, subst}
+use Rattle.std.proofs.Common.{◌≡◌, ℕ, Bool, true, false, List, [], ◌∷◌, ◌++◌, drop, take, sym, subst}
 use Rattle.std.proofs.Common.{append_assoc, append-nil, take-append-drop}
 use mathlib.Core.List.{IsPrefix}
 use Rattle.head.specs.Worlds.{Event}
@@ -9,6 +9,7 @@ use Rattle.snapshots.specs.declared.entry.Mark.TheVariants.{Try, Seal, Done, Voi
 use Rattle.snapshots.specs.Asking.{AreAsked, AskedBehind}
 use Rattle.snapshots.specs.Marks.{accepted, list_of, tried_of}
 use Rattle.snapshots.specs.Seats.{count_of}
+use Rattle.snapshots.specs.Standings.{current}
 use Rattle.snapshots.proofs.Accepts.{accepted_begins_tried, list_begins}
 use Rattle.snapshots.proofs.Accepts.{tried_done, tried_seal, tried_try, tried_void}
 
@@ -83,3 +84,9 @@ module _ (asked : Event → ℕ → ℕ → Type 0) where
   void_asked log a =
       asked_as (accepted log) (tried_of (log ++ Void ∷ [])) (sym (tried_void log))
       (accepted_asked log a)
+
+  -- what the next event is stepped after
+  pub current_asked : (waits : Bool) (log : List Mark) → AreAsked asked (tried_of log)
+      → AreAsked asked (current waits log)
+  current_asked true log a = a
+  current_asked false log a = accepted_asked log a

@@ -1,6 +1,6 @@
 -- Events are kept, and then published.
 use Rattle.std.proofs.Common.{◌≡◌, ◌⊎◌, ℕ, zero, suc, Result, Ok, Err, OnOk, is_ok, if◌then◌else◌, Bool, true, false, List, [], ◌∷◌, ◌++◌, take, inl, inr, refl, sym, ap, subst, ◌∙◌, append_assoc}
-use Rattle.std.proofs.lemmas.List.{map-append, map_push}
+use Rattle.std.proofs.lemmas.List.{append-nil, map-append, map_push}
 use Rattle.std.specs.List.{AllByRecursion}
 use Rattle.head.specs.Heads.{SnapshotParts, world_of}
 use Rattle.head.specs.Refusals.{Refusal}
@@ -75,12 +75,9 @@ pub no_seat : (e : CommitError) → IsOfKeeping e → e ≡ Seat → ⊥
 no_seat e is same = subst IsOfKeeping same is
 
 -- what the bytes spell together: all of these events, or none
-pub spelled_by : (idle : Bool) (more : List Event) (bytes : List ℕ) → SpellAll idle more bytes → (few : List Event) × AreAllOrNone more few × SpellTogether bytes few
-spelled_by true more bytes none = ([], inr refl, subst (λ (xs : List ℕ). SpellTogether xs []) (sym none) nothing_spelled)
+pub spelled_by : (idle : Bool) (more : List Event) (bytes : List ℕ) → SpellAll idle more bytes → (few : List Event) × AreAllOrNone idle more few × SpellTogether bytes few
+spelled_by true more bytes none = ([], inr (refl, refl), subst (λ (xs : List ℕ). SpellTogether xs []) (sym none) nothing_spelled)
 spelled_by false more bytes spells = (more, inl refl, spells)
-
-pub spelled_some : (idle : Bool) (more : List Event) (bytes : List ℕ) → SpellAll idle more bytes → (few : List Event) × SpellTogether bytes few
-spelled_some idle more bytes all = let s = spelled_by idle more bytes all in (s.0, s.2)
 
 -- nothing is spelled by nothing
 pub spell_nothing : (idle : Bool) → SpellAll idle [] []
@@ -134,15 +131,36 @@ some_or_none : (events more found : List Event) → AreAllAndSome events [] foun
 some_or_none events more found some = (0, some.1 ∙ ap (λ (xs : List Event). events ++ xs) (none_taken some.0))
 
 -- these, or none
-pub at_most : (events more few found : List Event) → AreAllOrNone more few → AreAllAndSome events few found → AreAllAndSome events more found
-at_most events more few found (inl is) some = subst (λ (xs : List Event). AreAllAndSome events xs found) is some
-at_most events more few found (inr none) some =
-    some_or_none events more found (subst (λ (xs : List Event). AreAllAndSome events xs found) none some)
+pub at_most : (idle : Bool) (events more few found : List Event) → AreAllOrNone idle more few → AreAllAndSome events few found → AreAllAndSome events more found
+at_most idle events more few found (inl is) some = subst (λ (xs : List Event). AreAllAndSome events xs found) is some
+at_most idle events more few found (inr none) some =
+    some_or_none events more found (subst (λ (xs : List Event). AreAllAndSome events xs found) none.1 some)
 
-pub last_more : {K : Type 0} (idle : Bool) (kept_last : K → List Event → List Event → Type 0) (new : K) (bytes : List ℕ) (events more : List Event)
-    → ((few : List Event) → SpellTogether bytes few → kept_last new events few)
-    → SpellAll idle more bytes → (few : List Event) × AreAllOrNone more few × kept_last new events few
-last_more idle kept_last new bytes events more f all = let s = spelled_by idle more bytes all in (s.0, s.1, f s.0 s.2)
+pub last_more : (idle : Bool) (P : List Event → Type 0) (bytes : List ℕ) (more : List Event)
+    → ((few : List Event) → SpellTogether bytes few → P few) → SpellAll idle more bytes
+    → (few : List Event) × AreAllOrNone idle more few × P few
+last_more idle P bytes more f all = let s = spelled_by idle more bytes all in (s.0, s.1, f s.0 s.2)
+
+-- what keepers of this kind may keep, by what they are handed
+pub may_be_handed : {K : Type 0} (idle : Bool) (holds : K → List Event → Type 0) (may : List Event → Type 0) (keeper : K) (bytes : List ℕ)
+    → (idle ≡ true → (k : K) (events : List Event) → holds k events)
+    → (events more : List Event) → holds keeper events → SpellAll idle more bytes → may (events ++ more)
+    → (all few : List Event) × holds keeper all × SpellTogether bytes few × may (all ++ few)
+may_be_handed true holds may keeper bytes any events more held none is = (
+  events ++ more,
+  [],
+  any refl keeper (events ++ more),
+  subst (λ (xs : List ℕ). SpellTogether xs []) (sym none) nothing_spelled,
+  subst may (sym (append-nil (events ++ more))) is,
+)
+may_be_handed false holds may keeper bytes any events more held spells is = (events, more, held, spells, is)
+
+-- what stays of all or none
+pub stays_all : {S : Type 0} (idle : Bool) (stays : S → List Event → Type 0) (token : S) (events more few : List Event)
+    → (idle ≡ true → (s : S) (events : List Event) → stays s events) → AreAllOrNone idle more few
+    → stays token (events ++ few) → stays token (events ++ more)
+stays_all idle stays token events more few any (inl is) stay = subst (λ (xs : List Event). stays token (events ++ xs)) is stay
+stays_all idle stays token events more few any (inr none) stay = any none.0 token (events ++ more)
 
 module _ {K L : Type 0} (moment : K → ℕ) (left_since : K → ℕ → L → Type 0) (stands : L → List Event → Type 0) where
   -- what is in flight are these events, or none
@@ -151,5 +169,5 @@ module _ {K L : Type 0} (moment : K → ℕ) (left_since : K → ℕ → L → T
       → SpellAll idle more bytes → LeavesEvents moment left_since stands old new (AreAllAndSome events more)
   in_flight old new idle bytes events more leaves all =
       let s = spelled_by idle more bytes all in
-      wider moment left_since stands old new (AreAllAndSome events s.0) (AreAllAndSome events more) (λ found some. at_most events more s.0 found s.1 some)
+      wider moment left_since stands old new (AreAllAndSome events s.0) (AreAllAndSome events more) (λ found some. at_most idle events more s.0 found s.1 some)
       (leaves s.0 s.2)

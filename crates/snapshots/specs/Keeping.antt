@@ -13,7 +13,8 @@ use Rattle.keeper.specs.Together.{SpellTogether}
 use Rattle.keeper.specs.declared.error.KeepError.{KeepError}
 use Rattle.keeper.specs.declared.error.KeepError.TheVariants as keep
 use Rattle.snapshots.specs.Marks.{accepted, list_of, tried_of}
-use Rattle.snapshots.specs.Replays.{events_in}
+use Rattle.snapshots.specs.Asking.{AreAsked}
+use Rattle.snapshots.specs.Replays.{events_in, IsAfter}
 use Rattle.snapshots.specs.Seats.{SeatView}
 use Rattle.snapshots.specs.Standings.{StandsFor}
 use Rattle.snapshots.specs.declared.entry.Mark.{Mark}
@@ -28,9 +29,9 @@ IsRecordFor idle event bytes =
 abbrev pub SpellAll : Bool → List Event → List ℕ → Type 0
 SpellAll idle events bytes = MatchBool idle (bytes ≡ []) (SpellTogether bytes events)
 
--- these are all of those events, or none
-abbrev pub AreAllOrNone : List Event → List Event → Type 0
-AreAllOrNone events more = (more ≡ events) ⊎ (more ≡ [])
+-- these are all of those events; or they are none, for keepers that keep nothing
+abbrev pub AreAllOrNone : Bool → List Event → List Event → Type 0
+AreAllOrNone idle events more = (more ≡ events) ⊎ ((idle ≡ true) × (more ≡ []))
 
 -- what was tried is what is listed and the events that wait beside it, of which these are the
 -- records
@@ -51,19 +52,29 @@ pub record IsGroup (opening : SnapshotParts) (idle : Bool) (log : List Mark)
 abbrev pub kept_of : List Event → List Entry → List Event
 kept_of before entries = before ++ events_in entries
 
+-- Each list of events that were asked for, each after those before it, may be kept behind the
+-- events from before the store was opened.
+abbrev pub MayBeKept : (List Event → Type 0) → (Event → ℕ → ℕ → Type 0) → SnapshotParts
+    → List Event → Type 0
+MayBeKept may asked opening before =
+    (entries : List Entry) (s : SnapshotParts) → AreAsked asked entries → IsAfter opening entries s
+    → may (kept_of before entries)
+
 -- A keeper of this kind has come to hold these entries: what it holds in some state are the events
--- from before the store was opened, and those of a list that begins with the entries.
-pub record AreHeld {K : Type 0} (holds : K → List Event → Type 0) (before : List Event)
-    (entries : List Entry) : Type 0 where
+-- from before the store was opened, and those of a list that begins with the entries. And they
+-- stay: there is the token of it, if there is any entry.
+pub record AreHeld {K S : Type 0} (holds : K → List Event → Type 0)
+    (stays : S → List Event → Type 0) (before : List Event) (entries : List Entry) : Type 0 where
   pub keeper : K
   pub all : List Entry
   pub begins : IsPrefix entries all
   pub held : holds keeper (kept_of before all)
+  pub stay : (all ≡ []) ⊎ ((token : S) × stays token (kept_of before all))
 
 -- the seat is as it was, or all that it has seen is held
-abbrev pub PublishesHeld : {K : Type 0} → (K → List Event → Type 0) → List Event → SeatView
-    → SeatView → Type 0
-PublishesHeld holds before old new = (new ≡ old) ⊎ AreHeld holds before new.seen
+abbrev pub PublishesHeld : {K S : Type 0} → (K → List Event → Type 0)
+    → (S → List Event → Type 0) → List Event → SeatView → SeatView → Type 0
+PublishesHeld holds stays before old new = (new ≡ old) ⊎ AreHeld holds stays before new.seen
 
 -- If events are kept, those from before the store was opened make of the first world the one that
 -- it opened with.

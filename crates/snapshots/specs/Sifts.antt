@@ -1,12 +1,13 @@
 -- What a sifted commit of a batch comes to.
-use Rattle.std.specs.Prelude.{◌≡◌, ℕ, Bool, true, false, List, [], ◌∷◌, ◌++◌}
+use Rattle.std.specs.Prelude.{◌≡◌, ◌≢◌, ℕ, Bool, true, false, List, [], ◌∷◌, ◌++◌}
 use Rattle.head.specs.Heads.{SnapshotParts, world_of}
 use Rattle.head.specs.Laws.{reasons}
 use Rattle.head.specs.Sifting.{sifted}
 use Rattle.head.specs.Telling.{told_of}
-use Rattle.head.specs.Worlds.{Batch, batch}
+use Rattle.head.specs.Worlds.{Batch, Event, batch}
 use Rattle.head.specs.declared.left.Left.{Left}
 use Rattle.snapshots.specs.declared.entry.Entry.{Entry}
+use Rattle.snapshots.specs.Asking.{AreAsked}
 use Rattle.snapshots.specs.Replays.{IsAfter}
 use Rattle.snapshots.specs.Seats.{SeatView, IsMetBy}
 
@@ -32,6 +33,14 @@ pub record IsSiftedAt (seat : ℕ) (before : List Entry) (snapshot : SnapshotPar
   pub list : s.list ≡ before ++ entries_of seat (sifted (world_of snapshot) xs).kept
   pub left : s.left ≡ told_of (reasons (sifted (world_of snapshot) xs).left)
   pub joined : s.joined ≡ has_samples (sifted (world_of snapshot) xs).kept
+
+-- What is kept of the batch was asked for, if it is anything, whatever list of events that were
+-- asked for and accepted it is sifted after, of those that the seat may meet.
+abbrev pub AsksSifted : (Event → ℕ → ℕ → Type 0) → SnapshotParts → SeatView → Batch → Type 0
+AsksSifted asked opening seat xs =
+    (before : List Entry) (s : SnapshotParts) → AreAsked asked before → IsAfter opening before s
+    → IsMetBy seat before → (sifted (world_of s) xs).kept ≢ []
+    → asked (batch (sifted (world_of s) xs).kept) seat.number seat.count
 
 -- the batch was sifted so after some list of accepted events that the seat may meet
 pub record IsSiftedOnceMet (opening : SnapshotParts) (seat : SeatView) (xs : Batch)

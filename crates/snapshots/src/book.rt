@@ -9,7 +9,8 @@ ghost use Rattle.snapshots.specs.Asking.{AreAsked};
 ghost use Rattle.snapshots.specs.Marks.{accepted, list_of};
 ghost use Rattle.snapshots.specs.Grows.{Shows};
 ghost use Rattle.snapshots.specs.Keeping.{kept_of, AreKeptBetween, IsGroup, IsHindered};
-ghost use Rattle.snapshots.specs.Keeping.{IsOfAllKept, IsOfKeeping, IsOfKeptBetween, OpensAsKept};
+ghost use Rattle.snapshots.specs.Keeping.{IsOfAllKept, IsOfKeeping, IsOfKeptBetween, MayBeKept};
+ghost use Rattle.snapshots.specs.Keeping.{OpensAsKept};
 ghost use Rattle.snapshots.specs.Replays.{IsAfter};
 
 use crate::group::Group;
@@ -37,7 +38,7 @@ pub struct Book<J: Naming, R: Wait + Drop, K: Keeper + Drop = NoKeeper> {
 impl<J: Naming, R: Wait + Drop, K: Keeper + Drop> Model for Book<J, R, K> {
     ghost use Rattle.snapshots.specs.Marks.{accepted};
     ghost use Rattle.snapshots.specs.Grows.{Shows};
-    ghost use Rattle.snapshots.specs.Keeping.{kept_of, OpensAsKept};
+    ghost use Rattle.snapshots.specs.Keeping.{kept_of, MayBeKept, OpensAsKept};
     ghost use Rattle.snapshots.specs.Views.{Published};
 
     ghost Value = { Published K };
@@ -51,7 +52,8 @@ impl<J: Naming, R: Wait + Drop, K: Keeper + Drop> Model for Book<J, R, K> {
     ghost invariant = { λ b.
         Shows J.book J.opening J.asked b.press.desk.shown.value (accepted b.log)
         × K.holds b.keeper (kept_of J.before (accepted b.log))
-        × OpensAsKept K.idle K.first J.before J.opening };
+        × OpensAsKept K.idle K.first J.before J.opening
+        × MayBeKept K.may J.asked J.opening J.before };
 }
 
 impl<J: Naming, R: Wait + Drop, K: Keeper + Drop> Book<J, R, K> {
@@ -59,6 +61,7 @@ impl<J: Naming, R: Wait + Drop, K: Keeper + Drop> Book<J, R, K> {
     pub(crate) fn of(rt: R, log: LogPrefix<J>, press: Press<J>, keeper: K) -> Book<J, R, K>
         requires kept { K.holds keeper J.before }
         requires world { OpensAsKept K.idle K.first J.before J.opening }
+        requires may { MayBeKept K.may J.asked J.opening J.before }
         requires shown { Shows J.book J.opening J.asked press.desk.shown.value (accepted log) }
         requires empty { accepted log ≡ [] }
         ensures { result ≡ record {

@@ -9,12 +9,11 @@ ghost use Rattle.snapshots.specs.Tips.{IsFailure};
 ghost use Rattle.labels.specs.Contents.{is_time};
 ghost use Rattle.head.specs.BatchRows.{batch_of_rows};
 ghost use Rattle.head.specs.Batches.{is_deletion};
-ghost use Rattle.head.specs.Sifting.{sifted};
-ghost use Rattle.head.specs.Worlds.{World, batch, deletion, cut, matchers_of};
+ghost use Rattle.head.specs.Worlds.{batch, deletion, cut, matchers_of};
 ghost use Rattle.snapshots.specs.Replays.{EndsWith, AreAccepted, IsRefusedAfter, IsRefusedBy};
 ghost use Rattle.snapshots.specs.Replays.{IsOfStore};
 ghost use Rattle.snapshots.specs.Seats.{HasOneMoreEvent};
-ghost use Rattle.snapshots.specs.Sifts.{IsSiftedOnceMet};
+ghost use Rattle.snapshots.specs.Sifts.{AsksSifted, IsSiftedOnceMet};
 ghost use Rattle.snapshots.specs.Trials.{list_in, published_in};
 
 use crate::appender::Appender;
@@ -106,7 +105,7 @@ impl<J: Naming, R: Wait + Drop, K: Keeper + Drop> Committer<J, R, K> {
         trial: &LogPrefix<J>,
     ) -> Result<Receipt<J>, CommitError>
         ensures receipt { IfOk result (λ r. r ≡ tried_of trial.now) }
-        ensures held { IfOk result (λ r. AreHeld K.holds J.before r) }
+        ensures held { IfOk result (λ r. AreHeld K.holds K.stays J.before r) }
         ensures asked { IfOk result (λ r. AreAsked J.asked r) }
         ensures refused { IfErr result (λ e. IsFailure K.idle e) }
     {
@@ -129,10 +128,10 @@ impl<J: Naming, R: Wait + Drop, K: Keeper + Drop> Committer<J, R, K> {
         tip: MutexGuard<'a, Tip<J, K>>,
         trial: Trial<J>,
     ) -> Result<Receipt<J>, CommitError>
-        requires held { IfSome (published_in trial) (λ r. AreHeld K.holds J.before r) }
+        requires held { IfSome (published_in trial) (λ r. AreHeld K.holds K.stays J.before r) }
         requires asked { IfSome (published_in trial) (λ r. AreAsked J.asked r) }
         ensures receipt { IfOk result (λ r. r ≡ list_in trial) }
-        ensures held { IfOk result (λ r. AreHeld K.holds J.before r) }
+        ensures held { IfOk result (λ r. AreHeld K.holds K.stays J.before r) }
         ensures asked { IfOk result (λ r. AreAsked J.asked r) }
         ensures refused { IfErr result (λ e. IsFailure K.idle e) }
     {
@@ -154,14 +153,15 @@ impl<J: Naming, R: Wait + Drop, K: Keeper + Drop> Committer<J, R, K> {
         ensures ends { IfOk result (λ r. EndsWith (C.event change) seat.old.number r) }
         ensures accepted { IfOk result (λ r. AreAccepted J.opening r) }
         ensures asked { IfOk result (λ r. AreAsked J.asked r) }
-        ensures held { IfOk result (λ r. AreHeld K.holds J.before r) }
+        ensures held { IfOk result (λ r. AreHeld K.holds K.stays J.before r) }
         ensures counted { IfOk result (λ r. HasOneMoreEvent seat.old seat.new r) }
         ensures kept { IfErr result (λ e. (e.0 ≡ change) × (seat.new ≡ seat.old)) }
         ensures refused { IfErr result (λ e.
             IsRefusedAfter J.opening seat.old e.1.error (C.event change)) }
         ensures met { IfErr result (λ e.
             IsRefusedBy J.opening seat.old e.1.error (C.event change) e.1.met) }
-        ensures known { IfErr result (λ e. IfSome e.1.met (λ r. AreHeld K.holds J.before r)) }
+        ensures known { IfErr result (λ e. IfSome e.1.met
+            (λ r. AreHeld K.holds K.stays J.before r)) }
         ensures met_asked { IfErr result (λ e. IfSome e.1.met (λ r. AreAsked J.asked r)) }
         ensures journal { IfErr result (λ e. e.1.error ≡ CommitError.Journal → K.idle ≡ false) }
     {
@@ -219,14 +219,15 @@ impl<J: Naming, R: Wait + Drop, K: Keeper + Drop> Committer<J, R, K> {
         ensures ends { IfOk result (λ r. EndsWith (batch appender) seat.old.number r) }
         ensures accepted { IfOk result (λ r. AreAccepted J.opening r) }
         ensures asked { IfOk result (λ r. AreAsked J.asked r) }
-        ensures held { IfOk result (λ r. AreHeld K.holds J.before r) }
+        ensures held { IfOk result (λ r. AreHeld K.holds K.stays J.before r) }
         ensures counted { IfOk result (λ r. HasOneMoreEvent seat.old seat.new r) }
         ensures kept { IfErr result (λ e. (e.0 ≡ appender) × (seat.new ≡ seat.old)) }
         ensures refused { IfErr result (λ e.
             IsRefusedAfter J.opening seat.old e.1.error (batch appender)) }
         ensures met { IfErr result (λ e.
             IsRefusedBy J.opening seat.old e.1.error (batch appender) e.1.met) }
-        ensures known { IfErr result (λ e. IfSome e.1.met (λ r. AreHeld K.holds J.before r)) }
+        ensures known { IfErr result (λ e. IfSome e.1.met
+            (λ r. AreHeld K.holds K.stays J.before r)) }
         ensures met_asked { IfErr result (λ e. IfSome e.1.met (λ r. AreAsked J.asked r)) }
         ensures journal { IfErr result (λ e. e.1.error ≡ CommitError.Journal → K.idle ≡ false) }
     {
@@ -250,14 +251,15 @@ impl<J: Naming, R: Wait + Drop, K: Keeper + Drop> Committer<J, R, K> {
             EndsWith (batch (batch_of_rows rows)) seat.old.number r) }
         ensures accepted { IfOk result (λ r. AreAccepted J.opening r) }
         ensures asked { IfOk result (λ r. AreAsked J.asked r) }
-        ensures held { IfOk result (λ r. AreHeld K.holds J.before r) }
+        ensures held { IfOk result (λ r. AreHeld K.holds K.stays J.before r) }
         ensures counted { IfOk result (λ r. HasOneMoreEvent seat.old seat.new r) }
         ensures kept { IfErr result (λ e. (e.0 ≡ rows) × (seat.new ≡ seat.old)) }
         ensures refused { IfErr result (λ e.
             IsRefusedAfter J.opening seat.old e.1.error (batch (batch_of_rows rows))) }
         ensures met { IfErr result (λ e.
             IsRefusedBy J.opening seat.old e.1.error (batch (batch_of_rows rows)) e.1.met) }
-        ensures known { IfErr result (λ e. IfSome e.1.met (λ r. AreHeld K.holds J.before r)) }
+        ensures known { IfErr result (λ e. IfSome e.1.met
+            (λ r. AreHeld K.holds K.stays J.before r)) }
         ensures met_asked { IfErr result (λ e. IfSome e.1.met (λ r. AreAsked J.asked r)) }
         ensures journal { IfErr result (λ e. e.1.error ≡ CommitError.Journal → K.idle ≡ false) }
     {
@@ -282,13 +284,12 @@ impl<J: Naming, R: Wait + Drop, K: Keeper + Drop> Committer<J, R, K> {
         seat: &mut Seat<J>,
         rows: RowBatch,
     ) -> Result<Sifted<J>, (RowBatch, CommitError)>
-        requires asked { (w : World) → J.asked (batch (sifted w (batch_of_rows rows)).kept)
-            seat.old.number seat.old.count }
+        requires asked { AsksSifted J.asked J.opening seat.old (batch_of_rows rows) }
         ensures sifted { IfOk result (λ s.
             IsSiftedOnceMet J.opening seat.old (batch_of_rows rows) s) }
         ensures accepted { IfOk result (λ s. AreAccepted J.opening s.list) }
         ensures asked { IfOk result (λ s. AreAsked J.asked s.list) }
-        ensures held { IfOk result (λ s. AreHeld K.holds J.before s.list) }
+        ensures held { IfOk result (λ s. AreHeld K.holds K.stays J.before s.list) }
         ensures one { IfOk result (λ s. MatchBool s.joined
             (HasOneMoreEvent seat.old seat.new s.list) (seat.new ≡ seat.old)) }
         ensures kept { IfErr result (λ e. (e.0 ≡ rows) × (seat.new ≡ seat.old)) }
@@ -332,7 +333,7 @@ impl<J: Naming, R: Wait + Drop, K: Keeper + Drop> Committer<J, R, K> {
         ensures ends { IfOk result (EndsWith (deletion matchers.items from to) seat.old.number) }
         ensures accepted { IfOk result (λ r. AreAccepted J.opening r) }
         ensures asked { IfOk result (λ r. AreAsked J.asked r) }
-        ensures held { IfOk result (λ r. AreHeld K.holds J.before r) }
+        ensures held { IfOk result (λ r. AreHeld K.holds K.stays J.before r) }
         ensures counted { IfOk result (λ r. HasOneMoreEvent seat.old seat.new r) }
         ensures kept { IfErr result (λ e. (e.0.items ≡ matchers.items) × (seat.new ≡ seat.old)) }
         ensures refused { IfErr result (λ e. IsOfStore e.1) }
@@ -356,12 +357,13 @@ impl<J: Naming, R: Wait + Drop, K: Keeper + Drop> Committer<J, R, K> {
         ensures ends { IfOk result (λ r. EndsWith (cut at) seat.old.number r) }
         ensures accepted { IfOk result (λ r. AreAccepted J.opening r) }
         ensures asked { IfOk result (λ r. AreAsked J.asked r) }
-        ensures held { IfOk result (λ r. AreHeld K.holds J.before r) }
+        ensures held { IfOk result (λ r. AreHeld K.holds K.stays J.before r) }
         ensures counted { IfOk result (λ r. HasOneMoreEvent seat.old seat.new r) }
         ensures kept { OnErr result (seat.new ≡ seat.old) }
         ensures refused { IfErr result (λ e. IsRefusedAfter J.opening seat.old e.error (cut at)) }
         ensures met { IfErr result (λ e. IsRefusedBy J.opening seat.old e.error (cut at) e.met) }
-        ensures known { IfErr result (λ e. IfSome e.met (λ r. AreHeld K.holds J.before r)) }
+        ensures known { IfErr result (λ e. IfSome e.met
+            (λ r. AreHeld K.holds K.stays J.before r)) }
         ensures met_asked { IfErr result (λ e. IfSome e.met (λ r. AreAsked J.asked r)) }
         ensures journal { IfErr result (λ e. e.error ≡ CommitError.Journal → K.idle ≡ false) }
     {

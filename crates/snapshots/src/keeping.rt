@@ -55,15 +55,15 @@ pub fn push_record<K: Keeper>(records: &mut Vec<u8>, bytes: &[u8]) -> Result<(),
 
 /// Keeps several events by their records, by one write and one sync. After an `Err` the keeper
 /// keeps what it kept.
-pub fn keep<K: Keeper>(keeper: &mut K, bytes: &[u8]) -> Result<(), CommitError>
-    requires held { (events : List Event) × K.holds keeper.old events }
-    requires recorded { (more : List Event) × SpellAll K.idle more bytes.now }
+pub fn keep<K: Keeper>(keeper: &mut K, bytes: &[u8]) -> Result<K::Last, CommitError>
+    requires held { (events more : List Event) × K.holds keeper.old events
+        × SpellAll K.idle more bytes.now × K.may (events ++ more) }
     ensures ok { OnOk result ((events more : List Event) → K.holds keeper.old events
         → SpellAll K.idle more bytes.now → K.holds keeper.new (events ++ more)) }
     // The events were kept last; or none was, if keepers of this kind keep nothing.
-    ensures last { OnOk result ((events more : List Event) → K.holds keeper.old events
-        → SpellAll K.idle more bytes.now
-        → (few : List Event) × AreAllOrNone more few × K.kept_last keeper.new events few) }
+    ensures last { IfOk result (λ last. (events more : List Event) → K.holds keeper.old events
+        → SpellAll K.idle more bytes.now → (few : List Event) × AreAllOrNone K.idle more few
+        × K.kept_last keeper.new last events few) }
     ensures open { OnOk result (K.closed keeper.new ≡ false) }
     ensures err { OnErr result ((events : List Event) → K.holds keeper.old events
         → K.holds keeper.new events) }
@@ -83,7 +83,7 @@ pub fn keep<K: Keeper>(keeper: &mut K, bytes: &[u8]) -> Result<(), CommitError>
         → IsHindered K.closed K.full K.failed keeper.old keeper.new) }
 {
     match keeper.keep(bytes) {
-        Ok(()) => Ok(()),
+        Ok(last) => Ok(last),
         Err(error) => Err(refusal_of(error)),
     }
 }

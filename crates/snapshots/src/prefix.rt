@@ -159,6 +159,8 @@ impl<J: Naming> LogPrefix<J> {
     pub fn begins_with(&self, other: &LogPrefix<J>) -> bool
         ensures begins { MatchBool result (IsPrefix other.now self.now) (Unit {0}) }
         ensures shorter { IsTrue result ↔ (length other.now ≤ length self.now) }
+        // Each event that this tried was asked for.
+        ensures asked { AreAsked J.asked (tried_of self.now) }
     {
         // For the proof alone: both are prefixes of one log.
         let mut both = self.seen.again();
@@ -204,6 +206,7 @@ impl<J: Naming> LogPrefix<J> {
         ensures accepts { MatchBool result (accepted other.now ≡ accepted self.now) (Unit {0}) }
         ensures exact { IsTrue result ↔ ((length other.now ≤ length self.now)
             × (length (accepted other.now) ≡ length (accepted self.now))) }
+        ensures asked { AreAsked J.asked (tried_of self.now) }
     {
         if !self.begins_with(other) {
             return false;
@@ -306,10 +309,10 @@ impl<J: Naming> LogPrefix<J> {
         self.add::<(), Seals, R>(rt, end, &(), tally);
     }
 
-    /// Adds that what was sealed is done: a keeper of the store's kind holds it.
+    /// Adds that what was sealed is done: a keeper of the store's kind holds it for good.
     pub fn add_done<K: Keeper, R: Wait>(&mut self, rt: &R, end: &LogEnd<J>)
         requires room { length self.old < 2 ^ 62 }
-        requires held { AreHeld K.holds J.before (list_of self.old) }
+        requires held { AreHeld K.holds K.stays J.before (list_of self.old) }
         ensures { self.new ≡ self.old ++ Done ∷ [] }
     {
         let tally = Tally {

@@ -99,6 +99,7 @@ pub fn publish_group<'a, J: Naming, R: Wait, K: Keeper>(
     group: Group<J>,
 ) -> (MutexGuard<'a, Tip<J, K>>, Result<(), CommitError>)
     requires held { K.holds keeper.old (kept_of J.before (accepted log.old)) }
+    requires may { K.may (kept_of J.before (list_of group.log)) }
     requires group { IsGroup J.opening K.idle group.log
         (arc_value group.standing.snapshot) group.standing.counts.items group.records.items }
     requires alike { arc_value group.shown ≡ arc_value group.standing.snapshot }
@@ -130,22 +131,22 @@ pub fn publish_group<'a, J: Naming, R: Wait, K: Keeper>(
     ensures cause { IfErr result.1 (λ e. e ≡ CommitError.Journal
         → IsHindered K.closed K.full K.failed keeper.old keeper.new) }
 {
-    match keep(keeper, &group.records) {
-        Ok(()) => {}
+    let last = match keep(keeper, &group.records) {
+        Ok(last) => last,
         Err(error) => {
             let mut tip = taken(rt, tip, held);
             tip.give_up(error);
             return (tip, Err(error));
         }
-    }
+    };
     let mut tip = taken(rt, tip, held);
-    match tip.publish(rt, press, group) {
-        Some(done) => {
+    match tip.publish(rt, press, keeper, last, group) {
+        Ok(done) => {
             *log = done;
             (tip, Ok(()))
         }
-        None => {
-            keeper.close();
+        Err(last) => {
+            keeper.close(last);
             tip.give_up(CommitError::Memory);
             (tip, Err(CommitError::Memory))
         }

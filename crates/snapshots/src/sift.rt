@@ -2,13 +2,11 @@
 
 ghost use Rattle.std.specs.Prelude.{◌≡◌, ◌↔◌, false, IfOk, IfErr, IfSome, OnOk, OnErr};
 ghost use Rattle.head.specs.BatchRows.{batch_of_rows};
-ghost use Rattle.head.specs.Sifting.{sifted};
-ghost use Rattle.head.specs.Worlds.{World, batch};
 ghost use Rattle.snapshots.specs.Asking.{AreAsked};
 ghost use Rattle.snapshots.specs.Keeping.{AreHeld};
 ghost use Rattle.snapshots.specs.Replays.{IsAfter, IsOfStore};
 ghost use Rattle.snapshots.specs.Seats.{FitsSeat, IsMetBy};
-ghost use Rattle.snapshots.specs.Sifts.{IsSiftedAt};
+ghost use Rattle.snapshots.specs.Sifts.{AsksSifted, IsSiftedAt};
 ghost use Rattle.snapshots.specs.Trials.{list_in, published_in};
 
 use crate::keeping::record_of;
@@ -54,8 +52,7 @@ impl<J: Naming, K: Keeper> Tip<J, K> {
         seat: &Seat<J>,
         rows: &RowBatch,
     ) -> Result<Screened<J>, CommitError>
-        requires asked { (w : World) → J.asked (batch (sifted w (batch_of_rows rows.now)).kept)
-            seat.now.number seat.now.count }
+        requires asked { AsksSifted J.asked J.opening seat.now (batch_of_rows rows.now) }
         ensures fits { OnOk result (FitsSeat seat.now self.old.counts) }
         ensures seat { IfErr result (λ e.
             (e ≡ CommitError.Seat) ↔ (¬ FitsSeat seat.now self.old.counts)) }
@@ -69,7 +66,7 @@ impl<J: Naming, K: Keeper> Tip<J, K> {
         ensures published { self.new.published ≡ self.old.published }
         // What is told at once is kept.
         ensures held { IfOk result (λ s.
-            IfSome (published_in s.trial) (λ r. AreHeld K.holds J.before r)) }
+            IfSome (published_in s.trial) (λ r. AreHeld K.holds K.stays J.before r)) }
         ensures asked { IfOk result (λ s.
             IfSome (published_in s.trial) (λ r. AreAsked J.asked r)) }
         ensures world { IsAfter J.opening self.new.entries self.new.parts }
@@ -101,7 +98,7 @@ impl<J: Naming, K: Keeper> Tip<J, K> {
     /// All that was tried, if anything waits; else what is published.
     pub(crate) fn standing(&mut self) -> Trial<J>
         ensures list { list_in result ≡ self.old.entries }
-        ensures held { IfSome (published_in result) (λ r. AreHeld K.holds J.before r) }
+        ensures held { IfSome (published_in result) (λ r. AreHeld K.holds K.stays J.before r) }
         ensures asked { IfSome (published_in result) (λ r. AreAsked J.asked r) }
         ensures same { self.new ≡ self.old }
     {

@@ -7,7 +7,7 @@ ghost use Rattle.std.specs.List.{All};
 ghost use Rattle.head.specs.Blocks.{part_in, opening_of};
 ghost use Rattle.head.specs.Heads.{world_of};
 ghost use Rattle.head.specs.Worlds.{replayed};
-ghost use Rattle.snapshots.specs.Keeping.{OpensAsKept};
+ghost use Rattle.snapshots.specs.Keeping.{MayBeKept, OpensAsKept};
 ghost use Rattle.snapshots.specs.Rules.{end_of};
 ghost use Rattle.snapshots.specs.Views.{nothing};
 ghost use Rattle.snapshots.specs.Grows.{Shows};
@@ -189,6 +189,8 @@ impl Store {
         requires opening { snapshot ≡ J.opening }
         requires kept { K.holds keeper J.before }
         requires world { replayed K.first J.before ≡ Ok (world_of J.opening) }
+        // The keeper may be handed what is asked for, and nothing else.
+        requires may { MayBeKept K.may J.asked J.opening J.before }
         ensures room { MatchResult result (λ _. IsRoom passes seats) (λ e.
             (e ≡ OpenError.BadPasses) ↔ (¬ IsRoom passes seats)) }
         ensures few { IfErr result (λ e. ¬ (e ≡ OpenError.Limit)) }
@@ -217,6 +219,7 @@ impl Store {
         requires opening { opening ≡ J.opening }
         requires kept { K.holds keeper J.before }
         requires world { OpensAsKept K.idle K.first J.before J.opening }
+        requires may { MayBeKept K.may J.asked J.opening J.before }
         ensures passes { IfOk result (λ r.
             (vec_len r.1 ≡ passes) × All (λ p. p ≡ nothing) r.1.items) }
         ensures seats { IfOk result (λ r. (vec_len r.2 ≡ seats) × AreFresh 0 r.2.items) }

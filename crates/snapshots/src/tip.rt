@@ -2,15 +2,15 @@
 
 ghost use Rattle.std.specs.Prelude.{◌≡◌, ◌+◌, ◌++◌, ◌∷◌, ◌↔◌, ◌⊎◌, [], slice_set};
 ghost use Rattle.std.specs.Prelude.{false, IsOk, IfOk, IfErr, IfSome, IfNone, OnOk, OnErr};
-ghost use Rattle.std.specs.Prelude.{MatchBool, MatchOption};
+ghost use Rattle.std.specs.Prelude.{List, MatchBool, MatchResult};
 ghost use Rattle.std.specs.Arc.{arc_value};
 ghost use mathlib.Core.List.{IsPrefix};
 ghost use Rattle.head.specs.Heads.{world_of};
-ghost use Rattle.head.specs.Worlds.{stepped};
+ghost use Rattle.head.specs.Worlds.{Event, stepped};
 ghost use Rattle.snapshots.specs.Asking.{AreAsked};
 ghost use Rattle.snapshots.specs.Marks.{accepted, list_of, tried_of};
 ghost use Rattle.snapshots.specs.Grows.{Shows, MayFollow};
-ghost use Rattle.snapshots.specs.Keeping.{AreHeld, IsGroup, IsOfKeeping, IsRecordFor};
+ghost use Rattle.snapshots.specs.Keeping.{kept_of, AreHeld, IsGroup, IsOfKeeping, IsRecordFor};
 ghost use Rattle.snapshots.specs.Replays.{IsAfter, Steps, IsEventRefusal, IsOfStore};
 ghost use Rattle.snapshots.specs.Seats.{FitsSeat, AreCounts, IsMetBy, count_of};
 ghost use Rattle.snapshots.specs.Standings.{StandsFor, current};
@@ -99,7 +99,7 @@ impl<J: Naming, K: Keeper> Model for Tip<J, K> {
         × MatchBool t.waits (IsBehind J.opening K.idle t.log (arc_value t.base.snapshot)
         t.base.counts.items t.records.items) (Unit {0})
         × IsFailure K.idle t.failure × (accepted t.done ≡ accepted t.log)
-        × AreHeld K.holds J.before (accepted t.done) };
+        × AreHeld K.holds K.stays J.before (accepted t.done) };
 }
 
 impl<J: Naming, K: Keeper> Tip<J, K> {
@@ -113,7 +113,7 @@ impl<J: Naming, K: Keeper> Tip<J, K> {
     ) -> Tip<J, K>
         requires empty { log ≡ [] }
         requires stands { StandsFor J.opening [] (arc_value ahead.snapshot) ahead.counts.items }
-        requires held { AreHeld K.holds J.before [] }
+        requires held { AreHeld K.holds K.stays J.before [] }
         ensures { result ≡ record {
           published = [];
           entries = [];
@@ -144,6 +144,7 @@ impl<J: Naming, K: Keeper> Tip<J, K> {
     pub(crate) fn meets(&self, seat: &Seat<J>) -> Result<(), CommitError>
         ensures fits { OnOk result (FitsSeat seat.now self.now.counts) }
         ensures met { OnOk result (IsMetBy seat.now self.now.entries) }
+        ensures asked { OnOk result (AreAsked J.asked self.now.entries) }
         ensures seat { IfErr result (λ e.
             (e ≡ CommitError.Seat) ↔ (¬ FitsSeat seat.now self.now.counts)) }
         ensures refused { IfErr result (λ e.
@@ -298,7 +299,7 @@ impl<J: Naming, K: Keeper> Tip<J, K> {
     /// The receipt of all that is published.
     pub(crate) fn receipt(&self) -> Receipt<J>
         ensures list { result ≡ self.now.published }
-        ensures held { AreHeld K.holds J.before result }
+        ensures held { AreHeld K.holds K.stays J.before result }
         ensures asked { AreAsked J.asked result }
     {
         Receipt::whole(&self.done)
@@ -324,7 +325,7 @@ impl<J: Naming, K: Keeper> Tip<J, K> {
             IfSome found (λ r. IsPrefix r self.old.published)) }
         // What is acknowledged is kept.
         ensures held { IfOk result (λ found.
-            IfSome found (λ r. AreHeld K.holds J.before r)) }
+            IfSome found (λ r. AreHeld K.holds K.stays J.before r)) }
         // And each event of it was asked for.
         ensures asked { IfOk result (λ found. IfSome found (λ r. AreAsked J.asked r)) }
         // What is given up is not published.
@@ -412,28 +413,37 @@ impl<J: Naming, K: Keeper> Tip<J, K> {
         })
     }
 
-    /// Publishes a group that a keeper holds, and marks that in the log, which is answered; `None`
-    /// if it is not published. What was tried meanwhile waits.
+    /// Publishes a group that a keeper was handed last, and marks in the log that it stays. The log
+    /// is answered; or the right to take the group back, if it is not published. What was tried
+    /// meanwhile waits.
     pub fn publish<R: Wait>(
         &mut self,
         rt: &R,
         press: &mut Press<J>,
+        keeper: &K,
+        last: K::Last,
         group: Group<J>,
-    ) -> Option<LogPrefix<J>>
+    ) -> Result<LogPrefix<J>, K::Last>
         requires group { IsGroup J.opening K.idle group.log
             (arc_value group.standing.snapshot) group.standing.counts.items group.records.items }
         requires alike { arc_value group.shown ≡ arc_value group.standing.snapshot }
-        requires held { AreHeld K.holds J.before (list_of group.log) }
+        requires held { K.holds keeper.now (kept_of J.before (list_of group.log)) }
+        // If the right to take it back is given up, the group stays.
+        requires settles { (token : K.Settled)
+            → ((events more : List Event) → K.kept_last keeper.now last events more
+            → K.stays token (events ++ more))
+            → K.stays token (kept_of J.before (list_of group.log)) }
         requires shown { Shows J.book J.opening J.asked press.old.desk.shown.value
             (accepted group.log) }
-        ensures list { IfSome result (λ log. accepted log ≡ list_of group.log) }
-        ensures shown { MatchOption result
-            (press.new.desk.shown.value ≡ press.old.desk.shown.value)
-            (λ log. Shows J.book J.opening J.asked press.new.desk.shown.value (accepted log)) }
-        ensures parts { IfSome result (λ _.
-            press.new.desk.shown.value.parts ≡ arc_value group.shown) }
-        ensures published { MatchOption result (self.new.published ≡ self.old.published)
-            (λ log. self.new.published ≡ accepted log) }
+        ensures list { IfOk result (λ log. accepted log ≡ list_of group.log) }
+        ensures shown { MatchResult result
+            (λ log. Shows J.book J.opening J.asked press.new.desk.shown.value (accepted log))
+            (λ _. press.new.desk.shown.value ≡ press.old.desk.shown.value) }
+        ensures parts { OnOk result
+            (press.new.desk.shown.value.parts ≡ arc_value group.shown) }
+        ensures published { MatchResult result (λ log. self.new.published ≡ accepted log)
+            (λ _. self.new.published ≡ self.old.published) }
+        ensures back { IfErr result (λ right. right ≡ last) }
         ensures tried { self.new.entries ≡ self.old.entries }
         // Nothing is published but what waited.
         ensures ordered { IsPrefix self.new.published self.new.entries }
@@ -446,13 +456,13 @@ impl<J: Naming, K: Keeper> Tip<J, K> {
         } = group;
         self.led = false;
         if !self.waits {
-            return None;
+            return Err(last);
         }
         if !self.log.has_room() {
-            return None;
+            return Err(last);
         }
         if !self.log.lists(&log) {
-            return None;
+            return Err(last);
         }
         let next = Version::of(shown, &self.log);
         let published = replace_with(
@@ -465,13 +475,14 @@ impl<J: Naming, K: Keeper> Tip<J, K> {
             { publish(rt, press, next) },
         );
         if !published {
-            return None;
+            return Err(last);
         }
+        keeper.settle(last);
         self.log.add_done::<K, R>(rt, &self.end);
         self.base = standing;
         self.waits = !self.log.is_settled();
         self.done = self.log.share();
-        Some(self.log.share())
+        Ok(self.done.share())
     }
 
     /// Gives up all that waits: the tip is back at what is published.

@@ -1,13 +1,16 @@
 use Rattle.snapshots.specs.Keeping.{IsOfKeeping}
-use Rattle.snapshots.proofs.Keeps.{held_more, hindered, in_flight, last_more, of_keeping, spelled_some}
-use Rattle.std.proofs.Common.{sym, subst}
+use Rattle.snapshots.proofs.Keeps.{held_more, hindered, in_flight, last_more, may_be_handed, of_keeping}
+use Rattle.std.proofs.Common.{List, sym, subst}
+use Rattle.head.specs.Worlds.{Event}
 use Rattle.snapshots.proofs.keeping.keep.Goals as goal
 
 pub keep-requires : goal.keep-requires
-keep-requires g c = record {
-  held = c.requires.held;
-  spelled = spelled_some g.K.Keeper.idle c.requires.recorded.0 c.args.bytes.now c.requires.recorded.1;
-}
+keep-requires g c =
+    let k = g.K.Keeper in
+    let held = c.requires.held in
+    record {
+      held = may_be_handed k.idle k.holds k.may c.args.keeper.now c.args.bytes.now k.any held.0 held.1 held.2 held.3 held.4;
+    }
 
 pub returns-in-Ok-clause-ok : goal.returns-in-Ok-clause-ok
 returns-in-Ok-clause-ok g c events more held spelled =
@@ -15,7 +18,7 @@ returns-in-Ok-clause-ok g c events more held spelled =
 
 pub returns-in-Ok-clause-last : goal.returns-in-Ok-clause-last
 returns-in-Ok-clause-last g c events more held spelled =
-    last_more g.K.Keeper.idle g.K.Keeper.kept_last c.keep.new.self c.args.bytes.now events more
+    last_more g.K.Keeper.idle (λ (few : List Event). g.K.Keeper.kept_last c.keep.new.self c.in-Ok.last events few) c.args.bytes.now more
     (λ few spells. c.in-Ok.ensures.last events few held spells) spelled
 
 pub returns-in-Ok-clause-in_flight : goal.returns-in-Ok-clause-in_flight

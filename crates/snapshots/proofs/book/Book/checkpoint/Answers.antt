@@ -27,6 +27,7 @@ invariant_of-self g c = (
       (accepted c.self.inside.log) c.self.inside.press.desk.shown.value.parts c.self.invariant.2
       c.self.invariant.0.2),
   c.self.invariant.2,
+  c.self.invariant.3,
 )
 
 pub returns-clause-held : goal.returns-clause-held

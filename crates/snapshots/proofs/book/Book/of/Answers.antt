@@ -10,4 +10,5 @@ invariant_of-result g c = (
   subst (λ (events : List Event). g.K.Keeper.holds c.args.keeper events)
       (sym (ap (kept_of g.J.Naming.before) c.requires.empty ∙ append-nil g.J.Naming.before)) c.requires.kept,
   c.requires.world,
+  c.requires.may,
 )

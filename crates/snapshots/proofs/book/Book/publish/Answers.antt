@@ -1,8 +1,9 @@
-use Rattle.std.proofs.Common.{◌≡◌, rules, ap, subst, ◌∙◌}
+use Rattle.std.proofs.Common.{◌≡◌, rules, ap, subst, sym, ◌∙◌}
 use Rattle.std.specs.Arc.{arc_value}
 use mathlib.Core.List.{IsPrefix}
 use Rattle.head.specs.Heads.{world_of}
 use Rattle.keeper.proofs.Finds.{resting}
+use Rattle.snapshots.specs.Asking.{AreAsked}
 use Rattle.snapshots.specs.Keeping.{kept_of, AreKeptBetween, IsOfAllKept}
 use Rattle.snapshots.specs.Views.{Published}
 use Rattle.snapshots.specs.Marks.{accepted, list_of}
@@ -84,3 +85,12 @@ returns-clause-finds g c opened keeps left had =
     (was keeps)
     (of_all_kept k.idle k.first g.J.Naming.before g.J.Naming.opening (list_of group.log) parts c.self.invariant.2 c.requires.group.stands.after keeps)
     left ((returns-clause-in_flight g c opened).each left had)
+
+-- what is kept was asked for
+
+pub publish_group-requires-clause-may : goal.publish_group-requires-clause-may
+publish_group-requires-clause-may g c =
+    let group = c.args.group in
+    c.self.invariant.3 (list_of group.log) (arc_value group.standing.snapshot)
+    (subst (AreAsked g.J.Naming.asked) (sym c.requires.group.whole) c.accepts_as.ensures.asked)
+    c.requires.group.stands.after

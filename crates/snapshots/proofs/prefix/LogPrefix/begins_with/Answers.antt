@@ -12,3 +12,6 @@ returns-clause-begins g c =
     c.learn.ensures.2 in
     rw (← c.self.view_is, ← c.other.view_is, c.self.invariant.0, c.other.invariant.0)
     (begins_when c.other.inside.seen.log c.self.inside.seen.log both c.learn.ensures.3 this _ refl)
+
+pub returns-clause-asked : goal.returns-clause-asked
+returns-clause-asked g c = rw (← c.self.view_is) c.self.invariant.3

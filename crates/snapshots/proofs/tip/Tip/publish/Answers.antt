@@ -2,7 +2,7 @@ use Rattle.std.proofs.Common.{◌≡◌, ◌∙◌, ap, true, not, rules}
 use Rattle.std.specs.Arc.{arc_value}
 use Rattle.snapshots.specs.Marks.{accepted, list_of}
 use Rattle.snapshots.specs.Views.{Ledger}
-use Rattle.snapshots.proofs.Held.{held_as}
+use Rattle.snapshots.proofs.Held.{held_as, held_by}
 use Rattle.snapshots.proofs.Tips.{accepted_done, behind_kept, behind_while, done_behind, done_current, done_stands, listed, published_begins, stands_tried}
 use Rattle.snapshots.proofs.tip.Tip.publish.Goals as goal
 
@@ -24,11 +24,12 @@ invariant_of-self-2 g c =
           c.add_done.new.self c.add_done.ensures (arc_value t.base.snapshot) t.base.counts.items t.records.items behind),
       c.self.invariant.2,
       search rules,
-      held_as g.K.Keeper.holds g.J.Naming.before (list_of group.log) _
+      held_as g.K.Keeper.holds g.K.Keeper.stays g.J.Naming.before (list_of group.log) _
           (ap accepted c.share.ensures.same
           ∙ accepted_done g.J.Naming.book opening idle group.log t.log s m group.records.items c.requires.group c.if-not-lists.ensures.lists
           c.add_done.new.self c.add_done.ensures)
-          c.requires.held,
+          (held_by g.K.Keeper.holds g.K.Keeper.stays g.J.Naming.before c.args.keeper.now c.settle.result
+          (list_of group.log) c.requires.held (c.requires.settles c.settle.result c.settle.ensures)),
     )
 
 pub returns-clause-tried : goal.returns-clause-tried
@@ -44,10 +45,11 @@ pub add_done-requires-clause-held : goal.add_done-requires-clause-held
 add_done-requires-clause-held g c =
     let t = c.self.inside in
     let group = c.args.group in
-    held_as g.K.Keeper.holds g.J.Naming.before (list_of group.log) (list_of t.log)
+    held_as g.K.Keeper.holds g.K.Keeper.stays g.J.Naming.before (list_of group.log) (list_of t.log)
     (listed g.J.Naming.book g.J.Naming.opening g.K.Keeper.idle group.log t.log (arc_value group.standing.snapshot) group.standing.counts.items group.records.items
     c.requires.group c.if-not-lists.ensures.lists)
-    c.requires.held
+    (held_by g.K.Keeper.holds g.K.Keeper.stays g.J.Naming.before c.args.keeper.now c.settle.result
+    (list_of group.log) c.requires.held (c.requires.settles c.settle.result c.settle.ensures))
 
 pub returns-then-not-self-clause-ordered : goal.returns-then-not-self-clause-ordered
 returns-then-not-self-clause-ordered g c = published_begins c.self.inside.waits c.self.inside.log
