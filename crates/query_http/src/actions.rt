@@ -167,10 +167,11 @@ fn write<J: OpenNaming, C: Wait + Drop, K: Keeper + Drop>(
     committer: &Committer<J, C, K>,
 ) -> Result<Reply, AllocError>
     requires { IsTrue (is_batch (batch_of_rows rows.items)) }
-    ensures reply { IfOk result (λ r. IsEventReply J.opening K.idle (AreHeld K.holds J.before)
+    ensures reply { IfOk result (λ r. IsEventReply J.opening K.idle
+        (AreHeld K.holds K.stays J.before)
         (batch (batch_of_rows rows.items))
         (worker pass.old seat.old) (worker pass.new seat.new) r.status (text_of r)) }
-    ensures held { PublishesHeld K.holds J.before seat.old seat.new }
+    ensures held { PublishesHeld K.holds K.stays J.before seat.old seat.new }
     ensures kept { OnErr result ((pass.new ≡ pass.old) × (seat.new ≡ seat.old)) }
 {
     let done = change_reply(alloc)?;
@@ -193,10 +194,11 @@ fn delete<J: OpenNaming, C: Wait + Drop, K: Keeper + Drop>(
     committer: &Committer<J, C, K>,
 ) -> Result<Reply, AllocError>
     requires { IsTrue (is_deletion asked.0.items asked.1 asked.2) }
-    ensures reply { IfOk result (λ r. IsEventReply J.opening K.idle (AreHeld K.holds J.before)
+    ensures reply { IfOk result (λ r. IsEventReply J.opening K.idle
+        (AreHeld K.holds K.stays J.before)
         (deletion asked.0.items asked.1 asked.2)
         (worker pass.old seat.old) (worker pass.new seat.new) r.status (text_of r)) }
-    ensures held { PublishesHeld K.holds J.before seat.old seat.new }
+    ensures held { PublishesHeld K.holds K.stays J.before seat.old seat.new }
     ensures kept { OnErr result ((pass.new ≡ pass.old) × (seat.new ≡ seat.old)) }
 {
     let (matchers, from, to) = asked;
@@ -220,10 +222,11 @@ fn cut_at<J: OpenNaming, C: Wait + Drop, K: Keeper + Drop>(
     committer: &Committer<J, C, K>,
 ) -> Result<Reply, AllocError>
     requires { IsTrue (is_time at) }
-    ensures reply { IfOk result (λ r. IsEventReply J.opening K.idle (AreHeld K.holds J.before)
+    ensures reply { IfOk result (λ r. IsEventReply J.opening K.idle
+        (AreHeld K.holds K.stays J.before)
         (cut at)
         (worker pass.old seat.old) (worker pass.new seat.new) r.status (text_of r)) }
-    ensures held { PublishesHeld K.holds J.before seat.old seat.new }
+    ensures held { PublishesHeld K.holds K.stays J.before seat.old seat.new }
     ensures kept { OnErr result ((pass.new ≡ pass.old) × (seat.new ≡ seat.old)) }
 {
     let done = change_reply(alloc)?;
@@ -248,9 +251,10 @@ pub(crate) fn act<J: OpenNaming, C: Wait + Drop, K: Keeper + Drop>(
     committer: &Committer<J, C, K>,
 ) -> Result<Reply, AllocError>
     requires { IsFit request }
-    ensures reply { IfOk result (λ r. IsRequestReply J.opening K.idle (AreHeld K.holds J.before)
+    ensures reply { IfOk result (λ r. IsRequestReply J.opening K.idle
+        (AreHeld K.holds K.stays J.before)
         request (worker pass.old seat.old) (worker pass.new seat.new) r.status (text_of r)) }
-    ensures held { PublishesHeld K.holds J.before seat.old seat.new }
+    ensures held { PublishesHeld K.holds K.stays J.before seat.old seat.new }
     ensures idle { OnErr result (IsIdle (worker pass.old seat.old) (worker pass.new seat.new)) }
 {
     match request {

@@ -62,9 +62,10 @@ fn do_asked<J: OpenNaming, C: Wait + Drop, K: Keeper + Drop>(
     committer: &Committer<J, C, K>,
 ) -> Result<Reply, Served>
     requires { IsFit request }
-    ensures reply { IfOk result (λ r. IsRequestReply J.opening K.idle (AreHeld K.holds J.before)
+    ensures reply { IfOk result (λ r. IsRequestReply J.opening K.idle
+        (AreHeld K.holds K.stays J.before)
         request (worker pass.old seat.old) (worker pass.new seat.new) r.status (text_of r)) }
-    ensures held { PublishesHeld K.holds J.before seat.old seat.new }
+    ensures held { PublishesHeld K.holds K.stays J.before seat.old seat.new }
     ensures memory { IfErr result (λ s. s ≡ Served.NoMemory) }
     ensures idle { OnErr result (IsIdle (worker pass.old seat.old) (worker pass.new seat.new)) }
 {
@@ -86,9 +87,9 @@ fn reply_to<J: OpenNaming, C: Wait + Drop, K: Keeper + Drop, R: Inlet>(
     committer: &Committer<J, C, K>,
 ) -> Result<Reply, Served>
     ensures reply { IfOk result (λ r. IsReply (MeansUnder rules.now) J.opening K.idle
-        (AreHeld K.holds J.before) (R.input reader.old)
+        (AreHeld K.holds K.stays J.before) (R.input reader.old)
         (worker pass.old seat.old) (worker pass.new seat.new) r.status (text_of r)) }
-    ensures held { PublishesHeld K.holds J.before seat.old seat.new }
+    ensures held { PublishesHeld K.holds K.stays J.before seat.old seat.new }
     ensures silent { IfErr result IsSilent }
     ensures idle { OnErr result (IsIdle (worker pass.old seat.old) (worker pass.new seat.new)) }
     ensures closed { IsErrOf result Served.Closed
@@ -135,10 +136,11 @@ fn serve_next<J: OpenNaming, C: Wait + Drop, K: Keeper + Drop, R: Inlet, W: Outl
     seat: &mut Seat<J>,
     committer: &Committer<J, C, K>,
 ) -> Served
-    ensures serves { Serves (MeansUnder rules.now) J.opening K.idle (AreHeld K.holds J.before)
+    ensures serves { Serves (MeansUnder rules.now) J.opening K.idle
+        (AreHeld K.holds K.stays J.before)
         (R.input reader.old) (worker pass.old seat.old) (worker pass.new seat.new)
         (W.output writer.old) (W.output writer.new) result }
-    ensures held { PublishesHeld K.holds J.before seat.old seat.new }
+    ensures held { PublishesHeld K.holds K.stays J.before seat.old seat.new }
     ensures silent { IsSilent result → writer.new ≡ writer.old }
     ensures reads { result ≡ Served.ReadFault
         → HasGrown (R.failed_reads reader.old) (R.failed_reads reader.new) }
@@ -188,10 +190,11 @@ pub fn serve_one_with<J: OpenNaming, C: Wait + Drop, K: Keeper + Drop, R: Inlet,
     seat: &mut Seat<J>,
     committer: &Committer<J, C, K>,
 ) -> Served
-    ensures serves { Serves (MeansUnder rules.now) J.opening K.idle (AreHeld K.holds J.before)
+    ensures serves { Serves (MeansUnder rules.now) J.opening K.idle
+        (AreHeld K.holds K.stays J.before)
         (R.input reader.old) (worker pass.old seat.old) (worker pass.new seat.new)
         (W.output writer.old) (W.output writer.new) result }
-    ensures held { PublishesHeld K.holds J.before seat.old seat.new }
+    ensures held { PublishesHeld K.holds K.stays J.before seat.old seat.new }
     ensures silent { IsSilent result → writer.new ≡ writer.old }
     ensures reads { result ≡ Served.ReadFault
         → HasGrown (R.failed_reads reader.old) (R.failed_reads reader.new) }
@@ -220,10 +223,10 @@ pub fn serve_one<J: OpenNaming, C: Wait + Drop, K: Keeper + Drop, R: Inlet, W: O
     seat: &mut Seat<J>,
     committer: &Committer<J, C, K>,
 ) -> Served
-    ensures serves { Serves Means J.opening K.idle (AreHeld K.holds J.before)
+    ensures serves { Serves Means J.opening K.idle (AreHeld K.holds K.stays J.before)
         (R.input reader.old) (worker pass.old seat.old) (worker pass.new seat.new)
         (W.output writer.old) (W.output writer.new) result }
-    ensures held { PublishesHeld K.holds J.before seat.old seat.new }
+    ensures held { PublishesHeld K.holds K.stays J.before seat.old seat.new }
     ensures silent { IsSilent result → writer.new ≡ writer.old }
     ensures reads { result ≡ Served.ReadFault
         → HasGrown (R.failed_reads reader.old) (R.failed_reads reader.new) }

@@ -127,8 +127,8 @@ size_at all yielded rest rows e =
     joined (x ∷ xs) ys = ap (λ (zs : Batch). x ++ zs) (joined xs ys) ∙ sym (append_assoc x (all_of xs) (all_of ys))
 
 -- what a seat has seen after a part is held
-pub sift_held : {K : Type 0} (holds : K → List Event → Type 0) (events : List Event) (old new : SeatView) (entries : List Entry)
-    (joined : Bool) → MatchBool joined (HasOneMoreEvent old new entries) (new ≡ old) → AreHeld holds events entries
-    → PublishesHeld holds events old new
-sift_held holds events old new entries true more held = seat_held holds events old new entries more held
-sift_held holds events old new entries false same held = inl same
+pub sift_held : {K S : Type 0} (holds : K → List Event → Type 0) (stays : S → List Event → Type 0) (events : List Event) (old new : SeatView) (entries : List Entry)
+    (joined : Bool) → MatchBool joined (HasOneMoreEvent old new entries) (new ≡ old) → AreHeld holds stays events entries
+    → PublishesHeld holds stays events old new
+sift_held holds stays events old new entries true more held = seat_held holds stays events old new entries more held
+sift_held holds stays events old new entries false same held = inl same

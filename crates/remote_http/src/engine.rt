@@ -54,7 +54,7 @@ fn act<J: OpenNaming, C: Wait + Drop, K: Keeper + Drop>(
         (worker pass.old seat.old) (worker pass.new seat.new) r.status (text_of r)) }
     ensures front { OnErr result (HasFront J.opening asked
         (worker pass.old seat.old) (worker pass.new seat.new)) }
-    ensures held { PublishesHeld K.holds J.before seat.old seat.new }
+    ensures held { PublishesHeld K.holds K.stays J.before seat.old seat.new }
 {
     match asked {
         Asked::Write(received) => write(rt, alloc, received, EARLIEST, now, pass, seat, committer),
@@ -94,7 +94,7 @@ fn do_asked<J: OpenNaming, C: Wait + Drop, K: Keeper + Drop>(
     ensures front { OnErr result (HasFront J.opening asked
         (worker pass.old seat.old) (worker pass.new seat.new)) }
     ensures memory { IfErr result (λ s. s ≡ Silence.Memory) }
-    ensures held { PublishesHeld K.holds J.before seat.old seat.new }
+    ensures held { PublishesHeld K.holds K.stays J.before seat.old seat.new }
 {
     match act(rt, alloc, version, now, asked, pass, seat, committer) {
         Ok(reply) => Ok(reply),
@@ -116,7 +116,7 @@ fn reply_to<J: OpenNaming, C: Wait + Drop, K: Keeper + Drop>(
 ) -> Result<Reply, Silence>
     ensures reply { IfOk result (λ r. IsReply rules.now version.now now came.entry J.opening K.idle
         (worker pass.old seat.old) (worker pass.new seat.new) r.status (text_of r)) }
-    ensures held { PublishesHeld K.holds J.before seat.old seat.new }
+    ensures held { PublishesHeld K.holds K.stays J.before seat.old seat.new }
     ensures silent { OnErr result (IsSilent rules.now now came.entry J.opening
         (worker pass.old seat.old) (worker pass.new seat.new)) }
     ensures closed { IsErrOf result Silence.Closed → came.entry.bytes.now ≡ [] }
@@ -165,7 +165,7 @@ pub fn answer<J: OpenNaming, C: Wait + Drop, K: Keeper + Drop>(
 ) -> Result<Reply, Silence>
     ensures reply { IfOk result (λ r. IsReply rules.now version.now now came.entry J.opening K.idle
         (worker pass.old seat.old) (worker pass.new seat.new) r.status (text_of r)) }
-    ensures held { PublishesHeld K.holds J.before seat.old seat.new }
+    ensures held { PublishesHeld K.holds K.stays J.before seat.old seat.new }
     ensures silent { OnErr result (IsSilent rules.now now came.entry J.opening
         (worker pass.old seat.old) (worker pass.new seat.new)) }
     ensures closed { IsErrOf result Silence.Closed → came.entry.bytes.now ≡ [] }

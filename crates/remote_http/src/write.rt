@@ -41,7 +41,7 @@ fn publish_part<J: OpenNaming, C: Wait + Drop, K: Keeper + Drop>(
     ensures same { OnErr result (worker pass.new seat.new ≡ worker pass.old seat.old) }
     ensures refused { IfErr result IsOfStore }
     ensures journal { IfErr result (λ e. e ≡ Journal → K.idle ≡ false) }
-    ensures held { PublishesHeld K.holds J.before seat.old seat.new }
+    ensures held { PublishesHeld K.holds K.stays J.before seat.old seat.new }
 {
     match committer.sift(rt, seat, part) {
         Ok(sifted) => {
@@ -68,7 +68,7 @@ fn publish<J: OpenNaming, C: Wait + Drop, K: Keeper + Drop>(
         (worker pass.old seat.old) (worker pass.new seat.new)) }
     ensures refused { IfErr result IsOfStore }
     ensures journal { IfErr result (λ e. e ≡ Journal → K.idle ≡ false) }
-    ensures held { PublishesHeld K.holds J.before seat.old seat.new }
+    ensures held { PublishesHeld K.holds K.stays J.before seat.old seat.new }
 {
     let mut left = Left::none();
     for part in parts {
@@ -105,7 +105,7 @@ fn publish_all<J: OpenNaming, C: Wait + Drop, K: Keeper + Drop>(
         (worker pass.old seat.old) (worker pass.new seat.new) r.status (text_of r)) }
     ensures front { OnErr result (PublishesFront J.opening (batch_of_rows received.rows.items)
         (worker pass.old seat.old) (worker pass.new seat.new)) }
-    ensures held { PublishesHeld K.holds J.before seat.old seat.new }
+    ensures held { PublishesHeld K.holds K.stays J.before seat.old seat.new }
 {
     let Received { rows, left, of } = received;
     let done = done_reply(alloc)?;
@@ -134,7 +134,7 @@ pub(crate) fn write<J: OpenNaming, C: Wait + Drop, K: Keeper + Drop>(
         (worker pass.old seat.old) (worker pass.new seat.new) r.status (text_of r)) }
     ensures front { OnErr result (PublishesFront J.opening (batch_of_rows received.rows.items)
         (worker pass.old seat.old) (worker pass.new seat.new)) }
-    ensures held { PublishesHeld K.holds J.before seat.old seat.new }
+    ensures held { PublishesHeld K.holds K.stays J.before seat.old seat.new }
 {
     if now < first {
         return refusal_reply(alloc, &Refusal::ClockBehind);

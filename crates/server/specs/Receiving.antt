@@ -26,10 +26,11 @@ end_of room.Failed = ends.Failed
 
 -- The text is the reply to these bytes, which ended so, of a worker of the store under these rules,
 -- with this version and at some time of the clock. What it published is held by a keeper, behind
--- the events from before.
-pub record IsReplyTo {K : Type 0} (rules : Rules) (version : List ℕ)
-    (holds : K → List Event → Type 0) (events : List Event) (opening : SnapshotParts) (idle : Bool)
-    (bytes : List ℕ) (end : RoomEnd) (text : List ℕ) : Type 0 where
+-- the events from before, and stays.
+pub record IsReplyTo {K S : Type 0} (rules : Rules) (version : List ℕ)
+    (holds : K → List Event → Type 0) (stays : S → List Event → Type 0) (events : List Event)
+    (opening : SnapshotParts) (idle : Bool) (bytes : List ℕ) (end : RoomEnd)
+    (text : List ℕ) : Type 0 where
   pub now : ℤ
   pub came : Came
   pub same : came.bytes.now ≡ bytes
@@ -38,15 +39,16 @@ pub record IsReplyTo {K : Type 0} (rules : Rules) (version : List ℕ)
   pub after : Worker
   pub status : Status
   pub reply : IsReply rules version now came opening idle before after status text
-  pub held : PublishesHeld holds events before.seat after.seat
+  pub held : PublishesHeld holds stays events before.seat after.seat
 
 -- no reply is owed: no byte came, or the client was lost before its request was whole
 abbrev pub IsUnasked : List ℕ → RoomEnd → Type 0
 IsUnasked bytes end = (bytes ≡ []) ⊎ IsLost (end_of end)
 
 -- the text is the reply to these bytes, or it is empty and none is owed
-abbrev pub IsTold : {K : Type 0} → Rules → List ℕ → (K → List Event → Type 0) → List Event
-    → SnapshotParts → Bool → List ℕ → RoomEnd → List ℕ → Type 0
-IsTold rules version holds events opening idle bytes end text =
+abbrev pub IsTold : {K S : Type 0} → Rules → List ℕ → (K → List Event → Type 0)
+    → (S → List Event → Type 0) → List Event → SnapshotParts → Bool → List ℕ → RoomEnd
+    → List ℕ → Type 0
+IsTold rules version holds stays events opening idle bytes end text =
     ((text ≡ []) × IsUnasked bytes end)
-    ⊎ IsReplyTo rules version holds events opening idle bytes end text
+    ⊎ IsReplyTo rules version holds stays events opening idle bytes end text

@@ -4,6 +4,7 @@ ghost use Rattle.std.specs.Prelude.{◌≡◌, ◌≤◌, ◌<◌, ◌+◌, Ok, 
 ghost use Rattle.head.specs.Blocks.{part_in, opening_of};
 ghost use Rattle.head.specs.Heads.{world_of};
 ghost use Rattle.head.specs.Worlds.{replayed};
+ghost use Rattle.snapshots.specs.Keeping.{MayBeKept};
 ghost use Rattle.snapshots.specs.Seats.{IsRoom};
 ghost use Rattle.snapshots.specs.declared.error.OpenError.TheVariants.{BadPasses, Limit};
 
@@ -105,6 +106,7 @@ impl<J: OpenNaming, C: Wait + Drop, K: Keeper + Drop> Workers<J, C, K> {
         requires opening { found.0 ≡ J.opening }
         requires kept { K.holds found.1 J.before }
         requires world { replayed K.first J.before ≡ Ok (world_of J.opening) }
+        requires may { MayBeKept K.may J.asked J.opening J.before }
         ensures workers { IfOk result (λ w. w ≡ count) }
         ensures room { IfOk result (λ _. IsRoom passes count) }
         ensures refused { IfErr result (λ e. e ≡ BadPasses → ¬ IsRoom passes count) }

@@ -77,7 +77,7 @@ impl<J: Naming, K: Keeper, B: Ruling> Meaning for Replies<J, K, B> {
     ghost use Rattle.server.specs.Receiving.{IsTold};
 
     ghost made = { λ bytes end text.
-        IsTold B.rules B.version K.holds J.before J.opening K.idle bytes end text };
+        IsTold B.rules B.version K.holds K.stays J.before J.opening K.idle bytes end text };
 }
 
 /// One worker of the port.

@@ -53,14 +53,14 @@ pub fn work<'a, J: OpenNaming, C: Wait + Drop, K: Keeper + Drop, A: Connections>
     committer: &Committer<J, C, K>,
     most: u64,
 ) -> Shift<'a>
-    ensures works { Works rules.now J.opening K.idle (AreHeld K.holds J.before)
+    ensures works { Works rules.now J.opening K.idle (AreHeld K.holds K.stays J.before)
         (worker pass.old seat.old) (worker pass.new seat.new)
         (A.coming connections.old) (A.coming connections.new)
         (A.past connections.old) (A.past connections.new) result.served }
     ensures farther { IsFarther (worker pass.old seat.old) (worker pass.new seat.new)
         result.served }
     // A keeper holds what got a reply of success.
-    ensures held { PublishesHeld K.holds J.before seat.old seat.new }
+    ensures held { PublishesHeld K.holds K.stays J.before seat.old seat.new }
     ensures few { result.served ≤ most }
     ensures over { result.served < most → IsOver (A.coming connections.new) }
     ensures ruled { result.rules.now ≡ rules.now }

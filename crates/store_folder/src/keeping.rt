@@ -11,6 +11,14 @@ use head_record::BlockPlace;
 use keeper::{KeepError, Keeper, keep_error};
 use std::alloc::Global;
 
+/// The right to take back what was kept last in the folder of a store. Keeping alone gives one.
+#[derive(Drop)]
+pub struct LastKept(());
+
+/// The token that what was kept in the folder of a store stays.
+#[derive(Drop)]
+pub struct Settled(());
+
 /// Keeps the events of a store in the journal of its folder, beside the blocks that the journal's
 /// head names. When the journal has grown long, or the store has other blocks, it is begun anew.
 #[derive(Drop)]
@@ -26,6 +34,10 @@ pub struct StoreKeeper<N: Beginning, F: Folder + Drop> {
 }
 
 impl<N: Beginning, F: Folder + Drop> Keeper for StoreKeeper<N, F> {
+    type Last = LastKept;
+
+    type Settled = Settled;
+
     ghost use Rattle.data_folder.specs.Folders.{Left as Files};
     ghost use Rattle.data_folder.specs.JournalLaws.{StaysBeside};
     ghost use Rattle.data_folder.specs.Sweeping.{KeepsForeign};
@@ -54,11 +66,17 @@ impl<N: Beginning, F: Folder + Drop> Keeper for StoreKeeper<N, F> {
 
     ghost any = { λ idle k events. not_idle idle };
 
+    ghost any_stays = { λ idle s events. not_idle idle };
+
+    ghost may = { λ events. Unit {0} };
+
     ghost holds = { λ k events. HoldsOrLost F.shows F.kept F.sound F.moment F.left_since N.first
         k.store.events.journal.medium k.store.events.journal.len k.store.events.journal.closed
         events k.places.items (map part_in k.blocks.items) };
 
-    ghost kept_last = { λ k events more. LastLike F.shows F.kept F.sound F.moment F.left_since
+    ghost stays = { λ s events. Unit {0} };
+
+    ghost kept_last = { λ k last events more. LastLike F.shows F.kept F.sound F.moment F.left_since
         N.first k.store.events.journal.medium k.store.events.journal.len
         k.store.events.journal.closed events more k.places.items
         (map part_in k.blocks.items) };
@@ -87,18 +105,19 @@ impl<N: Beginning, F: Folder + Drop> Keeper for StoreKeeper<N, F> {
     }
 
     /// What lies beside the journal stays.
-    fn keep(&mut self, records: &[u8]) -> Result<(), KeepError>
-        requires held { (events : List Change)
-            × ⟦<StoreKeeper<N, F> as Keeper>⟧.holds self.old events }
-        requires spelled { (more : List Change) × SpellTogether records.now more }
+    fn keep(&mut self, records: &[u8]) -> Result<LastKept, KeepError>
+        requires { (events more : List Change)
+            × ⟦<StoreKeeper<N, F> as Keeper>⟧.holds self.old events
+            × SpellTogether records.now more
+            × ⟦<StoreKeeper<N, F> as Keeper>⟧.may (events ++ more) }
         ensures ok { OnOk result ((events more : List Change)
             → ⟦<StoreKeeper<N, F> as Keeper>⟧.holds self.old events
             → SpellTogether records.now more
             → ⟦<StoreKeeper<N, F> as Keeper>⟧.holds self.new (events ++ more)) }
-        ensures last { OnOk result ((events more : List Change)
+        ensures last { IfOk result (λ last. (events more : List Change)
             → ⟦<StoreKeeper<N, F> as Keeper>⟧.holds self.old events
             → SpellTogether records.now more
-            → ⟦<StoreKeeper<N, F> as Keeper>⟧.kept_last self.new events more) }
+            → ⟦<StoreKeeper<N, F> as Keeper>⟧.kept_last self.new last events more) }
         ensures err { OnErr result ((events : List Change)
             → ⟦<StoreKeeper<N, F> as Keeper>⟧.holds self.old events
             → ⟦<StoreKeeper<N, F> as Keeper>⟧.holds self.new events) }
@@ -134,7 +153,7 @@ impl<N: Beginning, F: Folder + Drop> Keeper for StoreKeeper<N, F> {
         match numbered_records(alloc, names, records) {
             Err(_) => Err(KeepError::Memory),
             Ok(numbered) => match self.store.events.append(&numbered) {
-                Ok(()) => Ok(()),
+                Ok(()) => Ok(LastKept(())),
                 Err(error) => {
                     self.store.events.journal.medium.names.forget(count);
                     Err(keep_error(error))
@@ -143,14 +162,18 @@ impl<N: Beginning, F: Folder + Drop> Keeper for StoreKeeper<N, F> {
         }
     }
 
+    fn settle(&self, _last: LastKept) -> Settled {
+        Settled(())
+    }
+
     /// What lies beside the journal stays.
-    fn close(&mut self)
+    fn close(&mut self, last: LastKept)
         requires { self.old.store.events.journal.closed ≡ false }
         ensures held { (events more : List Change)
-            → ⟦<StoreKeeper<N, F> as Keeper>⟧.kept_last self.old events more
+            → ⟦<StoreKeeper<N, F> as Keeper>⟧.kept_last self.old last events more
             → ⟦<StoreKeeper<N, F> as Keeper>⟧.holds self.new events }
         ensures any_moment { (events more : List Change)
-            → ⟦<StoreKeeper<N, F> as Keeper>⟧.kept_last self.old events more
+            → ⟦<StoreKeeper<N, F> as Keeper>⟧.kept_last self.old last events more
             → LeavesEvents ⟦<StoreKeeper<N, F> as Keeper>⟧.moment
             ⟦<StoreKeeper<N, F> as Keeper>⟧.left_since
             ⟦<StoreKeeper<N, F> as Keeper>⟧.stands self.old self.new

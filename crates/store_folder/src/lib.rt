@@ -48,7 +48,7 @@ pub use error::{
 };
 pub use heads::head_journal;
 pub use journals::{FoundJournal, read_journal};
-pub use keeping::StoreKeeper;
+pub use keeping::{LastKept, Settled, StoreKeeper};
 pub use kinds::has_cut;
 pub use laws::{one_meaning, one_world, rewritten_blocks};
 pub use litter::{has_blocks, sweep_apart};

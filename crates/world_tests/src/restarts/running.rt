@@ -31,7 +31,8 @@ impl<K: Keeper + Drop> Model for Running<K> {
     ghost view = { λ r. r.snapshot };
 
     ghost invariant = { λ r. (events : List Change) × K.holds r.keeper events
-        × IsOfAll K.first events (world_of r.snapshot) };
+        × IsOfAll K.first events (world_of r.snapshot)
+        × ((all : List Change) → K.may all) };
 }
 
 /// The record of an event.
@@ -70,7 +71,7 @@ impl<K: Keeper + Drop> Running<K> {
             Err(error) => return Err(error),
         };
         match self.keeper.keep(&bytes) {
-            Ok(()) => {
+            Ok(_last) => {
                 self.snapshot = next;
                 Ok(())
             }

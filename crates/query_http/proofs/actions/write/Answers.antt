@@ -9,11 +9,11 @@ use Rattle.query_http.proofs.actions.write.Goals as goal
 
 pub returns-in-Err-clause-reply : goal.returns-in-Err-clause-reply
 returns-in-Err-clause-reply g c =
-    event_refused g.J.Naming.opening g.K.Keeper.idle (AreHeld g.K.Keeper.holds g.J.Naming.before)
+    event_refused g.J.Naming.opening g.K.Keeper.idle (AreHeld g.K.Keeper.holds g.K.Keeper.stays g.J.Naming.before)
     (batch (batch_of_rows c.args.rows.items))
     (worker c.args.pass.now c.args.seat.now) _ c.in-Err.refused.error c.event_refusal_reply.result
     (ap (worker _) c.in-Err.ensures.kept.1)
-    (receipt_refused g.J.Naming.opening (AreHeld g.K.Keeper.holds g.J.Naming.before) c.args.seat.now
+    (receipt_refused g.J.Naming.opening (AreHeld g.K.Keeper.holds g.K.Keeper.stays g.J.Naming.before) c.args.seat.now
     (batch (batch_of_rows c.args.rows.items)) c.in-Err.refused.error c.in-Err.refused.met
     (rw c.new.ensures at c.in-Err.ensures.met) c.in-Err.ensures.known)
     c.in-Err.ensures.journal
@@ -22,5 +22,5 @@ returns-in-Err-clause-reply g c =
 
 pub returns-in-Ok-clause-held : goal.returns-in-Ok-clause-held
 returns-in-Ok-clause-held g c =
-    seat_held g.K.Keeper.holds g.J.Naming.before c.args.seat.now _ c.in-Ok.receipt
+    seat_held g.K.Keeper.holds g.K.Keeper.stays g.J.Naming.before c.args.seat.now _ c.in-Ok.receipt
     c.in-Ok.ensures.counted c.in-Ok.ensures.held

@@ -34,7 +34,7 @@ loop-part-preserved g c =
           (worker c.publish_part.new.pass c.publish_part.new.seat) c.loop-part.left c.in_ok-more.more refl
           c.loop-part.invariant.published c.in_ok-more.ensures.part c.in_ok-more.ensures.few);
       held =
-          publishes_more g.K.Keeper.holds g.J.Naming.before c.args.seat.now c.loop-part.seat c.publish_part.new.seat
+          publishes_more g.K.Keeper.holds g.K.Keeper.stays g.J.Naming.before c.args.seat.now c.loop-part.seat c.publish_part.new.seat
           c.loop-part.invariant.held c.publish_part.ensures.held;
       left = omega arith;
       rest =

@@ -9,7 +9,7 @@ use Rattle.remote_http.proofs.write.publish.Given as goal
 abbrev pub invariant-loop-part : goal.invariant-loop-part
 invariant-loop-part g l = record {
   published : IsPublished g.J.Naming.opening (batches_of l.yielded) (worker l.fn.pass l.fn.seat) (worker l.pass l.seat) l.left;
-  held : PublishesHeld g.K.Keeper.holds g.J.Naming.before l.fn.seat l.seat;
+  held : PublishesHeld g.K.Keeper.holds g.K.Keeper.stays g.J.Naming.before l.fn.seat l.seat;
   left : into_iter_len l.part-iterator ≡ length (into_iter_items l.part-iterator);
   rest : l.fn.parts.items ≡ l.yielded ++ into_iter_items l.part-iterator;
 }

@@ -11,7 +11,7 @@ pub loop-done-init : goal.loop-done-init
 loop-done-init g c =
     let before = worker c.args.pass.now c.args.seat.now in (
       works_none c.args.rules.now g.J.Naming.opening g.K.Keeper.idle
-          (AreHeld g.K.Keeper.holds g.J.Naming.before) before
+          (AreHeld g.K.Keeper.holds g.K.Keeper.stays g.J.Naming.before) before
           (g.A.Connections.coming c.args.connections.now)
           (g.A.Connections.past c.args.connections.now),
       none_farther before,
@@ -31,7 +31,7 @@ loop-done-preserved g c =
       };
     } in
     let one : IsServed c.args.rules.now g.J.Naming.opening g.K.Keeper.idle
-    (AreHeld g.K.Keeper.holds g.J.Naming.before) between after s = record {
+    (AreHeld g.K.Keeper.holds g.K.Keeper.stays g.J.Naming.before) between after s = record {
       output = g.A.Writer.Outlet.output c.in-Some.writer;
       fresh = c.in-Some.ensures.fresh;
       serves = c.serve_one_with-served.ensures.serves;
@@ -47,7 +47,7 @@ loop-done-preserved g c =
     AreAdded past (g.A.Connections.past c.close.new.self) (s.ending ∷ []))
     c.accept.ensures.past c.close.ensures.past in (
       works_more c.args.rules.now g.J.Naming.opening g.K.Keeper.idle
-          (AreHeld g.K.Keeper.holds g.J.Naming.before) before between after
+          (AreHeld g.K.Keeper.holds g.K.Keeper.stays g.J.Naming.before) before between after
           (g.A.Connections.coming c.args.connections.now)
           (g.A.Connections.coming c.loop-done.connections) (g.A.Connections.coming c.close.new.self)
           (g.A.Connections.past c.args.connections.now)
@@ -55,7 +55,7 @@ loop-done-preserved g c =
           c.loop-done.done s c.loop-done.invariant.0 one arrives added,
       farther_more before between after c.loop-done.done c.loop-done.invariant.1
           (served_farther c.args.rules.now g.J.Naming.opening g.K.Keeper.idle
-          (AreHeld g.K.Keeper.holds g.J.Naming.before) between after s one),
-      publishes_more g.K.Keeper.holds g.J.Naming.before c.args.seat.now c.loop-done.seat c.serve_one_with-served.new.seat
+          (AreHeld g.K.Keeper.holds g.K.Keeper.stays g.J.Naming.before) between after s one),
+      publishes_more g.K.Keeper.holds g.K.Keeper.stays g.J.Naming.before c.args.seat.now c.loop-done.seat c.serve_one_with-served.new.seat
           c.loop-done.invariant.2 c.serve_one_with-served.ensures.held,
     )

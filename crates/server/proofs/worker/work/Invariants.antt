@@ -5,9 +5,9 @@ use Rattle.server.proofs.worker.work.Given as goal
 
 abbrev pub invariant-loop-done : goal.invariant-loop-done
 invariant-loop-done g l =
-    Works l.rules g.J.Naming.opening g.K.Keeper.idle (AreHeld g.K.Keeper.holds g.J.Naming.before)
+    Works l.rules g.J.Naming.opening g.K.Keeper.idle (AreHeld g.K.Keeper.holds g.K.Keeper.stays g.J.Naming.before)
     (worker l.initial.pass l.initial.seat) (worker l.pass l.seat)
     (g.A.Connections.coming l.initial.connections) (g.A.Connections.coming l.connections)
     (g.A.Connections.past l.initial.connections) (g.A.Connections.past l.connections) l.done
     × IsFarther (worker l.initial.pass l.initial.seat) (worker l.pass l.seat) l.done
-    × PublishesHeld g.K.Keeper.holds g.J.Naming.before l.initial.seat l.seat
+    × PublishesHeld g.K.Keeper.holds g.K.Keeper.stays g.J.Naming.before l.initial.seat l.seat

@@ -15,7 +15,7 @@ use Rattle.keeper.specs.Finding.{AreAllAndSome}
 use Rattle.store_folder.proofs.keeping.StoreKeeperKeeper.keep.Goals as goal
 
 pub numbered_records-requires : goal.numbered_records-requires
-numbered_records-requires g c = c.requires.spelled
+numbered_records-requires g c = (c.requires.1, c.requires.3)
 
 pub append-requires-clause-held : goal.append-requires-clause-held
 append-requires-clause-held g c =
@@ -23,8 +23,8 @@ append-requires-clause-held g c =
     let k = c.args.self.now in
     let old = k.store.events.journal in
     let h = (open_like f.shows f.kept f.sound f.moment f.left_since g.N.Beginning.first old.medium
-    old.len old.closed c.requires.held.0 k.places.items (map part_in k.blocks.items)
-    c.requires.held.1 c.if-self.false).0 in (
+    old.len old.closed c.requires.0 k.places.items (map part_in k.blocks.items)
+    c.requires.2 c.if-self.false).0 in (
       head_texts h.saved,
       old.medium.names,
       h.late,
@@ -34,15 +34,14 @@ append-requires-clause-held g c =
     )
 
 pub append-requires-clause-spelled : goal.append-requires-clause-spelled
-append-requires-clause-spelled g c =
-    let more = c.requires.spelled in (
-      c.args.self.now.store.events.journal.medium.names,
-      more.0,
-      c.numbered_records.new.names,
-      subst (λ records. AreNext c.args.self.now.store.events.journal.medium.names records more.0
-          c.numbered_records.new.names) (sym c.deref.ensures.value)
-          (c.in-Ok.ensures.ok more.0 more.1),
-    )
+append-requires-clause-spelled g c = (
+  c.args.self.now.store.events.journal.medium.names,
+  c.requires.1,
+  c.numbered_records.new.names,
+  subst (λ records. AreNext c.args.self.now.store.events.journal.medium.names records c.requires.1
+      c.numbered_records.new.names) (sym c.deref.ensures.value)
+      (c.in-Ok.ensures.ok c.requires.1 c.requires.3),
+)
 
 pub returns-in-Ok-append-clause-ok : goal.returns-in-Ok-append-clause-ok
 returns-in-Ok-append-clause-ok g c events more held s =
@@ -96,8 +95,8 @@ returns-in-Ok-append-clause-last g c events more held s =
 
 pub returns-clause-err : goal.returns-clause-err
 returns-clause-err g c events held =
-    let more = c.requires.spelled.0 in
-    let s = c.requires.spelled.1 in
+    let more = c.requires.1 in
+    let s = c.requires.3 in
     let f = g.F.Folder in
     let k = c.args.self.now in
     let old = k.store.events.journal in

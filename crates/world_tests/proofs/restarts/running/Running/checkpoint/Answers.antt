@@ -1,11 +1,14 @@
 use Rattle.world_tests.proofs.restarts.running.Running.checkpoint.Goals as goal
 
 pub checkpoint-requires : goal.checkpoint-requires
-checkpoint-requires g c = record { made = λ keeps. c.self.invariant }
+checkpoint-requires g c = record {
+  made = λ keeps. (c.self.invariant.0, c.self.invariant.1, c.self.invariant.2);
+}
 
 pub invariant_of-self : goal.invariant_of-self
 invariant_of-self g c = (
   c.self.invariant.0,
   c.checkpoint.ensures.held c.self.invariant.0 c.self.invariant.1 (λ keeps. c.self.invariant.2),
   c.self.invariant.2,
+  c.self.invariant.3,
 )
