@@ -518,7 +518,7 @@ def damage(auditor, work):
     head = '{"intervals":[],"part":"head","rows":[],"separators":[]}'
     reply, folder = f'{{"parts":[{head}],"rows":[]}}', auditor.folder
 
-    def ends(name, wanted, change):
+    def ends(name, wanted, change, reply=reply):
         copied = f"{work}/{name}"
         shutil.copytree(folder, copied)
         change(copied)
@@ -549,7 +549,9 @@ def damage(auditor, work):
     count = len(Store(folder).journal.events)
     ends("no-event", (3, [], f"refused K2 at {count}\n"), append(b"\x09"))
     # a cut at 1, below the floor
-    ends("refused-event", (3, [], f"refused K3 at {count}\n"), append(b"\x03\x02"))
+    refused = (3, [], f"refused K3 at {count}\n"), append(b"\x03\x02")
+    ends("refused-event", *refused)
+    ends("refused-event-of-no-head", *refused, reply='{"parts":[],"rows":[]}')
 
 
 # ---- random changes, and a server that is quiet while the auditor reads

@@ -1,6 +1,6 @@
 -- What is right of the parts of a state, part by part and all together.
 use Rattle.std.proofs.Common.{◌≡◌, ℕ, true, false, List, [], ◌∷◌, ◌++◌, length, map}
-use Rattle.std.proofs.Common.{refl, sym, ap, subst, ◌∙◌}
+use Rattle.std.proofs.Common.{refl, sym, ap, subst, ◌∙◌, arith}
 use Rattle.std.specs.Prelude.{◌&&◌, ◌==◌}
 use Rattle.std.specs.List.{AllZip, flat_map}
 use Rattle.labels.specs.Parts.{Part}
@@ -76,6 +76,13 @@ searches_so is_so is_such since first events Nowhere to from h =
     λ n s a b c such. h n s a b c (from s such)
 searches_so is_so is_such since first events (Refused i) to from h = h
 
+-- where no state is so, a search says what it says of what no state is
+pub none_so : (is_such : State → Type 0) (since : ℕ) (first : State) (events : List Event)
+    (search : Search) → ((s : State) → is_such s → ⊥)
+    → Searches (λ _. ⊥) since first events search → Searches is_such since first events search
+none_so is_such since first events search none h =
+    searches_so (λ (_ : State). ⊥) is_such since first events search (λ s so. absurd so) none h
+
 -- of a state the last part is the head
 
 head_of : (name : PartName) → is_head name ≡ true → name ≡ Head
@@ -90,13 +97,14 @@ last_is_head query blocks head others last h =
     let front = and_left (count && is_head (name_of last)) (are_blocks_from 0 others) end in
     head_of (name_of last) (and_right count (is_head (name_of last)) front)
 
-pub none_of_none : (query : QueryView) (blocks : List Part) (head : Part)
-    → AreRightOf query blocks head [] → ⊥
-none_of_none query blocks head h = none_zip blocks h.each
+pub none_of_none : (query : QueryView) (blocks : List Part) (head : Part) (told : List ToldPart)
+    → length told ≡ 0 → AreRightOf query blocks head told → ⊥
+none_of_none query blocks head [] none h = none_zip blocks h.each
   where
     none_zip : (xs : List Part) → AllZip (IsRightOf query) (xs ++ head ∷ []) [] → ⊥
     none_zip [] all = all
     none_zip (x ∷ xs) all = all
+none_of_none query blocks head (t ∷ told) none h = absurd (omega arith)
 
 -- rows, beside parts that are right
 

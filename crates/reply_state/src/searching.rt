@@ -1,6 +1,6 @@
 //! The search for a state.
 
-ghost use Rattle.std.specs.Prelude.{◌≡◌, ◌+◌, ◌<◌, ◌^◌, ◌↔◌, IsTrue, IfOk, IfNone, IfSome};
+ghost use Rattle.std.specs.Prelude.{◌≡◌, ◌+◌, ◌<◌, ◌^◌, ◌↔◌, ℕ, IsTrue, IfOk, IfNone, IfSome};
 ghost use Rattle.std.specs.List.{flat_map};
 ghost use Rattle.labels.specs.Rows.{AreRows};
 ghost use Rattle.postings.specs.declared.part_name.PartName.TheVariants.{Head};
@@ -15,7 +15,7 @@ use crate::told::ToldParts;
 use auditor::{Flaw, Reply, ToldPart, audit_merge};
 use cover::{PartAnswer, PartName};
 use kept_walk::Change;
-use kept_world::World;
+use kept_world::{Replay, World};
 use matchers::Query;
 use state_search::{Search, find_state};
 use std::alloc::{AllocError, Global};
@@ -33,6 +33,19 @@ fn of_head(told: &ToldPart) -> Option<&PartAnswer>
         },
         ToldPart::Skipped(_) => None,
     }
+}
+
+/// What a search says where no state is right: that, or which of the changes is the first that is
+/// refused.
+fn find_none(alloc: Global, world: World, changes: &[Change]) -> Result<Search, AllocError>
+    requires { world.number ≡ 0 }
+    ensures { IfOk result (λ search. (since : ℕ)
+        → Searches (λ _. ⊥) since world (events_of changes.now) search) }
+{
+    if let Replay::Refused(at) = world.replay(alloc, changes)? {
+        return Ok(Search::Refused(at));
+    }
+    Ok(Search::Nowhere)
 }
 
 /// The newest state of which all that is said of parts is right, not before `since` events: after
@@ -61,9 +74,9 @@ pub fn find_parts(
                 };
                 Ok(find_state(alloc, world, changes, &told, since)?)
             }
-            None => Ok(Search::Nowhere),
+            None => Ok(find_none(alloc, world, changes)?),
         },
-        None => Ok(Search::Nowhere),
+        None => Ok(find_none(alloc, world, changes)?),
     }
 }
 
@@ -98,10 +111,10 @@ fn are_listed(alloc: Global, reply: Reply) -> Result<bool, AllocError>
 /// The newest state of which a reply is right, whole, not before `since` events: after how many of
 /// the changes it is. The world is what the head of a journal says, with its blocks.
 ///
-/// Of such a state something is said of each block, in order, and of the head; each answer is sound,
-/// or, of a block, right of its samples under other references; and the rows are those that the
-/// query selects of all. Where none is found, there is none. It replays each change once, and makes
-/// some 20 copies of the head for each run of batches.
+/// Of such a state something is said of each block, in order, and of the head; each answer is
+/// sound, or, of a block, right of its samples under other references; and the rows are those that
+/// the query selects of all. Where none is found, there is none. It replays each change once, and
+/// makes some 20 copies of the head for each run of batches.
 pub fn find_reply(
     alloc: Global,
     world: World,

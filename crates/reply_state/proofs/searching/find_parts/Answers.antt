@@ -8,7 +8,8 @@ use Rattle.kept_world.specs.Changes.{events_of}
 use Rattle.kept_world.specs.States.{numbered, shown}
 use Rattle.state_search.specs.Searching.{IsRightBy}
 use Rattle.reply_state.specs.Searches.{AreRightBlocks, AreRightIn}
-use Rattle.reply_state.proofs.Rights.{blocks_apart, head_apart, last_is_head, searches_so, together}
+use Rattle.reply_state.proofs.Rights.{blocks_apart, head_apart, last_is_head, none_of_none, none_so}
+use Rattle.reply_state.proofs.Rights.{searches_so, together}
 use Rattle.reply_state.proofs.searching.find_parts.Goals as goal
 
 pub returns-in_ok-find_state-in-Some-of_head : goal.returns-in_ok-find_state-in-Some-of_head
@@ -33,10 +34,25 @@ returns-in_ok-find_state-in-Some-of_head c =
     ))
     c.in_ok-find_state-in-Some-of_head.ensures
 
-pub returns-in-None-of_head : goal.returns-in-None-of_head
-returns-in-None-of_head c n s after upto leads right =
-    c.in-None-of_head.ensures.none
-    (last_is_head c.args.query.now s.blocks (numbered 1 (shown s.head)) c.in-Some.others.now
+pub returns-in_ok-find_none-in-None-of_head : goal.returns-in_ok-find_none-in-None-of_head
+returns-in_ok-find_none-in-None-of_head c =
+    let query = c.args.query.now in
+    let parts = c.args.parts.now in
+    none_so (AreRightIn query parts) c.args.since c.args.world (events_of c.args.changes.now)
+    c.in_ok-find_none-in-None-of_head.field-0
+    (λ s right. c.in-None-of_head.ensures.none
+    (last_is_head query s.blocks (numbered 1 (shown s.head)) c.in-Some.others.now
     c.in-Some.last.now
-    (subst (AreRightOf c.args.query.now s.blocks (numbered 1 (shown s.head)))
-    c.in-Some.ensures.cases.0 right))
+    (subst (AreRightOf query s.blocks (numbered 1 (shown s.head))) c.in-Some.ensures.cases.0
+    right)))
+    (c.in_ok-find_none-in-None-of_head.ensures c.args.since)
+
+pub returns-in_ok-find_none-in-None : goal.returns-in_ok-find_none-in-None
+returns-in_ok-find_none-in-None c =
+    let query = c.args.query.now in
+    let parts = c.args.parts.now in
+    none_so (AreRightIn query parts) c.args.since c.args.world (events_of c.args.changes.now)
+    c.in_ok-find_none-in-None.field-0
+    (λ s right. none_of_none query s.blocks (numbered 1 (shown s.head)) parts
+    c.in-None.ensures.cases right)
+    (c.in_ok-find_none-in-None.ensures c.args.since)
