@@ -139,6 +139,9 @@ fn run_workers<
     doors: Doors<'_>,
     terms: Terms,
 ) -> Result<Vec<Shift<'a>>, ServeError>
+where
+    K::Last: Send,
+    K::Settled: Send,
     ensures all { IfOk result (λ shifts. vec_len shifts ≡ workers.entry) }
     ensures each { IfOk result (λ shifts. EachServed terms.requests shifts.items) }
     ensures ruled { IfOk result (λ shifts. AreUnder rules.now shifts.items) }
@@ -230,6 +233,9 @@ pub(crate) fn serve_workers<
     serving: Serving<'_>,
     out: &mut W,
 ) -> Result<Vec<Shift<'a>>, Fault>
+where
+    K::Last: Send,
+    K::Settled: Send,
     ensures ok { OnOk result (TellsPort (W.contents out.old) (W.contents out.new)) }
     ensures workers { IfOk result (λ shifts. vec_len shifts ≡ workers.entry) }
     ensures served { IfOk result (λ shifts. EachServed serving.entry.requests shifts.items) }

@@ -129,6 +129,9 @@ fn run_all<
     rules: &'a Rules,
     terms: Terms,
 ) -> Result<Vec<Shift<'a>>, ServeError>
+where
+    K::Last: Send,
+    K::Settled: Send,
     ensures all { IfOk result (λ shifts. vec_len shifts ≡ vec_len places) }
     ensures each { IfOk result (λ shifts. EachServed terms.requests shifts.items) }
     ensures ruled { IfOk result (λ shifts. AreUnder rules.now shifts.items) }
@@ -164,6 +167,9 @@ fn run_ports<
     rules: &'a Rules,
     terms: Terms,
 ) -> Result<Vec<Shift<'a>>, ServeError>
+where
+    K::Last: Send,
+    K::Settled: Send,
     ensures all { IfOk result (λ shifts. vec_len shifts ≡ vec_len places) }
     ensures each { IfOk result (λ shifts. EachServed terms.requests shifts.items) }
     ensures ruled { IfOk result (λ shifts. AreUnder rules.now shifts.items) }
@@ -209,6 +215,9 @@ fn run_tended<
     rules: &'a Rules,
     terms: Terms,
 ) -> Result<Vec<Shift<'a>>, ServeError>
+where
+    K::Last: Send,
+    K::Settled: Send,
     ensures all { IfOk result (λ shifts. vec_len shifts ≡ vec_len places) }
     ensures each { IfOk result (λ shifts. EachServed terms.requests shifts.items) }
     ensures ruled { IfOk result (λ shifts. AreUnder rules.now shifts.items) }
@@ -254,6 +263,9 @@ pub fn serve<
     rules: &'a Rules,
     terms: Terms,
 ) -> Result<Vec<Shift<'a>>, ServeError>
+where
+    K::Last: Send,
+    K::Settled: Send,
     ensures all { IfOk result (λ shifts. vec_len shifts ≡ workers) }
     ensures each { IfOk result (λ shifts. EachServed terms.requests shifts.items) }
     ensures ruled { IfOk result (λ shifts. AreUnder rules.now shifts.items) }
@@ -311,7 +323,11 @@ fn watch_and_tend<
     seen: (Option<Pass<J>>, Vec<Arc<Tally>>, u64),
     committer: &Committer<J, C, K>,
     cutter: Option<Cutter<J>>,
-) {
+)
+where
+    K::Last: Send,
+    K::Settled: Send,
+{
     let (pass, tallies, workers) = seen;
     if !is_tended::<J, K>(cutter.as_ref()) {
         return report_open(rt, alloc, watch, over, pass, tallies, workers);
@@ -340,6 +356,9 @@ pub fn serve_watched<
     terms: Terms,
     watch: &Watch<'_, M>,
 ) -> Result<Vec<Shift<'a>>, ServeError>
+where
+    K::Last: Send,
+    K::Settled: Send,
     ensures all { IfOk result (λ shifts. vec_len shifts ≡ workers) }
     ensures each { IfOk result (λ shifts. EachServed terms.requests shifts.items) }
     ensures ruled { IfOk result (λ shifts. AreUnder rules.now shifts.items) }

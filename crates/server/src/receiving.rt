@@ -279,6 +279,9 @@ fn receive_under<
     rules: &Rules,
     terms: Terms,
 ) -> Result<usize, ServeError>
+where
+    K::Last: Send,
+    K::Settled: Send,
     requires ruled { rules.now ≡ B.rules }
     requires told { terms.version.now ≡ B.version }
     ensures all { IfOk result (λ count. count ≡ vec_len places) }
@@ -331,6 +334,9 @@ pub(crate) fn receive_all<
     rules: &Rules,
     terms: Terms,
 ) -> Result<usize, ServeError>
+where
+    K::Last: Send,
+    K::Settled: Send,
     ensures all { IfOk result (λ count. count ≡ vec_len places) }
     ensures err { IfErr result (λ error. error ≢ NoListener) }
 {

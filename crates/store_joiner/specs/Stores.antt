@@ -1,18 +1,20 @@
 -- A store that lies in a folder, and what is left of it while it is changed.
 use Rattle.std.specs.Prelude.{◌≡◌, ◌⊎◌, ◌++◌, ℕ, ℤ, true, List, [], Option, None, Ok, codes}
+use Rattle.block_folder.specs.declared.values.Values.{Values}
 use Rattle.block_folder.specs.declared.values.Values.TheVariants.{Whole}
 use Rattle.data_folder.specs.Folders.{HasFile, Left, LeavesOnly, Untouched}
 use Rattle.data_folder.specs.JournalFile.{journal_name}
 use Rattle.event_journal.specs.Holding.{Stands}
 use Rattle.head.specs.Heads.{BlockPart}
 use Rattle.head.specs.Worlds.{Event, World, replayed}
-use Rattle.head_record.specs.Saved.{Saved}
+use Rattle.head_record.specs.Saved.{Place, Saved}
 use Rattle.store_folder.specs.Holding.{AreAt}
 use Rattle.store_folder.specs.Journals.{IsJournalOf}
 use Rattle.store_folder.specs.Origins.{Origin, beginning}
 use Rattle.store_folder.specs.Plain.{HasEither}
 use Rattle.store_folder.specs.States.{IsAfter, StandsFor, origin_of}
 use Rattle.store_folder.specs.Sweeps.{has_number}
+use Rattle.store_folder.specs.Writing.{EachSays}
 use Rattle.store_joiner.specs.Adds.{with_beneath}
 use Rattle.store_joiner.specs.Finds.{Finds}
 use Rattle.store_joiner.specs.Joins.{with_blocks}
@@ -106,6 +108,25 @@ abbrev pub StaysNow : {F : Type 0} → (F → ℕ) → (F → ℕ → Left → T
 StaysNow moment left_since f first events =
     (left : Left) → left_since f (moment f) left
     → StandsOrFinds first events (λ (w : World) (v : World). v ≡ w) left
+
+-- in the folder lies, for good, a journal of a head alone, which names blocks at these places and
+-- says this meaning of values; and so does the `meta.json` of each of them
+pub record SaysMeaning {F : Type 0} (shows : F → List ℕ → Option (List ℕ) → Type 0)
+    (kept : F → List ℕ → ℕ → Type 0) (values : Values) (places : List Place) (f : F)
+    : Type 0 where
+  pub file : List ℕ
+  pub saved : Saved
+  pub has : HasFile shows kept journal_name file f
+  pub journal : IsJournalOf file saved []
+  pub means : saved.values ≡ values
+  pub names : saved.places ≡ places
+  pub says : EachSays shows kept values places f
+
+-- so of some meaning
+abbrev pub SaysOne : {F : Type 0} → (F → List ℕ → Option (List ℕ) → Type 0)
+    → (F → List ℕ → ℕ → Type 0) → F → Type 0
+SaysOne shows kept f =
+    (values : Values) × (places : List Place) × SaysMeaning shows kept values places f
 
 -- the same world, in some number of blocks
 abbrev pub IsJoinedTo : World → World → Type 0

@@ -22,7 +22,7 @@ ghost use Rattle.store_joiner.specs.Adds.{with_beneath};
 ghost use Rattle.store_joiner.specs.Finds.{FindsEither, FindsNow, other_of};
 ghost use Rattle.store_joiner.specs.Stores.{Changes, HasBlocks, HasStore, HasStoreFor, IsAddedTo};
 ghost use Rattle.store_joiner.specs.Stores.{IsLater, MayChange, NoneOrFinds, NoneOrStands};
-ghost use Rattle.store_joiner.specs.Stores.{PlainOrFinds, StaysNow, StaysOrFinds};
+ghost use Rattle.store_joiner.specs.Stores.{PlainOrFinds, SaysOne, StaysNow, StaysOrFinds};
 
 use crate::added::added_snapshot;
 use crate::error::ChangeFault;
@@ -66,6 +66,7 @@ fn add_saved<N: Beginning, F: Folder + Drop>(
         (with_beneath opening.now.blocks opening.now.floor N.first.world))) }
     ensures counted { IfOk result (λ x.
         x.0 ≡ length opening.now.blocks + N.first.world.blocks) }
+    ensures says { IfOk result (λ x. SaysOne F.shows F.kept x.1) }
     ensures stays { IfErr result (λ e.
         (e.0 ≡ ChangeFault.Roll (RollFault.Folder RollError.Lost) → ⊥)
         → FindsNow F.moment F.left_since e.1 N.first) }
@@ -125,6 +126,7 @@ fn add_found<F: Folder + Drop>(
         (origin_of found.store.journal.head (map part_in found.store.blocks.items))
         (with_beneath opening.now.blocks opening.now.floor w))) }
     ensures meant { OnOk result (found.store.journal.head.values ≡ values) }
+    ensures says { IfOk result (λ x. SaysOne F.shows F.kept x.1) }
     ensures stays { TellsFiles F.shows → IfErr result (λ e.
         (e.0 ≡ ChangeFault.Roll (RollFault.Folder RollError.Lost) → ⊥)
         → StaysNow F.moment F.left_since e.1
@@ -253,6 +255,7 @@ fn add_first<F: Folder + Drop>(
         × FindsNow F.moment F.left_since x.1 (other_of (beginning Whole)
         (with_beneath opening.now.blocks opening.now.floor (beginning Whole).world))) }
     ensures meant { OnOk result (values ≡ Whole) }
+    ensures says { IfOk result (λ x. SaysOne F.shows F.kept x.1) }
     ensures blocks { HasBlocks F.shows F.lists F.kept F.moment F.left_since folder
         → MatchResult result (λ x. ⊥)
         (λ e. Untouched F.shows F.kept F.moment F.left_since folder e.1) }
@@ -301,6 +304,9 @@ pub fn add_to_store<F: Folder + Drop>(
         × (x.0 ≡ length opening.now.blocks + w.blocks) × (saved.values ≡ values)
         × FindsNow F.moment F.left_since x.1 (other_of (origin_of saved parts)
         (with_beneath opening.now.blocks opening.now.floor w))) }
+    // The journal has a head alone, which says what the values mean, and so does the `meta.json` of
+    // each block.
+    ensures says { IfOk result (λ x. SaysOne F.shows F.kept x.1) }
     // After an `Err` it finds the store as it was, unless the journal was lost.
     ensures stays { TellsFiles F.shows → (saved : Saved) (parts : List BlockPart)
         (events : List Change) → (s : HasStore F.shows F.kept saved parts events folder)

@@ -20,7 +20,7 @@ ghost use Rattle.store_folder.specs.States.{origin_of};
 ghost use Rattle.store_joiner.specs.Finds.{Finds, FindsNow, other_of};
 ghost use Rattle.store_joiner.specs.Joins.{with_blocks};
 ghost use Rattle.store_joiner.specs.Stores.{Changes, HasStore, IsJoinedTo, IsLater, MayChange};
-ghost use Rattle.store_joiner.specs.Stores.{PlainOrFinds, StaysNow, StaysOrFinds};
+ghost use Rattle.store_joiner.specs.Stores.{PlainOrFinds, SaysOne, StaysNow, StaysOrFinds};
 
 use crate::error::ChangeFault;
 use crate::joined::joined_snapshot;
@@ -110,6 +110,8 @@ fn join_saved<N: Beginning, F: Folder + Drop>(
         (other_of N.first (with_blocks x.0.after N.first.world))) }
     ensures before { IfOk result (λ x. x.0.before ≡ N.first.world.blocks) }
     ensures few { IfOk result (λ x. x.0.after ≤ x.0.before) }
+    ensures says { IfOk result (λ x. (x.0.after ≡ x.0.before → ⊥)
+        → SaysOne F.shows F.kept x.1) }
     ensures stays { IfErr result (λ e.
         (e.0 ≡ ChangeFault.Roll (RollFault.Folder RollError.Lost) → ⊥)
         → FindsNow F.moment F.left_since e.1 N.first) }
@@ -162,6 +164,8 @@ fn join_found<F: Folder + Drop>(
         (origin_of found.store.journal.head (map part_in found.store.blocks.items))
         (with_blocks x.0.after w))) }
     ensures few { IfOk result (λ x. x.0.after ≤ x.0.before) }
+    ensures says { IfOk result (λ x. (x.0.after ≡ x.0.before → ⊥)
+        → SaysOne F.shows F.kept x.1) }
     ensures stays { TellsFiles F.shows → IfErr result (λ e.
         (e.0 ≡ ChangeFault.Roll (RollFault.Folder RollError.Lost) → ⊥)
         → StaysNow F.moment F.left_since e.1
@@ -205,6 +209,10 @@ pub fn join_store<F: Folder + Drop>(
         × FindsNow F.moment F.left_since x.1
         (other_of (origin_of saved parts) (with_blocks x.0.after w))) }
     ensures few { IfOk result (λ x. x.0.after ≤ x.0.before) }
+    // Where blocks were joined, the journal has a head alone, which says what the values mean, and
+    // so does the `meta.json` of each block.
+    ensures says { IfOk result (λ x. (x.0.after ≡ x.0.before → ⊥)
+        → SaysOne F.shows F.kept x.1) }
     // After an `Err` it finds the store as it was, unless the journal was lost.
     ensures stays { TellsFiles F.shows → (saved : Saved) (parts : List BlockPart)
         (events : List Change) → (s : HasStore F.shows F.kept saved parts events folder)

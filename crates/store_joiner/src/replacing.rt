@@ -7,7 +7,7 @@ ghost use Rattle.head.specs.Heads.{world_of};
 ghost use Rattle.store_folder.specs.Finding.{IsFoundStore};
 ghost use Rattle.store_folder.specs.States.{origin_of};
 ghost use Rattle.store_joiner.specs.Finds.{FindsEither, FindsNow, other_of};
-ghost use Rattle.store_joiner.specs.Stores.{IsLater};
+ghost use Rattle.store_joiner.specs.Stores.{IsLater, SaysOne};
 
 use crate::error::ChangeFault;
 use crate::opened::Found;
@@ -39,6 +39,7 @@ pub(crate) fn replace<N: Beginning, F: Folder + Drop>(
     // After `Ok` it finds the other.
     ensures finds { IfOk result (λ folder.
         FindsNow F.moment F.left_since folder (other_of N.first (world_of next.now))) }
+    ensures says { IfOk result (SaysOne F.shows F.kept) }
     // After an `Err` it finds it as it was, unless the journal was lost.
     ensures stays { IfErr result (λ e.
         (e.0 ≡ ChangeFault.Roll (RollFault.Folder RollError.Lost) → ⊥)

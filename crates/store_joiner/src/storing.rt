@@ -4,8 +4,8 @@ ghost use Rattle.std.specs.Prelude.{◌≡◌, List, [], false, length, IfErr, I
 ghost use Rattle.data_folder.specs.Sweeping.{KeepsForeign};
 ghost use Rattle.head.specs.Heads.{BlockPart, world_of};
 ghost use Rattle.store_folder.specs.Holding.{HoldsAt};
-ghost use Rattle.store_folder.specs.Writing.{EachSays};
 ghost use Rattle.store_joiner.specs.Finds.{FindsEither, FindsNow, other_of};
+ghost use Rattle.store_joiner.specs.Stores.{SaysMeaning};
 
 use data_folder::{Folder, RollError, roll};
 use head::Snapshot;
@@ -52,9 +52,9 @@ pub fn replace_store<N: Beginning, F: Folder + Drop>(
     ensures finds { IfOk result (λ x.
         FindsNow F.moment F.left_since x.folder (other_of N.first (world_of next.now))) }
     ensures places { IfOk result (λ x. length x.places.items ≡ length next.now.blocks) }
-    // The `meta.json` of each block says what the values mean.
+    // Its head names the blocks there, and says what the values mean, as the `meta.json` of each.
     ensures says { IfOk result (λ x.
-        EachSays F.shows F.kept N.first.values x.places.items x.folder) }
+        SaysMeaning F.shows F.kept N.first.values x.places.items x.folder) }
     // After an `Err` it finds it as it was, unless the journal was lost.
     ensures stays { IfErr result (λ e. (e.0 ≡ RollFault.Folder RollError.Lost → ⊥)
         → FindsNow F.moment F.left_since e.1 N.first) }

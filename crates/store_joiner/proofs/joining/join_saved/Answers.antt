@@ -131,3 +131,10 @@ pub returns-in-Err-clause-foreign : goal.returns-in-Err-clause-foreign
 returns-in-Err-clause-foreign g c =
     let f = g.F.Folder in
     foreign_rests f.shows f.kept c.args.found.folder
+
+pub returns-in-Ok-sweep-clause-says : goal.returns-in-Ok-sweep-clause-says
+returns-in-Ok-sweep-clause-says g c fewer =
+    absurd (fewer (omega (arith, c.if-after-before.true)))
+
+pub returns-in-Ok-replace-clause-says : goal.returns-in-Ok-replace-clause-says
+returns-in-Ok-replace-clause-says g c fewer = c.in-Ok-replace.ensures.says

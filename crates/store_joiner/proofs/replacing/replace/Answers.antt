@@ -136,3 +136,10 @@ returns-clause-foreign g c =
     c.in-Err-replace_store.folder
     (foreign_beside f.shows f.kept c.args.found.folder c.in-Ok-resume.journal.events.journal.medium.folder
     c.in-Ok-resume.ensures.others) c.in-Err-replace_store.ensures.foreign
+
+pub returns-in-Ok-replace_store-clause-says : goal.returns-in-Ok-replace_store-clause-says
+returns-in-Ok-replace_store-clause-says g c = (
+  g.N.Beginning.first.values,
+  c.in-Ok-replace_store.replaced.places.items,
+  c.in-Ok-replace_store.ensures.says,
+)

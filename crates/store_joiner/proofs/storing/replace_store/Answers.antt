@@ -2,8 +2,11 @@ use Rattle.std.proofs.Common.{◌≡◌, ◌++◌, ◌-◌, arith, List, [], ap,
 use Rattle.event_journal.specs.Holding.{contents_with}
 use Rattle.head.specs.Heads.{world_of}
 use Rattle.head_record.specs.Saved.{Place, Saved}
+use Rattle.head_record.proofs.Worlds.{in_front}
 use Rattle.head_record.specs.Spelling.{head_texts}
+use Rattle.journal.proofs.Keeping.{itself}
 use Rattle.journal.specs.Group.{IsJournalText}
+use Rattle.journal.specs.Records.{file_of}
 use Rattle.data_folder.specs.Sweeping.{KeepsStore}
 use Rattle.data_folder.proofs.Moments.{joined}
 use Rattle.store_folder.specs.Sweeps.{names_at}
@@ -337,6 +340,28 @@ returns-in-Ok-roll-clause-says g c =
     ∙ ap (λ (h : Saved). h.places) c.in-Ok.ensures.saved in
     let swept = subst (λ (ps : List Place). KeepsStore f.shows f.kept f.sound f.moment f.left_since
     (names_at ps) new last) (c.deref-in-Ok-roll.ensures.value ∙ named) c.sweep_apart.ensures.kept in
-    subst (λ (ps : List Place). EachSays f.shows f.kept values ps last) (sym named)
-    (says_on f.shows f.kept values written new last
-    (λ files among there. swept.files files among there) rolled)
+    let head = c.in-Ok.head in
+    let contents = contents_with (head_texts head) [] in
+    let keeps = c.sweep_apart.ensures.kept.journal contents c.roll.new.journal.len
+    (c.in-Ok-roll.ensures.ok contents (subst (IsJournalText contents) (sym c.deref.ensures.value)
+    c.in-Ok-head_journal.ensures.text)) in
+    record {
+      file = file_of contents;
+      saved = head;
+      has = keeps.file;
+      journal = record {
+        head = c.in-Ok-head_journal.ensures.saved;
+        stands = record {
+          before = in_front head;
+          contents = [];
+          names = [];
+          spell = refl;
+          recovers = itself contents keeps.each;
+        };
+      };
+      means = ap (λ (h : Saved). h.values) c.in-Ok.ensures.saved ∙ c.values-values.ensures;
+      names = sym (c.in-Ok-from_slice.ensures.items ∙ c.places.ensures);
+      says = subst (λ (ps : List Place). EachSays f.shows f.kept values ps last) (sym named)
+          (says_on f.shows f.kept values written new last
+          (λ files among there. swept.files files among there) rolled);
+    }
