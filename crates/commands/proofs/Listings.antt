@@ -9,7 +9,7 @@ use Rattle.std.proofs.lemmas.List.{length-take-le, map-append}
 use Rattle.std.proofs.lemmas.List.Sums.{fold-append}
 use Rattle.std.specs.Int.{int_min, int_max}
 use Rattle.std.specs.List.{Contains, fold}
-use Rattle.std.specs.Prelude.{is_ok, true, false, if◌then◌else◌}
+use Rattle.std.specs.Prelude.{is_ok, true, false, if◌then◌else◌, IfOk, IsErrAnd, MatchResult}
 use Rattle.labels.specs.Labels.{Labels}
 use Rattle.event_journal.specs.Holding.{Stands}
 use Rattle.head.specs.Worlds.{Event}
@@ -252,3 +252,13 @@ plain_summed_up file events len lines text stands counted each made =
             ∙ ap (λ (n : ℕ). lines ++ summary_line (length events) n (length file)) counted;
       },
     )
+
+same_read : {T D : Type 0} (x y : T) (s : Result T D) → s ≡ Ok y → s ≡ Ok x → y ≡ x
+same_read x y s so is = let same = sym so ∙ is in cc
+
+-- what is said of what was read, if only its fault is told in another way
+pub read_so : {T E D : Type 0} (P : T → Type 0) (r : Result T E) (s : Result T D) (x : T)
+    (Q : E → D → Type 0) → MatchResult r (λ y. s ≡ Ok y) (λ e. IsErrAnd s (Q e)) → s ≡ Ok x
+    → IfOk r P → P x
+read_so P (Ok y) s x Q mapped is held = subst P (same_read x y s mapped is) held
+read_so P (Err e) s x Q mapped is held = absurd (subst (λ t. IsErrAnd t (Q e)) is mapped)

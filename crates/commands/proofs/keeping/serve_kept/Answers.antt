@@ -1,5 +1,6 @@
 use Rattle.std.proofs.Common.{inl}
 use Rattle.std.proofs.lemmas.Result.{err_from_is_err_and}
+use Rattle.commands.specs.declared.fault.Fault.TheVariants.{Memory}
 use Rattle.commands.proofs.LineEnds.{unused}
 use Rattle.commands.proofs.Servings.{not_opened, room_counted, seats_counted}
 use Rattle.commands.proofs.keeping.serve_kept.Goals as goal
@@ -18,3 +19,10 @@ returns-in_err-opened-clause-err g c =
           c.in_err-opened.ensures.few limit),
       unused _ (g.W.Write.contents c.args.out.now),
     ))
+
+pub returns-in_err-workers-clause-err : goal.returns-in_err-workers-clause-err
+returns-in_err-workers-clause-err g c =
+    let p =
+    err_from_is_err_and c.from_residual-in_err-workers.result
+    c.from_residual-in_err-workers.ensures.1 in
+    rw (p.1, p.2) (inl (tt, unused Memory (g.W.Write.contents c.args.out.now)))

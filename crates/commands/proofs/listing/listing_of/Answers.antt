@@ -3,13 +3,17 @@ use Rattle.event_journal.specs.Holding.{Stands}
 use Rattle.journal.specs.Records.{file_of}
 use Rattle.store_folder.specs.Journals.{IsFoundJournal}
 use Rattle.commands.specs.Listing.{head_line, summary_line}
-use Rattle.commands.proofs.Listings.{plain_summed_up, summed_up}
+use Rattle.store_folder.specs.declared.journals.FoundJournal.{FoundJournal}
+use Rattle.commands.proofs.Listings.{plain_summed_up, read_so, summed_up}
 use Rattle.commands.proofs.listing.listing_of.Goals as goal
 
 pub returns-clause-ok : goal.returns-clause-ok
 returns-clause-ok c =
     let found = c.in_ok-found-2.found in
-    let j : IsFoundJournal c.args.file.now found = search rules in
+    let j : IsFoundJournal c.args.file.now found =
+    read_so (λ (j : FoundJournal). IsFoundJournal c.args.file.now j) c.read_journal.result
+    c.map_err-2.result found _ c.map_err-2.ensures.cases c.in_ok-found-2.was
+    c.read_journal.ensures.found in
     let events = c.in_ok-append_events-2.ensures in
     summed_up c.args.file.now found.head found.events.items found.len events.0
     c.append_head.new.out.items c.append_events-2.new.text.items j.is j.counted events.1
@@ -22,7 +26,10 @@ returns-then-begins_plain-clause-ok c =
     let found = c.in_ok-found.found in
     let file = c.args.file.now in
     let s : (stands : Stands [] file found.events.items)
-    × (found.len ≡ length (file_of stands.contents)) = search rules in
+    × (found.len ≡ length (file_of stands.contents)) =
+    read_so (λ (j : FoundJournal). (stands : Stands [] file j.events.items)
+    × (j.len ≡ length (file_of stands.contents))) c.read_plain.result c.map_err.result found _
+    c.map_err.ensures.cases c.in_ok-found.was c.read_plain.ensures.found in
     let events = c.in_ok-append_events.ensures in
     let rest = events.0 ++ summary_line (length found.events.items) found.len (length file) in
     plain_summed_up file found.events.items found.len events.0 c.append_events.new.text.items s.0
