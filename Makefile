@@ -6,7 +6,7 @@ GATE_JOBS ?= $(shell n=$$(nproc); echo $$((n < 4 ? n : 4)))
 CRATES := $(shell sed -e 's/\#.*//' -e 's/:.*//' -e '/^[[:space:]]*$$/d' crates.txt)
 # Which crate, or script, has the tests of which crates; a crate of tests has its own.
 TESTS_OF := kept_tests:kept_walk,kept_world,state_search,reply_state,store_audit \
-	file_tests:wire,index_reader,chunk_reader,tombstones,block,block_writer,xor_reader,doubles,decimal_text,prometheus_block \
+	file_tests:wire,index_reader,chunk_reader,packed_chunks,tombstones,block,block_writer,xor_reader,doubles,decimal_text,prometheus_block \
 	store_tests:labels,pages,matchers,postings,head,snapshots,cover,block_search,series_merge,answers,selector_cache,requests,query_http,server,commands,querier,journal,event_text \
 	world_tests:history,block_walk,reply_reader,auditor,audit_command,audit_laws,auditor_program,block_rewriter,head_record,store_folder,logged_folder \
 	whole_tests:whole_audit \
@@ -23,12 +23,8 @@ TESTS_OF := kept_tests:kept_walk,kept_world,state_search,reply_state,store_audit
 tests_of = $(if $(filter %_tests,$(1)),$(1),$(word 1,$(subst :, ,$(foreach it,$(TESTS_OF),$(if \
 	$(filter $(1),$(subst $(comma), ,$(word 2,$(subst :, ,$(it))))),$(it))))))
 comma := ,
-# Runs a command, and shows the end of what it told only if it failed.
-quiet = log=$$(mktemp) && if ( $(1) ) >$$log 2>&1; then rm -f $$log; else \
-	tail -n 20 $$log >&2; rm -f $$log; echo "failed: $(strip $(2))" >&2; exit 1; fi
-
 .PHONY: help try demo test gate-times readme allocations audits serving bench install \
-	$(addprefix check-,$(CRATES)) $(addprefix test-,$(CRATES)) $(addprefix proved-,$(CRATES))
+	$(addprefix check-,$(CRATES)) $(addprefix test-,$(CRATES))
 
 help: ## lists the targets
 	@grep -hE '^[a-z-]+:.*## ' $(MAKEFILE_LIST) | sed -E 's/^([a-z-]+):.*## /\1\t/' | expand -t 16
@@ -40,10 +36,8 @@ try: ## runs `querier demo` with no proof
 	@cd crates/querier && $(RT) try -- demo
 
 demo: ## proves what `querier` stands on, with a line for each crate, and runs `querier demo`
-	@$(MAKE) --no-print-directory -j $(GATE_JOBS) proved-querier
-	@echo "building querier: one to three minutes" >&2
-	@$(call quiet,cd crates/querier && $(RT) run -- demo,the build of querier)
-	@crates/querier/out/querier demo
+	@dir=$$(mktemp -d) && RT="$(RT)" JOBS=$(GATE_JOBS) packaging/build "$$dir" querier && "$$dir/querier" demo; \
+	code=$$?; rm -rf "$$dir"; exit $$code
 
 test: ## the merge gate: every proof from nothing, must-fail edits, tests, programs
 	@RT_JOBS=$(GATE_JOBS) $(RT) ci
@@ -103,16 +97,11 @@ bench: ## measures speed, first beside Prometheus and VictoriaMetrics (never par
 	@RT="$(RT)" bench/peers.py && RT="$(RT)" bench/run.sh && RT="$(RT)" bench/check.sh && RT="$(RT)" bench/select.sh && RT="$(RT)" bench/audit.sh && RT="$(RT)" bench/serve.sh && RT="$(RT)" bench/durable.py
 
 install: ## proves what querier, auditor, explain and blocktool stand on, with a line for each crate, builds them, and copies them to PREFIX/bin
-	@$(MAKE) --no-print-directory -j $(GATE_JOBS) proved-querier proved-auditor_program proved-explain proved-blocktool
-	@echo "building querier, auditor, explain and blocktool: one to three minutes each" >&2
-	@$(call quiet,cd crates/querier && $(RT) run -- demo,the build of querier)
-	@$(call quiet,cd crates/auditor_program && $(RT) run -- --selector up <stdin,the build of auditor)
-	@$(call quiet,cd crates/explain && $(RT) run -- --version <stdin,the build of explain)
-	@$(call quiet,cd crates/blocktool && $(RT) run -- --version,the build of blocktool)
-	@install -D -m 755 crates/querier/out/querier "$(DESTDIR)$(PREFIX)/bin/querier"
-	@install -D -m 755 crates/auditor_program/out/auditor_program "$(DESTDIR)$(PREFIX)/bin/auditor"
-	@install -D -m 755 crates/explain/out/explain "$(DESTDIR)$(PREFIX)/bin/explain"
-	@install -D -m 755 crates/blocktool/out/blocktool "$(DESTDIR)$(PREFIX)/bin/blocktool"
+	@dir=$$(mktemp -d) && trap 'rm -rf "$$dir"' EXIT && RT="$(RT)" JOBS=$(GATE_JOBS) packaging/build "$$dir" && \
+	install -D -m 755 "$$dir/querier" "$(DESTDIR)$(PREFIX)/bin/querier" && \
+	install -D -m 755 "$$dir/auditor_program" "$(DESTDIR)$(PREFIX)/bin/auditor" && \
+	install -D -m 755 "$$dir/explain" "$(DESTDIR)$(PREFIX)/bin/explain" && \
+	install -D -m 755 "$$dir/blocktool" "$(DESTDIR)$(PREFIX)/bin/blocktool"
 
 $(addprefix check-,$(CRATES)): check-%:
 	@cd crates/$* && $(RT) check
@@ -123,14 +112,3 @@ $(addprefix test-,$(CRATES)): test-%:
 	  */*) echo "the tests of $* are the script $$tests" >&2; RT="$(RT)" $$tests ;; \
 	  *) echo "the tests of $* stand in crates/$$tests" >&2; cd crates/$$tests && $(RT) test ;; \
 	esac
-
-# proved-CRATE proves a crate once those that it stands on are proved, as crates.txt says, several side by side.
-$(addprefix proved-,$(CRATES)): proved-%:
-	@began=$$(date +%s); echo "proving $*" >&2; \
-	$(call quiet,cd crates/$* && $(RT) check,the proof of $*); \
-	echo "proved $* in $$(( $$(date +%s) - began )) s" >&2
-
-define stands_on
-proved-$(1): $(addprefix proved-,$(filter $(CRATES),$(2)))
-endef
-$(foreach name,$(CRATES),$(eval $(call stands_on,$(name),$(shell sed -nE 's/^$(name)( [^:]*)?://p' crates.txt))))

@@ -9,7 +9,8 @@ characters change neither elements nor each other; with --values doubles a value
 its double; a page claims that no series is missing exactly if the
 reply was not damaged; the box of the claim is green exactly if an auditor found no flaw in the block of each
 directory and nothing else is named but an empty head; with the block's directory each part carries its
-judgement; the texts for a terminal fit 80 columns; and pages stay small.
+judgement; over the folder of a store the head is judged too, and the page tells of which state; the texts for
+a terminal fit 80 columns; and pages stay small.
 
 It takes the program that EXPLAIN names, or builds it where it stands (RT), with --try with no proof. The
 replies of the files REPLIES/NAME.json are tried too, if REPLIES names a folder: NAME.args has the selector
@@ -32,10 +33,11 @@ from html.parser import HTMLParser
 
 sys.dont_write_bytecode = True
 from lib import TOP, failed, find_program, holds  # noqa: E402
+from read_block import checksum  # noqa: E402
 
 END = 1 << 32
 VOID = {"meta", "input", "br", "wbr"}
-GOOD = {name: TOP / "examples" / name for name in ("good/index", "good/chunks/000001", "good/tombstones")}
+GOOD = ("good/index", "good/chunks/000001", "good/tombstones")
 
 
 # ---- cases: what the program is given, and what its page must have
@@ -55,24 +57,36 @@ class Case:
         self.out, self.err, self.ended, self.took = b"", b"", None, 0
 
 
+def files():
+    """The files that lie where the program runs, a block's and a store's."""
+    return {**{name: (TOP / "examples" / name).read_bytes() for name in GOOD}, "kept/journal": journal()}
+
+
 def run(cases, program):
-    for case in cases:
-        began = time.monotonic()
-        done = subprocess.run(
-            [program, *case.words], input=case.text, capture_output=True, cwd=TOP / "examples"
-        )
-        case.took = time.monotonic() - began
-        case.out, case.err, case.ended = done.stdout, done.stderr, done.returncode
+    with tempfile.TemporaryDirectory() as folder:
+        for name, data in files().items():
+            path = pathlib.Path(folder, name)
+            path.parent.mkdir(parents=True, exist_ok=True)
+            path.write_bytes(data)
+        for case in cases:
+            began = time.monotonic()
+            done = subprocess.run([program, *case.words], input=case.text, capture_output=True, cwd=folder)
+            case.took = time.monotonic() - began
+            case.out, case.err, case.ended = done.stdout, done.stderr, done.returncode
 
 
 def run_unproved(cases):
     """Builds the program once with no proof, and runs it on each case; the status is read from its line."""
-    with tempfile.TemporaryDirectory() as folder:
+    with tempfile.TemporaryDirectory() as folder, tempfile.TemporaryDirectory() as beside:
         for case in cases:
             pathlib.Path(folder, case.name).write_bytes(case.text)
             pathlib.Path(folder, case.name + ".args").write_text("".join(f"{word}\n" for word in case.words))
-        files = [word for name, path in GOOD.items() for word in ("--data", f"{name}={path}")]
-        done = subprocess.run([os.environ.get("RT", "rt"), "try", "--cases", folder, *files],
+        words = []
+        for number, (name, data) in enumerate(files().items()):
+            path = pathlib.Path(beside, str(number))
+            path.write_bytes(data)
+            words += ["--data", f"{name}={path}"]
+        done = subprocess.run([os.environ.get("RT", "rt"), "try", "--cases", folder, *words],
                               cwd=TOP / "crates" / "explain", capture_output=True)
     if os.environ.get("KEEP_TRY"):
         pathlib.Path(os.environ["KEEP_TRY"]).write_bytes(done.stdout + b"\n#### stderr\n" + done.stderr)
@@ -478,6 +492,47 @@ def judged():
     yield Case("text-lie", lie, [*words, "--from=0", "--text", "good"], status=1)
 
 
+def journal():
+    """The journal of the README's session: an empty head, and behind it a batch, a deletion and a cut."""
+    def number(n):
+        return bytes([n]) if n < 128 else bytes([n & 127 | 128]) + number(n >> 7)
+
+    signed = lambda n: number(2 * n if n >= 0 else -2 * n - 1)
+    text = lambda word: number(len(word)) + word.encode()
+    labels = lambda **pairs: number(len(pairs)) + b"".join(map(text, sum(sorted(pairs.items()), ())))
+    samples = lambda *times: number(len(times)) + b"".join(signed(n) for pair in times for n in pair)
+    run = lambda job, *times: labels(__name__="up", job=job) + samples(*times)
+    length = lambda content: len(content).to_bytes(4, "big")
+    framed = lambda content: length(content) + checksum(length(content)) + content + checksum(content)
+    head = b"\x10" + signed(-(1 << 62)) + number(0) + number(0)
+    batch = b"\x01" + number(2) + run("a", (10, 1), (20, 2)) + run("b", (10, 3))
+    deletion = b"\x02" + number(1) + b"\0" + text("job") + text("a") + signed(0) + signed(10)
+    cut = b"\x03" + signed(20)
+    return b"FZLJ\x01" + b"".join(map(framed, (head, batch, deletion, cut)))
+
+
+def kept():
+    """The answer of the README's session over the store that was kept: as it is, and changed."""
+    readme = (TOP / "README.md").read_text()
+    asked = "curl -G -d from=0 -d to=100 --data-urlencode 'selector=up{job=\"a\"}' 127.0.0.1:8080/select\n"
+    answer = re.search(re.escape(asked) + r"\s+(\{.*\})", readme)[1].encode()
+    words = ["--store", "kept", "--from=0", "--to=100", "--selector", 'up{job="a"}']
+    place = "event 3 of 3, mark 228f27dc:3."
+    right = f"It is right of the store at {place}"
+    wrong = f"It is right of no state of the store that was sought. It was judged at {place}"
+    lines = has("block 0: valid, numbered otherwise", "head: valid", "rows: valid")
+    yield Case("kept", answer, words, checks=[
+        says(ALL_JUDGED, "ok", right, "not for how few its intervals are: block 0."), lines,
+        lacks("Not judged", "did not judge")])
+    yield Case("text-kept", answer, [*words, "--text"], checks=[has(ALL_JUDGED, "block 0: valid, numbered")])
+    hidden = json.loads(answer)
+    hidden["parts"][1].update(rows=[], intervals=[{"from": 1, "until": END, "verdict": "none"}])
+    hidden["rows"] = []
+    says_no = says(NOT_SHOWN, "bad", "The auditor found a flaw: head: F8")
+    yield Case("kept-hidden", hidden, words, status=1, checks=[says_no, has("head: F8", wrong)])
+    yield Case("text-kept-hidden", hidden, [*words, "--text"], status=1)
+
+
 def half_judged(answer, words):
     """The worked answer over its block, and what a server with more than that block might make of it."""
     copy = lambda: json.loads(json.dumps(answer))
@@ -549,6 +604,7 @@ def cases(rng):
     empty = {"part": "head", "intervals": [], "rows": [], "separators": []}
     two = ["--selector", 'up{job="a"}']
     yield from judged()
+    yield from kept()
     yield Case("fifteen", reply, two)
     yield Case("parts", reply_of([one, skipped, part("head", 80, rng, 2, start=3)]), two)
     yield Case("empty", reply_of([empty]), ["--selector", "up"])

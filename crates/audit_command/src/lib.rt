@@ -21,8 +21,9 @@
 //!
 //! Programs that ask the same of a reply take their words, their query, the reply and the blocks
 //! from here: [`with_query`], [`with_arguments`] and [`asked_in`], [`query_of`], [`reply_in`], or
-//! [`all_of`] and [`reply_of`], and [`tables_at`]; and they end alike, by [`send`] and an
-//! [`Ending`].
+//! [`all_of`] and [`reply_of`], and [`tables_at`] or, by several threads,
+//! [`tables_by`]; and they
+//! end alike, by [`send`] and an [`Ending`].
 //!
 //! It stands on `auditor`, on `labels` and `matchers` for times and queries, and on `clap` for
 //! words.
@@ -39,8 +40,9 @@ mod walking;
 
 pub use command::{Asked, asked_in, with_arguments, with_query};
 pub use fault::{Fault, Refusal};
-pub use files::{ReadError, ReadFiles};
+pub use files::{BlockFiles, ReadError, ReadFiles};
 pub use input::{all_of, reply_in, reply_of};
 pub use program::{Ending, run, run_by, send};
 pub use report::query_of;
-pub use tables::tables_at;
+pub use tables::{tables_at, tables_by};
+pub use walking::{OneThread, Walker, Workers};

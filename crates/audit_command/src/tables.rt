@@ -26,8 +26,12 @@ fn table_at<K: Walker, F: ReadFiles>(
     Ok(walker.walk(alloc, block)?)
 }
 
-/// The same as [`tables_at`], by the one who walks.
-pub(crate) fn tables_by<K: Walker, F: ReadFiles>(
+/// What is known of the blocks in these directories, in their order, up to the first that cannot be
+/// read.
+///
+/// A block whose files are refused is none that cannot be read: its refusal is kept. What is known
+/// is of the whole files, though of one that is too long only the bytes that show it are read.
+pub fn tables_by<K: Walker, F: ReadFiles>(
     walker: &K,
     alloc: Global,
     files: &F,
@@ -47,11 +51,7 @@ pub(crate) fn tables_by<K: Walker, F: ReadFiles>(
     Ok(tables)
 }
 
-/// What is known of the blocks in these directories, in their order, up to the first that cannot be
-/// read.
-///
-/// A block whose files are refused is none that cannot be read: its refusal is kept. What is known
-/// is of the whole files, though of one that is too long only the bytes that show it are read.
+/// The same by the calling thread alone.
 pub fn tables_at<F: ReadFiles>(
     alloc: Global,
     files: &F,

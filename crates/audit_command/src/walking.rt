@@ -54,7 +54,7 @@ fn table_by_workers<T: Threads + Sync>(
 }
 
 /// Who walks the files of a block.
-pub(crate) trait Walker {
+pub trait Walker {
     // What its work takes: that threads may share what starts them.
     ghost is_ready: { Self → Type 0 };
 
@@ -66,7 +66,7 @@ pub(crate) trait Walker {
 
 /// The calling thread alone.
 #[derive(Drop)]
-pub(crate) struct OneThread;
+pub struct OneThread;
 
 impl Walker for OneThread {
     ghost is_ready = { λ _. ⊤ };
@@ -78,8 +78,9 @@ impl Walker for OneThread {
 
 /// Several threads, the calling one among them.
 #[derive(Drop)]
-pub(crate) struct Workers<'a, T> {
-    pub(crate) rt: &'a T,
+pub struct Workers<'a, T> {
+    /// What starts them.
+    pub rt: &'a T,
 }
 
 impl<'a, T: Threads + Sync> Walker for Workers<'a, T> {

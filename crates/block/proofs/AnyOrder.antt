@@ -10,7 +10,7 @@ use Rattle.labels.specs.Rows.{Row}
 use Rattle.index_reader.specs.Indexes.{Series, Indexed}
 use Rattle.tombstones.specs.declared.deletion.Deletion.{Deletion}
 use Rattle.tombstones.specs.Covering.{deletes, covered}
-use Rattle.block.specs.Samples.{samples_in, undeleted}
+use Rattle.block.specs.Samples.{Source, samples_in, undeleted}
 use Rattle.block.specs.Blocks.{series_row, part_of_series, shown_of}
 use Rattle.block.specs.Opening.{is_known}
 
@@ -33,27 +33,27 @@ pub undeleted_any_order : (xs ys : List Deletion) → IsPermutation xs ys
     → undeleted xs reference samples ≡ undeleted ys reference samples
 undeleted_any_order xs ys p reference samples = undeleted_same xs ys p reference samples
 
-pub row_any_order : (file : List ℕ) (xs ys : List Deletion) → IsPermutation xs ys → (s : Series)
-    → series_row file xs s ≡ series_row file ys s
-row_any_order file xs ys p s = ap (λ (samples : List (ℤ × ℤ)). (
+pub row_any_order : (source : Source) (xs ys : List Deletion) → IsPermutation xs ys → (s : Series)
+    → series_row source xs s ≡ series_row source ys s
+row_any_order source xs ys p s = ap (λ (samples : List (ℤ × ℤ)). (
   s.reference,
   (s.labels, samples),
-)) (undeleted_any_order xs ys p s.reference (samples_in file s.chunks))
+)) (undeleted_any_order xs ys p s.reference (samples_in source s.chunks))
 
-pub part_any_order : (file : List ℕ) (xs ys : List Deletion) → IsPermutation xs ys
-    → (ss : List Series) → part_of_series file xs ss ≡ part_of_series file ys ss
-part_any_order file xs ys p [] = refl
-part_any_order file xs ys p (s ∷ ss) =
-    ap (λ (row : ℕ × Row). row ∷ part_of_series file xs ss) (row_any_order file xs ys p s)
-    ∙ ap (λ (rows : Part). series_row file ys s ∷ rows) (part_any_order file xs ys p ss)
+pub part_any_order : (source : Source) (xs ys : List Deletion) → IsPermutation xs ys
+    → (ss : List Series) → part_of_series source xs ss ≡ part_of_series source ys ss
+part_any_order source xs ys p [] = refl
+part_any_order source xs ys p (s ∷ ss) =
+    ap (λ (row : ℕ × Row). row ∷ part_of_series source xs ss) (row_any_order source xs ys p s)
+    ∙ ap (λ (rows : Part). series_row source ys s ∷ rows) (part_any_order source xs ys p ss)
 
-pub shown_any_order : (range : ℤ × ℤ) (file : List ℕ) (x : Indexed) (xs ys : List Deletion)
-    → IsPermutation xs ys → shown_of range file x xs ≡ shown_of range file x ys
-shown_any_order range file x xs ys p = ap (λ (part : Part). record {
+pub shown_any_order : (range : ℤ × ℤ) (source : Source) (x : Indexed) (xs ys : List Deletion)
+    → IsPermutation xs ys → shown_of range source x xs ≡ shown_of range source x ys
+shown_any_order range source x xs ys p = ap (λ (part : Part). record {
   range = range;
   part = part;
   pairs = x.pairs;
-}) (part_any_order file xs ys p x.series)
+}) (part_any_order source xs ys p x.series)
 
 none_fails : {X : Type 0} (p : X → Bool) (xs : List X)
     → list_all p xs ≡ not (list_any (λ x. not (p x)) xs)

@@ -11,7 +11,8 @@ use Rattle.index_reader.specs.Layout.{SeriesEntry, Body}
 use Rattle.index_reader.specs.Indexes.{Series, Indexed, IsConsistent, chunk_lists, series_of}
 use Rattle.index_reader.specs.Spelled.{AreLater, AreChunks, AreBodies, IsIndex}
 use Rattle.block.proofs.Checks.{all_pass}
-use Rattle.block.specs.Sound.{lies_in, IsHeldChunk, AreBehind, AreInTurn, IsStored, IsSoundBlock}
+use Rattle.block.specs.Samples.{chunk_samples}
+use Rattle.block.specs.Sound.{lies_in, IsReadChunk, IsHeldChunk, AreBehind, AreInTurn, IsStored, IsSoundBlock}
 use Rattle.block.specs.Opening.{have_few}
 
 spanned : (mint maxt : ℤ) (span : ℕ) → maxt ≡ mint +ℤ pos span → mint ≤ℤ maxt
@@ -52,12 +53,20 @@ and_true : (a b : Bool) → (a && b) ≡ true → (a ≡ true) × (b ≡ true)
 and_true true b h = (refl, h)
 and_true false b h = absurd cc
 
+held_of : (file : List ℕ) (c : Chunk) → IsReadChunk file c → IsHeldChunk (chunk_samples file) c
+held_of file c h = record { batch = h.stands.batch; first = h.stands.first; last = h.stands.last }
+
+each_held : (file : List ℕ) (cs : List Chunk) → AllByRecursion (IsReadChunk file) cs
+    → AllByRecursion (IsHeldChunk (chunk_samples file)) cs
+each_held file [] held = tt
+each_held file (c ∷ cs) held = (held_of file c held.0, each_held file cs held.1)
+
 pub stored_each : (range : ℤ × ℤ) (file : List ℕ) (ss : List Series)
     → AllByRecursion (λ (s : Series). AreInTurn s.chunks) ss
-    → AllByRecursion (AllByRecursion (IsHeldChunk file)) (chunk_lists ss)
+    → AllByRecursion (AllByRecursion (IsReadChunk file)) (chunk_lists ss)
     → list_all (have_few file) (chunk_lists ss) ≡ true
     → list_all (list_all (lies_in range)) (chunk_lists ss) ≡ true
-    → AllByRecursion (IsStored range file) ss
+    → AllByRecursion (IsStored range (chunk_samples file)) ss
 stored_each range file [] turn held few inside = tt
 stored_each range file (s ∷ ss) turn held few inside =
     let f = and_true (have_few file s.chunks) (list_all (have_few file) (chunk_lists ss)) few in
@@ -65,7 +74,7 @@ stored_each range file (s ∷ ss) turn held few inside =
     and_true (list_all (lies_in range) s.chunks)
     (list_all (list_all (lies_in range)) (chunk_lists ss)) inside in (
       record {
-        held = held.0;
+        held = each_held file s.chunks held.0;
         in_turn = turn.0;
         few = leb-true _ _ f.0;
         inside = all_pass (lies_in range) s.chunks i.0;
@@ -74,9 +83,9 @@ stored_each range file (s ∷ ss) turn held few inside =
     )
 
 pub sound_of : (range : ℤ × ℤ) (index file : List ℕ) (x : Indexed) → IsConsistent x
-    → IsIndex index x → AllByRecursion (AllByRecursion (IsHeldChunk file)) (chunk_lists x.series)
+    → IsIndex index x → AllByRecursion (AllByRecursion (IsReadChunk file)) (chunk_lists x.series)
     → list_all (have_few file) (chunk_lists x.series) ≡ true
-    → list_all (list_all (lies_in range)) (chunk_lists x.series) ≡ true → IsSoundBlock range file x
+    → list_all (list_all (lies_in range)) (chunk_lists x.series) ≡ true → IsSoundBlock range (chunk_samples file) x
 sound_of range index file x consistent i held few inside = record {
   consistent = consistent;
   stored = stored_each range file x.series (turned_in index x i) held few inside;

@@ -14,7 +14,7 @@ use Rattle.index_reader.specs.declared.chunk.Chunk.{Chunk}
 use Rattle.index_reader.specs.Indexes.{Series, references, chunk_lists}
 use Rattle.tombstones.specs.declared.deletion.Deletion.{Deletion}
 use Rattle.tombstones.specs.Covering.{covered, has_deletion, holds}
-use Rattle.block.specs.Samples.{chunk_samples, samples_in, undeleted}
+use Rattle.block.specs.Samples.{Source, samples_in, undeleted}
 use Rattle.block.specs.Blocks.{series_row, part_of_series, sample_count}
 use Rattle.block.specs.Sound.{IsStored}
 use Rattle.block.proofs.Steps.{take_next}
@@ -68,28 +68,28 @@ append_none : (ds : List Deletion) (r : ℕ) (xs : List (ℤ × ℤ))
     → length (undeleted ds r (xs ++ [])) ≡ length (undeleted ds r xs)
 append_none ds r xs = ap (λ (ys : List (ℤ × ℤ)). length (undeleted ds r ys)) (append-nil xs)
 
-pub chunks_next : (ds : List Deletion) (r : ℕ) (file : List ℕ) (cs : List Chunk) (i : ℕ) (c : Chunk)
+pub chunks_next : (ds : List Deletion) (r : ℕ) (source : Source) (cs : List Chunk) (i : ℕ) (c : Chunk)
     → slice_get cs i ≡ Some c
-    → length (undeleted ds r (samples_in file (take (i + 1) cs)))
-    ≡ length (undeleted ds r (samples_in file (take i cs)))
-    + length (undeleted ds r (chunk_samples file c))
-chunks_next ds r file cs i c h =
-    let whole : samples_in file (take (i + 1) cs)
-    ≡ samples_in file (take i cs) ++ (chunk_samples file c ++ []) =
-    ap (samples_in file) (take_next cs i c h)
-    ∙ flat_map-append (chunk_samples file) (take i cs) (c ∷ []) in
-    let n : length (undeleted ds r (samples_in file (take (i + 1) cs)))
-    ≡ length (undeleted ds r (samples_in file (take i cs))
-    ++ undeleted ds r (chunk_samples file c ++ [])) =
+    → length (undeleted ds r (samples_in source (take (i + 1) cs)))
+    ≡ length (undeleted ds r (samples_in source (take i cs)))
+    + length (undeleted ds r (source c))
+chunks_next ds r source cs i c h =
+    let whole : samples_in source (take (i + 1) cs)
+    ≡ samples_in source (take i cs) ++ (source c ++ []) =
+    ap (samples_in source) (take_next cs i c h)
+    ∙ flat_map-append (source) (take i cs) (c ∷ []) in
+    let n : length (undeleted ds r (samples_in source (take (i + 1) cs)))
+    ≡ length (undeleted ds r (samples_in source (take i cs))
+    ++ undeleted ds r (source c ++ [])) =
     ap (λ (xs : List (ℤ × ℤ)). length (undeleted ds r xs)) whole
     ∙ ap length
-    (undeleted_append ds r (samples_in file (take i cs)) (chunk_samples file c ++ [])) in
+    (undeleted_append ds r (samples_in source (take i cs)) (source c ++ [])) in
     omega (
       arith,
       n,
-      append_none ds r (chunk_samples file c),
-      length-append (undeleted ds r (samples_in file (take i cs)))
-          (undeleted ds r (chunk_samples file c ++ [])),
+      append_none ds r (source c),
+      length-append (undeleted ds r (samples_in source (take i cs)))
+          (undeleted ds r (source c ++ [])),
     )
 
 -- all series
@@ -104,12 +104,12 @@ none = record { reference = 0; labels = []; chunks = [] }
 same_value : {X : Type 0} (x y : X) → Some x ≡ Some y → x ≡ y
 same_value x y e = cc
 
-pub series_next : (ds : List Deletion) (file : List ℕ) (ss : List Series) (i r : ℕ)
+pub series_next : (ds : List Deletion) (source : Source) (ss : List Series) (i r : ℕ)
     (cs : List Chunk) → slice_get (references ss) i ≡ Some r
     → slice_get (chunk_lists ss) i ≡ Some cs
-    → sample_count (part_of_series file ds (take (i + 1) ss))
-    ≡ sample_count (part_of_series file ds (take i ss)) + length (undeleted ds r (samples_in file cs))
-series_next ds file ss i r cs g h =
+    → sample_count (part_of_series source ds (take (i + 1) ss))
+    ≡ sample_count (part_of_series source ds (take i ss)) + length (undeleted ds r (samples_in source cs))
+series_next ds source ss i r cs g h =
     let size : length (references ss) ≡ length ss = length-map ss (λ (s : Series). s.reference) in
     let lt : i < length ss = omega (arith, size, slice_get_within (references ss) i r g) in
     let s : Series = get_or ss i none in
@@ -122,16 +122,16 @@ series_next ds file ss i r cs g h =
     same_value s.chunks cs (sym (slice_get-map (λ (x : Series). x.chunks) ss i
     ∙ ap (option_map (λ (x : Series). x.chunks)) at)
     ∙ h) in
-    let e : part_of_series file ds (take (i + 1) ss)
-    ≡ part_of_series file ds (take i ss) ++ series_row file ds s ∷ [] =
-    map_more (series_row file ds) ss i none lt in
-    let n : sample_count (part_of_series file ds (take (i + 1) ss))
-    ≡ sample_count (part_of_series file ds (take i ss)) + sample_count (series_row file ds s ∷ []) =
-    ap sample_count e ∙ count_append (part_of_series file ds (take i ss)) (series_row file ds s ∷ []) in
-    let m : length (undeleted ds s.reference (samples_in file s.chunks))
-    ≡ length (undeleted ds r (samples_in file cs)) =
-    ap (λ (x : ℕ). length (undeleted ds x (samples_in file s.chunks))) one
-    ∙ ap (λ (x : List Chunk). length (undeleted ds r (samples_in file x))) two in
+    let e : part_of_series source ds (take (i + 1) ss)
+    ≡ part_of_series source ds (take i ss) ++ series_row source ds s ∷ [] =
+    map_more (series_row source ds) ss i none lt in
+    let n : sample_count (part_of_series source ds (take (i + 1) ss))
+    ≡ sample_count (part_of_series source ds (take i ss)) + sample_count (series_row source ds s ∷ []) =
+    ap sample_count e ∙ count_append (part_of_series source ds (take i ss)) (series_row source ds s ∷ []) in
+    let m : length (undeleted ds s.reference (samples_in source s.chunks))
+    ≡ length (undeleted ds r (samples_in source cs)) =
+    ap (λ (x : ℕ). length (undeleted ds x (samples_in source s.chunks))) one
+    ∙ ap (λ (x : List Chunk). length (undeleted ds r (samples_in source x))) two in
     omega (arith, n, m)
 
 -- a bound
@@ -143,19 +143,19 @@ filter_short test (x ∷ xs) =
     elim (test x) as (λ b. length (cond b (x ∷ filter test xs) (filter test xs)) ≤ length (x ∷ xs))
     [ true ↦ omega arith | false ↦ omega arith ]
 
-pub count_bound : (range : ℤ × ℤ) (file : List ℕ) (ds : List Deletion) (ss : List Series)
-    → AllByRecursion (IsStored range file) ss
-    → sample_count (part_of_series file ds ss) ≤ 1048576 * length ss
-count_bound range file ds [] a = omega arith
-count_bound range file ds (s ∷ ss) a =
-    let rest = count_bound range file ds ss a.1 in
+pub count_bound : (range : ℤ × ℤ) (source : Source) (ds : List Deletion) (ss : List Series)
+    → AllByRecursion (IsStored range source) ss
+    → sample_count (part_of_series source ds ss) ≤ 1048576 * length ss
+count_bound range source ds [] a = omega arith
+count_bound range source ds (s ∷ ss) a =
+    let rest = count_bound range source ds ss a.1 in
     let one =
-    filter_short (λ (x : ℤ × ℤ). not (covered ds s.reference x.0)) (samples_in file s.chunks) in
+    filter_short (λ (x : ℤ × ℤ). not (covered ds s.reference x.0)) (samples_in source s.chunks) in
     omega (arith, rest, one, a.0.few)
 
-pub count_whole : (range : ℤ × ℤ) (file : List ℕ) (ds : List Deletion) (ss : List Series) (n : ℕ)
-    → AllByRecursion (IsStored range file) ss → length ss ≤ 1048576
-    → n ≡ min (sample_count (part_of_series file ds ss)) (2 ^ 64 - 1)
-    → n ≡ sample_count (part_of_series file ds ss)
-count_whole range file ds ss n a few e =
-    let bound = count_bound range file ds ss a in omega (arith, bound, few, e)
+pub count_whole : (range : ℤ × ℤ) (source : Source) (ds : List Deletion) (ss : List Series) (n : ℕ)
+    → AllByRecursion (IsStored range source) ss → length ss ≤ 1048576
+    → n ≡ min (sample_count (part_of_series source ds ss)) (2 ^ 64 - 1)
+    → n ≡ sample_count (part_of_series source ds ss)
+count_whole range source ds ss n a few e =
+    let bound = count_bound range source ds ss a in omega (arith, bound, few, e)

@@ -6,7 +6,9 @@ use Rattle.std.proofs.MapsCrossing as maps
 use Rattle.labels.specs.contracts.text.Pairs as pairs
 use Rattle.labels.specs.contracts.label_set.LabelSet as label_set
 use Rattle.tombstones.specs.contracts.tombstones.Tombstones as tombstones
-use Rattle.chunk_reader.specs.contracts.chunks.Chunks as chunks
+use Rattle.packed_chunks.proofs.form.Form.TheSendSync as form
+use Rattle.packed_chunks.specs.contracts.chunks.Placed as placed
+use Rattle.packed_chunks.specs.contracts.chunks.PackedChunks as chunks
 use Rattle.index_reader.specs.contracts.chunk.Chunk as place
 use Rattle.index_reader.specs.contracts.series.Series as series
 use Rattle.index_reader.specs.contracts.lists.Lists as lists
@@ -14,7 +16,7 @@ use Rattle.index_reader.specs.contracts.symbols.Symbols as symbols
 use Rattle.index_reader.specs.contracts.keys.Keys as keys
 use Rattle.index_reader.specs.contracts.pairs.Pairs as index_pairs
 use Rattle.index_reader.specs.contracts.index.Index as index
-use Rattle.block.specs.contracts.blocks.Files as files
+use Rattle.block.specs.contracts.files.Files as files
 use Rattle.block.specs.contracts.blocks.Block as block
 
 pub Pairs-send : IsSend pairs.the_field.row
@@ -35,11 +37,17 @@ Tombstones-send = search (sendable, heap.Vec-send) depth 60 fits 20000
 pub Tombstones-sync : IsSync tombstones.the_field.row
 Tombstones-sync = search (sendable, heap.Vec-sync) depth 60 fits 20000
 
+pub Placed-send : IsSend placed.the_field.row
+Placed-send = search (sendable, form.the_field_send) depth 60 fits 20000
+
+pub Placed-sync : IsSync placed.the_field.row
+Placed-sync = search (sendable, form.the_field_sync) depth 60 fits 20000
+
 pub Chunks-send : IsSend chunks.the_field.row
-Chunks-send = search (sendable, heap.Vec-send) depth 60 fits 20000
+Chunks-send = search (sendable, heap.Vec-send, Placed-send) depth 60 fits 20000
 
 pub Chunks-sync : IsSync chunks.the_field.row
-Chunks-sync = search (sendable, heap.Vec-sync) depth 60 fits 20000
+Chunks-sync = search (sendable, heap.Vec-sync, Placed-sync) depth 60 fits 20000
 
 pub IndexSeries-send : IsSend series.the_field.row
 IndexSeries-send = search sendable depth 60 fits 20000
@@ -90,10 +98,10 @@ Index-sync =
     depth 60 fits 20000
 
 pub Files-send : IsSend files.the_field.row
-Files-send = search (sendable, Index-send, Chunks-send) depth 60 fits 20000
+Files-send = search (sendable, heap.Vec-send, Index-send, Chunks-send) depth 60 fits 20000
 
 pub Files-sync : IsSync files.the_field.row
-Files-sync = search (sendable, Index-sync, Chunks-sync) depth 60 fits 20000
+Files-sync = search (sendable, heap.Vec-sync, Index-sync, Chunks-sync) depth 60 fits 20000
 
 pub Block-send : IsSend block.the_field.row
 Block-send =

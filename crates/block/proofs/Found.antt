@@ -22,7 +22,7 @@ use Rattle.tombstones.proofs.Whole.{tombstones_take}
 use Rattle.block.specs.declared.error.BlockError.TheVariants.{UnknownSeries}
 use Rattle.block.specs.Samples.{chunk_samples, samples_in}
 use Rattle.block.specs.Blocks.{part_of_series}
-use Rattle.block.specs.Sound.{lies_in, IsHeldChunk}
+use Rattle.block.specs.Sound.{lies_in, IsReadChunk}
 use Rattle.block.specs.Opening.{or_tombstones, have_few, is_few, is_known, is_inside, deleted_of}
 use Rattle.block.specs.Grammar.{AreSpelled, AreRowsOfSeries, IsBlock}
 use Rattle.block.proofs.Checks.{all_pass, weaken, known_in}
@@ -32,16 +32,16 @@ use Rattle.block.proofs.Stages.{test_ok, tombstones_ok}
 
 -- chunks
 
-pub are_spelled : (file : List ℕ) (cs : List Chunk) → AllByRecursion (IsHeldChunk file) cs
-    → AreSpelled file cs (samples_in file cs)
+pub are_spelled : (file : List ℕ) (cs : List Chunk) → AllByRecursion (IsReadChunk file) cs
+    → AreSpelled file cs (samples_in (chunk_samples file) cs)
 are_spelled file [] held = refl
 are_spelled file (c ∷ cs) held =
-    (chunk_samples file c, samples_in file cs, refl, held.0.stands, are_spelled file cs held.1)
+    (chunk_samples file c, samples_in (chunk_samples file) cs, refl, held.0.stands, are_spelled file cs held.1)
 
 -- the chunks of all series are held, and each has few samples
 pub record AreHeld (file : List ℕ) (ss : List Series) : Type 0 where
-  pub held : AllByRecursion (λ (s : Series). AllByRecursion (IsHeldChunk file) s.chunks) ss
-  pub few : AllByRecursion (λ (s : Series). length (samples_in file s.chunks) ≤ 1048576) ss
+  pub held : AllByRecursion (λ (s : Series). AllByRecursion (IsReadChunk file) s.chunks) ss
+  pub few : AllByRecursion (λ (s : Series). length (samples_in (chunk_samples file) s.chunks) ≤ 1048576) ss
 
 -- deletions
 
@@ -83,17 +83,17 @@ inside_each range ss h =
 -- the rows
 
 pub are_rows : (range : ℤ × ℤ) (file : List ℕ) (deletions : List Deletion) (ss : List Series)
-    → AllByRecursion (λ (s : Series). AllByRecursion (IsHeldChunk file) s.chunks) ss
-    → AllByRecursion (λ (s : Series). length (samples_in file s.chunks) ≤ 1048576) ss
+    → AllByRecursion (λ (s : Series). AllByRecursion (IsReadChunk file) s.chunks) ss
+    → AllByRecursion (λ (s : Series). length (samples_in (chunk_samples file) s.chunks) ≤ 1048576) ss
     → AllByRecursion
     (λ (s : Series). AllByRecursion (λ (c : Chunk). lies_in range c ≡ true) s.chunks) ss
-    → AreRowsOfSeries range file deletions ss (part_of_series file deletions ss)
+    → AreRowsOfSeries range file deletions ss (part_of_series (chunk_samples file) deletions ss)
 are_rows range file deletions [] held few inside = tt
 are_rows range file deletions (s ∷ ss) held few inside = (
   record {
     reference = refl;
     labels = refl;
-    samples = samples_in file s.chunks;
+    samples = samples_in (chunk_samples file) s.chunks;
     spelled = are_spelled file s.chunks held.0;
     few = few.0;
     inside = inside.0;
@@ -119,17 +119,17 @@ opened_same file x h =
 pub block_spelled : (range : ℤ × ℤ) (index chunks tombstones : List ℕ) (x : Indexed) (file : List ℕ)
     (deletions sorted : List Deletion) → IsBytes tombstones → IsIndex index x
     → opened chunks ≡ Ok file → IsSegment file
-    → AllByRecursion (AllByRecursion (IsHeldChunk file)) (chunk_lists x.series)
+    → AllByRecursion (AllByRecursion (IsReadChunk file)) (chunk_lists x.series)
     → list_all (have_few file) (chunk_lists x.series) ≡ true
     → deleted_of tombstones x.series ≡ Ok deletions → IsPermutation deletions sorted
     → list_all (list_all (lies_in range)) (chunk_lists x.series) ≡ true
-    → IsBlock range index chunks tombstones (part_of_series file sorted x.series)
+    → IsBlock range index chunks tombstones (part_of_series (chunk_samples file) sorted x.series)
 block_spelled range index chunks tombstones x file deletions sorted tombstones_fit indexed read
     segment held few deleted order inside =
     let known = deleted_known tombstones x.series deletions tombstones_fit deleted in
     let few_each : AllByRecursion (λ (s : Series). is_few file s ≡ true) x.series =
     all_pass (is_few file) x.series (all_lists (have_few file) x.series ∙ few) in
-    let whole : IsBlock range index file tombstones (part_of_series file deletions x.series) = record {
+    let whole : IsBlock range index file tombstones (part_of_series (chunk_samples file) deletions x.series) = record {
       x = x;
       indexed = indexed;
       segment = segment;
@@ -138,12 +138,12 @@ block_spelled range index chunks tombstones x file deletions sorted tombstones_f
       known = known.known;
       rows =
           are_rows range file deletions x.series
-          (facts_of_lists (AllByRecursion (IsHeldChunk file)) x.series held)
-          (weaken (λ s. is_few file s ≡ true) (λ s. length (samples_in file s.chunks) ≤ 1048576)
-          (λ s e. leb-true (length (samples_in file s.chunks)) 1048576 e) x.series few_each)
+          (facts_of_lists (AllByRecursion (IsReadChunk file)) x.series held)
+          (weaken (λ s. is_few file s ≡ true) (λ s. length (samples_in (chunk_samples file) s.chunks) ≤ 1048576)
+          (λ s e. leb-true (length (samples_in (chunk_samples file) s.chunks)) 1048576 e) x.series few_each)
           (inside_each range x.series (all_lists (list_all (lies_in range)) x.series ∙ inside));
     } in
-    subst (λ (c : List ℕ). IsBlock range index c tombstones (part_of_series file sorted x.series))
+    subst (λ (c : List ℕ). IsBlock range index c tombstones (part_of_series (chunk_samples file) sorted x.series))
     (opened_same chunks file read)
     (subst (IsBlock range index file tombstones)
-    (part_any_order file deletions sorted order x.series) whole)
+    (part_any_order (chunk_samples file) deletions sorted order x.series) whole)

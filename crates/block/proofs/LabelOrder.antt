@@ -1,5 +1,5 @@
 -- The series of a block stand in the order of their label sets.
-use Rattle.std.proofs.Common.{◌≡◌, ℕ, ◌+◌, ◌<◌, List, [], length, get_or, ap, sym, ◌∙◌, arith}
+use Rattle.std.proofs.Common.{◌≡◌, ◌+◌, ◌<◌, List, [], length, get_or, ap, sym, ◌∙◌, arith}
 use Rattle.std.specs.Ordering.{is_lt}
 use Rattle.std.specs.declared.cmp.Ordering.TheVariants.{Less}
 use Rattle.std.proofs.lemmas.List.{get_or-map, length-map}
@@ -10,12 +10,13 @@ use Rattle.labels.specs.Rows.{row_before}
 use Rattle.labels.proofs.NamedPairs.{IsSortedBy-map}
 use Rattle.index_reader.specs.Indexes.{Series, Indexed, IsConsistent, label_sets}
 use Rattle.tombstones.specs.declared.deletion.Deletion.{Deletion}
+use Rattle.block.specs.Samples.{Source}
 use Rattle.block.specs.Blocks.{AreInLabelOrder, part_of_series, series_row}
 
-pub in_label_order : (file : List ℕ) (deletions : List Deletion) (x : Indexed) → IsConsistent x
-    → AreInLabelOrder (part_of_series file deletions x.series)
-in_label_order file deletions x c =
-    IsSortedBy-map (series_row file deletions) (λ a b. row_before a.1 b.1) x.series
+pub in_label_order : (source : Source) (deletions : List Deletion) (x : Indexed) → IsConsistent x
+    → AreInLabelOrder (part_of_series source deletions x.series)
+in_label_order source deletions x c =
+    IsSortedBy-map (series_row source deletions) (λ a b. row_before a.1 b.1) x.series
     (λ k d low lt.
     let size : length (label_sets x.series) ≡ length x.series =
     length-map x.series (λ (s : Series). s.labels) in

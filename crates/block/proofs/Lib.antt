@@ -15,6 +15,8 @@ pub mod Turns
 pub mod Whole
 pub mod Places
 pub mod Passing
+pub mod Packs
+pub mod Sourcing
 pub mod Wanting
 pub mod WholeChunks
 pub mod LabelOrder

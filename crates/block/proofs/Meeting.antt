@@ -11,7 +11,7 @@ use Rattle.std.proofs.lemmas.List.Elements.{filter-append}
 use Rattle.labels.proofs.Lists.{filter-filter}
 use Rattle.index_reader.specs.declared.chunk.Chunk.{Chunk}
 use Rattle.tombstones.specs.declared.deletion.Deletion.{Deletion}
-use Rattle.block.specs.Samples.{chunk_samples, samples_in}
+use Rattle.block.specs.Samples.{Source, samples_in}
 use Rattle.block.specs.Sound.{IsHeldChunk, AreBehind, AreInTurn}
 use Rattle.block.specs.Wanted.{AreHeldChunks, meets}
 use Rattle.block.proofs.Passing.{kept_nothing}
@@ -150,31 +150,31 @@ met_is from to cs i j le le' begins ends =
 
 -- what a chunk that does not meet the range has is not asked for
 
-module _ (deletions : List Deletion) (reference : ℕ) (from to : ℤ) (file : List ℕ) where
+module _ (deletions : List Deletion) (reference : ℕ) (from to : ℤ) (source : Source) where
   abbrev asked : ℤ × ℤ → Bool
   asked s = is_asked deletions reference from to s
 
-  kept_met : (cs : List Chunk) → AreHeldChunks file cs
-      → filter asked (samples_in file (filter (meets from to) cs))
-      ≡ filter asked (samples_in file cs)
+  kept_met : (cs : List Chunk) → AreHeldChunks source cs
+      → filter asked (samples_in source (filter (meets from to) cs))
+      ≡ filter asked (samples_in source cs)
   kept_met [] held = refl
   kept_met (c ∷ cs) held = go (meets from to c) refl (kept_met cs held.1)
     where
       go : (b : Bool) → meets from to c ≡ b
-          → filter asked (samples_in file (filter (meets from to) cs))
-          ≡ filter asked (samples_in file cs)
+          → filter asked (samples_in source (filter (meets from to) cs))
+          ≡ filter asked (samples_in source cs)
           → filter asked
-          (samples_in file (cond b (c ∷ filter (meets from to) cs) (filter (meets from to) cs)))
-          ≡ filter asked (chunk_samples file c ++ samples_in file cs)
+          (samples_in source (cond b (c ∷ filter (meets from to) cs) (filter (meets from to) cs)))
+          ≡ filter asked (source c ++ samples_in source cs)
       go true e ih =
-          filter-append asked (chunk_samples file c) (samples_in file (filter (meets from to) cs))
-          ∙ ap (λ (ss : List (ℤ × ℤ)). filter asked (chunk_samples file c) ++ ss) ih
-          ∙ sym (filter-append asked (chunk_samples file c) (samples_in file cs))
+          filter-append asked (source c) (samples_in source (filter (meets from to) cs))
+          ∙ ap (λ (ss : List (ℤ × ℤ)). filter asked (source c) ++ ss) ih
+          ∙ sym (filter-append asked (source c) (samples_in source cs))
       go false e ih =
           ih
-          ∙ ap (λ (ss : List (ℤ × ℤ)). ss ++ filter asked (samples_in file cs)) (sym (kept_nothing
-          asked (chunk_samples file c) (unmet deletions reference from to file c held.0 e)))
-          ∙ sym (filter-append asked (chunk_samples file c) (samples_in file cs))
+          ∙ ap (λ (ss : List (ℤ × ℤ)). ss ++ filter asked (samples_in source cs)) (sym (kept_nothing
+          asked (source c) (unmet deletions reference from to source c held.0 e)))
+          ∙ sym (filter-append asked (source c) (samples_in source cs))
 
 abbrev has_some : {X : Type 0} → List X → Bool
 has_some [] = false
@@ -189,22 +189,22 @@ any_some {X} p (x ∷ xs) = go (p x) (any_some p xs)
     go true ih = refl
     go false ih = ih
 
-pub held_met : (from to : ℤ) (file : List ℕ) (cs met : List Chunk) → met ≡ filter (meets from to) cs
-    → AreHeldChunks file cs → AreHeldChunks file met
-held_met from to file cs met e held =
-    subst (AreHeldChunks file) (sym e) (all_filter (IsHeldChunk file) (meets from to) cs held)
+pub held_met : (from to : ℤ) (source : Source) (cs met : List Chunk) → met ≡ filter (meets from to) cs
+    → AreHeldChunks source cs → AreHeldChunks source met
+held_met from to source cs met e held =
+    subst (AreHeldChunks source) (sym e) (all_filter (IsHeldChunk source) (meets from to) cs held)
 
-module _ (deletions : List Deletion) (reference : ℕ) (from to : ℤ) (file : List ℕ)
-    (cs met : List Chunk) (e : met ≡ filter (meets from to) cs) (held : AreHeldChunks file cs) where
-  pub kept_in_met : filter (is_asked deletions reference from to) (samples_in file met)
-      ≡ filter (is_asked deletions reference from to) (samples_in file cs)
+module _ (deletions : List Deletion) (reference : ℕ) (from to : ℤ) (source : Source)
+    (cs met : List Chunk) (e : met ≡ filter (meets from to) cs) (held : AreHeldChunks source cs) where
+  pub kept_in_met : filter (is_asked deletions reference from to) (samples_in source met)
+      ≡ filter (is_asked deletions reference from to) (samples_in source cs)
   kept_in_met =
-      ap (λ (xs : List Chunk). filter (is_asked deletions reference from to) (samples_in file xs)) e
-      ∙ kept_met deletions reference from to file cs held
+      ap (λ (xs : List Chunk). filter (is_asked deletions reference from to) (samples_in source xs)) e
+      ∙ kept_met deletions reference from to source cs held
 
-  pub any_in_met : list_any (is_asked deletions reference from to) (samples_in file met)
-      ≡ list_any (is_asked deletions reference from to) (samples_in file cs)
+  pub any_in_met : list_any (is_asked deletions reference from to) (samples_in source met)
+      ≡ list_any (is_asked deletions reference from to) (samples_in source cs)
   any_in_met =
-      any_some (is_asked deletions reference from to) (samples_in file met)
+      any_some (is_asked deletions reference from to) (samples_in source met)
       ∙ ap has_some kept_in_met
-      ∙ sym (any_some (is_asked deletions reference from to) (samples_in file cs))
+      ∙ sym (any_some (is_asked deletions reference from to) (samples_in source cs))

@@ -20,7 +20,7 @@ use Rattle.tombstones.specs.Reading.{deletions_of}
 use Rattle.tombstones.proofs.Whole.{tombstones_again}
 use Rattle.block.specs.Samples.{or_none, chunk_read, chunk_samples, samples_in, undeleted}
 use Rattle.block.specs.Blocks.{Shown, series_row, part_of_series, shown_of}
-use Rattle.block.specs.Sound.{lies_in, IsHeldChunk}
+use Rattle.block.specs.Sound.{lies_in, IsReadChunk}
 use Rattle.block.specs.Opening.{each, chunk_check, series_check, is_few, is_known, is_inside}
 use Rattle.block.specs.Opening.{stored_of, deleted_of, block_of}
 use Rattle.block.specs.Grammar.{AreSpelled, AreRowsOfSeries, IsBlock}
@@ -31,7 +31,7 @@ use Rattle.block.proofs.Found.{AreHeld, AreKnown}
 
 pub spelled_held : (file : List ℕ) (c : Chunk) (samples : List (ℤ × ℤ))
     → IsChunk file c.reference c.mint c.maxt samples
-    → (samples ≡ chunk_samples file c) × IsHeldChunk file c
+    → (samples ≡ chunk_samples file c) × IsReadChunk file c
 spelled_held file c samples x =
     let read : chunk_read file c ≡ value samples =
     chunk_again file c.reference c.mint c.maxt samples x in
@@ -44,7 +44,7 @@ spelled_held file c samples x =
     )
 
 pub spelled_in : (file : List ℕ) (cs : List Chunk) (samples : List (ℤ × ℤ))
-    → AreSpelled file cs samples → (samples ≡ samples_in file cs) × AllByRecursion (IsHeldChunk file) cs
+    → AreSpelled file cs samples → (samples ≡ samples_in (chunk_samples file) cs) × AllByRecursion (IsReadChunk file) cs
 spelled_in file [] samples a = (a, tt)
 spelled_in file (c ∷ cs) samples a =
     let one = spelled_held file c a.0 a.3 in
@@ -55,25 +55,25 @@ spelled_in file (c ∷ cs) samples a =
       (one.1, others.1),
     )
 
-pub held_checked : (file : List ℕ) (c : Chunk) → IsHeldChunk file c → chunk_check file c ≡ Ok tt
+pub held_checked : (file : List ℕ) (c : Chunk) → IsReadChunk file c → chunk_check file c ≡ Ok tt
 held_checked file c h = rw (h.reads) refl
 
-pub held_passes : (file : List ℕ) (s : Series) → AllByRecursion (IsHeldChunk file) s.chunks
+pub held_passes : (file : List ℕ) (s : Series) → AllByRecursion (IsReadChunk file) s.chunks
     → series_check file s ≡ Ok tt
 held_passes file s h =
-    pass_each (chunk_check file) s.chunks (weaken (IsHeldChunk file) (λ c. chunk_check file c ≡ Ok tt)
+    pass_each (chunk_check file) s.chunks (weaken (IsReadChunk file) (λ c. chunk_check file c ≡ Ok tt)
     (λ c e. held_checked file c e) s.chunks h)
 
 pub held_stored : (file : List ℕ) (ss : List Series) → AreHeld file ss → stored_of file ss ≡ Ok tt
 unfolding stored_of
 held_stored file ss h =
     let read : each (series_check file) ss ≡ Ok tt =
-    pass_each (series_check file) ss (weaken (λ s. AllByRecursion (IsHeldChunk file) s.chunks)
+    pass_each (series_check file) ss (weaken (λ s. AllByRecursion (IsReadChunk file) s.chunks)
     (λ s. series_check file s ≡ Ok tt) (λ s e. held_passes file s e) ss h.held) in
     let few : list_all (is_few file) ss ≡ true =
     pass_all (is_few file) ss
-    (weaken (λ s. length (samples_in file s.chunks) ≤ 1048576) (λ s. is_few file s ≡ true)
-    (λ s e. le-leb (length (samples_in file s.chunks)) 1048576 e) ss h.few) in
+    (weaken (λ s. length (samples_in (chunk_samples file) s.chunks) ≤ 1048576) (λ s. is_few file s ≡ true)
+    (λ s e. le-leb (length (samples_in (chunk_samples file) s.chunks)) 1048576 e) ss h.few) in
     rw (read, few) refl
 
 -- deletions
@@ -112,12 +112,12 @@ pub record AreRead (range : ℤ × ℤ) (file : List ℕ) (deletions : List Dele
   pub stored : AreHeld file ss
   pub inside : AllByRecursion
       (λ (s : Series). AllByRecursion (λ (c : Chunk). lies_in range c ≡ true) s.chunks) ss
-  pub same : part ≡ part_of_series file deletions ss
+  pub same : part ≡ part_of_series (chunk_samples file) deletions ss
 
 row_same : (file : List ℕ) (deletions : List Deletion) (s : Series) (row : ℕ × Row)
     (samples : List (ℤ × ℤ)) → row.0 ≡ s.reference → row.1.0 ≡ s.labels
-    → row.1.1 ≡ undeleted deletions s.reference samples → samples ≡ samples_in file s.chunks
-    → row ≡ series_row file deletions s
+    → row.1.1 ≡ undeleted deletions s.reference samples → samples ≡ samples_in (chunk_samples file) s.chunks
+    → row ≡ series_row (chunk_samples file) deletions s
 row_same file deletions s row samples reference labels kept same =
     ap (λ (r : ℕ). (r, (row.1.0, row.1.1))) reference
     ∙ ap (λ (l : List (List ℕ × List ℕ)). (s.reference, (l, row.1.1))) labels
@@ -134,7 +134,7 @@ rows_read range file deletions (s ∷ ss) (row ∷ rows) a =
     let r = a.0 in
     let samples = spelled_in file s.chunks r.samples r.spelled in
     let others = rows_read range file deletions ss rows a.1 in
-    let same : row ≡ series_row file deletions s =
+    let same : row ≡ series_row (chunk_samples file) deletions s =
     row_same file deletions s row r.samples r.reference r.labels r.kept samples.0 in
     record {
       stored = record {
@@ -144,7 +144,7 @@ rows_read range file deletions (s ∷ ss) (row ∷ rows) a =
       inside = (r.inside, others.inside);
       same =
           ap (λ (first : ℕ × Row). first ∷ rows) same
-          ∙ ap (λ (rest : Part). series_row file deletions s ∷ rest) others.same;
+          ∙ ap (λ (rest : Part). series_row (chunk_samples file) deletions s ∷ rest) others.same;
     }
 
 -- the whole
@@ -162,7 +162,7 @@ block_again range index chunks tombstones part index_fits tombstones_fit b =
     let deleted : deleted_of tombstones x.series ≡ Ok b.deletions =
     known_deleted tombstones x.series b.deletions tombstones_fit
     (record { deleted = b.deleted; known = b.known }) in (
-      shown_of range chunks x b.deletions,
+      shown_of range (chunk_samples chunks) x b.deletions,
       rw (read, head, stored, deleted, inside_passes range x.series rows.inside) refl,
       sym rows.same,
     )

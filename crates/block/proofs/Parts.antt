@@ -17,12 +17,12 @@ use Rattle.labels.specs.Rows.{Row}
 use Rattle.labels.specs.Parts.{references, AreDistinct, IsPart}
 use Rattle.labels.proofs.Lists.{Contains-cases, none_in_nil}
 use Rattle.index_reader.specs.declared.chunk.Chunk.{Chunk}
-use Rattle.index_reader.specs.Indexes.{Series, Indexed, label_sets, IsConsistent}
+use Rattle.index_reader.specs.Indexes.{Series, Indexed, label_sets}
 use Rattle.index_reader.specs.Indexes as indexes
 use Rattle.tombstones.specs.declared.deletion.Deletion.{Deletion}
 use Rattle.tombstones.specs.Covering.{covered}
 use Rattle.block.specs.Ranges.{covers}
-use Rattle.block.specs.Samples.{chunk_samples, samples_in, undeleted}
+use Rattle.block.specs.Samples.{Source, samples_in, undeleted}
 use Rattle.block.specs.Blocks.{series_row, part_of_series, AreInside}
 use Rattle.block.specs.Sound.{lies_in, IsHeldChunk, IsStored, IsSoundBlock}
 use Rattle.block.proofs.Turns.{weaker, all_append, all_filter, is_below, is_upto, below, upto}
@@ -30,11 +30,11 @@ use Rattle.block.proofs.Turns.{span_of, sorted_in}
 
 -- references
 
-pub references_same : (file : List ℕ) (deletions : List Deletion) (ss : List Series)
-    → references (part_of_series file deletions ss) ≡ indexes.references ss
-references_same file deletions [] = refl
-references_same file deletions (s ∷ ss) =
-    ap (λ (xs : List ℕ). s.reference ∷ xs) (references_same file deletions ss)
+pub references_same : (source : Source) (deletions : List Deletion) (ss : List Series)
+    → references (part_of_series source deletions ss) ≡ indexes.references ss
+references_same source deletions [] = refl
+references_same source deletions (s ∷ ss) =
+    ap (λ (xs : List ℕ). s.reference ∷ xs) (references_same source deletions ss)
 
 small_at : (ss : List Series) (r : ℕ)
     → ((k : ℕ) → k < length ss → get_or (indexes.references ss) k 0 < 4294967296)
@@ -68,48 +68,48 @@ less_each x (y ∷ ys) h =
           (λ z p. labels_total.trans x y z e p) ys (less_each y ys (tail_ordered x (y ∷ ys) h)),
     )
 
-apart_from : (l : Labels) (file : List ℕ) (deletions : List Deletion) (ss : List Series)
+apart_from : (l : Labels) (source : Source) (deletions : List Deletion) (ss : List Series)
     (other : ℕ × Row) → AllByRecursion (λ (y : Labels). labels_cmp l y ≡ Less) (label_sets ss)
-    → Contains (part_of_series file deletions ss) other
+    → Contains (part_of_series source deletions ss) other
     → same_labels l other.1.0 ≡ false
-apart_from l file deletions [] other less held = absurd (none_in_nil other held)
-apart_from l file deletions (s ∷ ss) other less held =
-    elim (Contains-cases (series_row file deletions s) (part_of_series file deletions ss) other held) [
+apart_from l source deletions [] other less held = absurd (none_in_nil other held)
+apart_from l source deletions (s ∷ ss) other less held =
+    elim (Contains-cases (series_row source deletions s) (part_of_series source deletions ss) other held) [
       | inl e ↦ subst (λ (row : ℕ × Row). same_labels l row.1.0 ≡ false) e (ap is_eq less.0)
-      | inr rest ↦ apart_from l file deletions ss other less.1 rest
+      | inr rest ↦ apart_from l source deletions ss other less.1 rest
     ]
 
-distinct_in : (file : List ℕ) (deletions : List Deletion) (ss : List Series)
+distinct_in : (source : Source) (deletions : List Deletion) (ss : List Series)
     → ((k : ℕ) → k + 1 < length (label_sets ss)
     → labels_cmp (get_or (label_sets ss) k []) (get_or (label_sets ss) (k + 1) []) ≡ Less)
-    → AreDistinct (part_of_series file deletions ss)
-distinct_in file deletions [] h = tt
-distinct_in file deletions (s ∷ ss) h = (
+    → AreDistinct (part_of_series source deletions ss)
+distinct_in source deletions [] h = tt
+distinct_in source deletions (s ∷ ss) h = (
   λ other held.
-      apart_from s.labels file deletions ss other (less_each s.labels (label_sets ss) h) held,
-  distinct_in file deletions ss (tail_ordered s.labels (label_sets ss) h),
+      apart_from s.labels source deletions ss other (less_each s.labels (label_sets ss) h) held,
+  distinct_in source deletions ss (tail_ordered s.labels (label_sets ss) h),
 )
 
 -- times
 
-pub sorted_row : (range : ℤ × ℤ) (file : List ℕ) (deletions : List Deletion) (s : Series)
-    → IsStored range file s
-    → T (is_sorted int_cmp (undeleted deletions s.reference (samples_in file s.chunks)))
-sorted_row range file deletions s x =
+pub sorted_row : (range : ℤ × ℤ) (source : Source) (deletions : List Deletion) (s : Series)
+    → IsStored range source s
+    → T (is_sorted int_cmp (undeleted deletions s.reference (samples_in source s.chunks)))
+sorted_row range source deletions s x =
     is_sorted-where_key int_cmp (λ (t : ℤ). not (covered deletions s.reference t))
-    (samples_in file s.chunks) (sorted_in file s.chunks x.in_turn x.held)
+    (samples_in source s.chunks) (sorted_in source s.chunks x.in_turn x.held)
 
-sorted_rows : (range : ℤ × ℤ) (file : List ℕ) (deletions : List Deletion) (ss : List Series)
-    → AllByRecursion (IsStored range file) ss
-    → AllByRecursion (λ (row : ℕ × Row). T (is_sorted int_cmp row.1.1)) (part_of_series file deletions ss)
-sorted_rows range file deletions [] a = tt
-sorted_rows range file deletions (s ∷ ss) a =
-    (sorted_row range file deletions s a.0, sorted_rows range file deletions ss a.1)
+sorted_rows : (range : ℤ × ℤ) (source : Source) (deletions : List Deletion) (ss : List Series)
+    → AllByRecursion (IsStored range source) ss
+    → AllByRecursion (λ (row : ℕ × Row). T (is_sorted int_cmp row.1.1)) (part_of_series source deletions ss)
+sorted_rows range source deletions [] a = tt
+sorted_rows range source deletions (s ∷ ss) a =
+    (sorted_row range source deletions s a.0, sorted_rows range source deletions ss a.1)
 
-pub is_part : (range : ℤ × ℤ) (file : List ℕ) (x : Indexed) (deletions : List Deletion)
-    → IsSoundBlock range file x → IsPart (part_of_series file deletions x.series)
-is_part range file x deletions sound =
-    let same = references_same file deletions x.series in
+pub is_part : (range : ℤ × ℤ) (source : Source) (x : Indexed) (deletions : List Deletion)
+    → IsSoundBlock range source x → IsPart (part_of_series source deletions x.series)
+is_part range source x deletions sound =
+    let same = references_same source deletions x.series in
     let size : length (label_sets x.series) ≡ length x.series =
     length-map x.series (λ (s : Series). s.labels) in
     record {
@@ -118,13 +118,13 @@ is_part range file x deletions sound =
           λ r held. small_at x.series r sound.consistent.small
           (subst (λ (xs : List ℕ). Contains xs r) same held);
       distinct =
-          distinct_in file deletions x.series (λ k lt.
+          distinct_in source deletions x.series (λ k lt.
           sound.consistent.in_order k (omega (arith, size, lt)));
       times =
           λ row held. All-contains (λ (r : ℕ × Row). T (is_sorted int_cmp r.1.1))
-          (part_of_series file deletions x.series) row
-          (All-from_recursion (λ (r : ℕ × Row). T (is_sorted int_cmp r.1.1)) (part_of_series file deletions
-          x.series) (sorted_rows range file deletions x.series sound.stored)) held;
+          (part_of_series source deletions x.series) row
+          (All-from_recursion (λ (r : ℕ × Row). T (is_sorted int_cmp r.1.1)) (part_of_series source deletions
+          x.series) (sorted_rows range source deletions x.series sound.stored)) held;
     }
 
 -- the range
@@ -152,33 +152,33 @@ covered_all range mint maxt (s ∷ ss) le lt a b =
       covered_all range mint maxt ss le lt a.1 b.1,
     )
 
-pub chunk_inside : (range : ℤ × ℤ) (file : List ℕ) (c : Chunk) → IsHeldChunk file c
+pub chunk_inside : (range : ℤ × ℤ) (source : Source) (c : Chunk) → IsHeldChunk source c
     → lies_in range c ≡ true
-    → AllByRecursion (λ (s : ℤ × ℤ). covers range s.0 ≡ true) (chunk_samples file c)
-chunk_inside range file c held inside =
-    let span = span_of file c.reference c.mint c.maxt (chunk_samples file c) held.stands in
+    → AllByRecursion (λ (s : ℤ × ℤ). covers range s.0 ≡ true) (source c)
+chunk_inside range source c held inside =
+    let span = span_of source c held in
     let ends = and_true (int_le range.0 c.mint) (int_lt c.maxt range.1) inside in
-    covered_all range c.mint c.maxt (chunk_samples file c) (upto range.0 c.mint ends.0)
+    covered_all range c.mint c.maxt (source c) (upto range.0 c.mint ends.0)
     (below c.maxt range.1 ends.1) span.begin span.end
 
-pub chunks_inside : (range : ℤ × ℤ) (file : List ℕ) (cs : List Chunk)
-    → AllByRecursion (IsHeldChunk file) cs → AllByRecursion (λ (c : Chunk). lies_in range c ≡ true) cs
-    → AllByRecursion (λ (s : ℤ × ℤ). covers range s.0 ≡ true) (samples_in file cs)
-chunks_inside range file [] held inside = tt
-chunks_inside range file (c ∷ cs) held inside =
-    all_append (λ (s : ℤ × ℤ). covers range s.0 ≡ true) (chunk_samples file c) (samples_in file cs)
-    (chunk_inside range file c held.0 inside.0) (chunks_inside range file cs held.1 inside.1)
+pub chunks_inside : (range : ℤ × ℤ) (source : Source) (cs : List Chunk)
+    → AllByRecursion (IsHeldChunk source) cs → AllByRecursion (λ (c : Chunk). lies_in range c ≡ true) cs
+    → AllByRecursion (λ (s : ℤ × ℤ). covers range s.0 ≡ true) (samples_in source cs)
+chunks_inside range source [] held inside = tt
+chunks_inside range source (c ∷ cs) held inside =
+    all_append (λ (s : ℤ × ℤ). covers range s.0 ≡ true) (source c) (samples_in source cs)
+    (chunk_inside range source c held.0 inside.0) (chunks_inside range source cs held.1 inside.1)
 
-inside_each : (range : ℤ × ℤ) (file : List ℕ) (deletions : List Deletion) (ss : List Series)
-    → AllByRecursion (IsStored range file) ss → AreInside range (part_of_series file deletions ss)
-inside_each range file deletions [] a = tt
-inside_each range file deletions (s ∷ ss) a = (
+inside_each : (range : ℤ × ℤ) (source : Source) (deletions : List Deletion) (ss : List Series)
+    → AllByRecursion (IsStored range source) ss → AreInside range (part_of_series source deletions ss)
+inside_each range source deletions [] a = tt
+inside_each range source deletions (s ∷ ss) a = (
   all_filter (λ (e : ℤ × ℤ). covers range e.0 ≡ true)
-      (λ (e : ℤ × ℤ). not (covered deletions s.reference e.0)) (samples_in file s.chunks)
-      (chunks_inside range file s.chunks a.0.held a.0.inside),
-  inside_each range file deletions ss a.1,
+      (λ (e : ℤ × ℤ). not (covered deletions s.reference e.0)) (samples_in source s.chunks)
+      (chunks_inside range source s.chunks a.0.held a.0.inside),
+  inside_each range source deletions ss a.1,
 )
 
-pub is_inside : (range : ℤ × ℤ) (file : List ℕ) (x : Indexed) (deletions : List Deletion)
-    → IsSoundBlock range file x → AreInside range (part_of_series file deletions x.series)
-is_inside range file x deletions sound = inside_each range file deletions x.series sound.stored
+pub is_inside : (range : ℤ × ℤ) (source : Source) (x : Indexed) (deletions : List Deletion)
+    → IsSoundBlock range source x → AreInside range (part_of_series source deletions x.series)
+is_inside range source x deletions sound = inside_each range source deletions x.series sound.stored

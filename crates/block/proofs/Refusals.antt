@@ -25,6 +25,7 @@ use Rattle.block.specs.declared.error.BlockError.{BlockError}
 use Rattle.block.specs.declared.error.BlockError.TheVariants.{Memory, Index, UnknownSeries}
 use Rattle.block.specs.declared.error.BlockError.TheVariants.{OutsideRange}
 use Rattle.block.specs.Outcome.{Fails, of_index, of_chunk, of_tombstone}
+use Rattle.block.specs.Samples.{chunk_samples}
 use Rattle.block.specs.Blocks.{Shown, shown_of}
 use Rattle.block.specs.Sound.{lies_in}
 use Rattle.block.specs.Opening.{or_index, or_chunks, or_tombstones, each, chunk_check, series_check}
@@ -189,11 +190,11 @@ pub block_opens : (range : ℤ × ℤ) (file chunks tombstones : List ℕ) (x : 
     → stored_of segment x.series ≡ Ok tt
     → deleted_of tombstones x.series ≡ Ok ds → IsPermutation ds held
     → list_all (list_all (lies_in range)) (chunk_lists x.series) ≡ true
-    → block_of range file chunks tombstones ≡ Ok (shown_of range segment x held)
+    → block_of range file chunks tombstones ≡ Ok (shown_of range (chunk_samples segment) x held)
 unfolding block_of
 block_opens range file chunks tombstones x segment ds held one two three four p inside =
     let five : list_all (is_inside range) x.series ≡ true =
     all_lists (list_all (lies_in range)) x.series ∙ inside in
-    let six : shown_of range segment x ds ≡ shown_of range segment x held =
-    shown_any_order range segment x ds held p in
+    let six : shown_of range (chunk_samples segment) x ds ≡ shown_of range (chunk_samples segment) x held =
+    shown_any_order range (chunk_samples segment) x ds held p in
     rw (one, two, three, four, five) (ap (λ (shown : Shown). Ok shown) six)

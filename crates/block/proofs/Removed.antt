@@ -13,7 +13,7 @@ use Rattle.labels.proofs.Times.{T_of}
 use Rattle.index_reader.specs.Indexes.{Series}
 use Rattle.tombstones.specs.declared.deletion.Deletion.{Deletion}
 use Rattle.tombstones.specs.Covering.{are_covered, covered}
-use Rattle.block.specs.Samples.{samples_in, undeleted}
+use Rattle.block.specs.Samples.{Source, samples_in, undeleted}
 use Rattle.block.specs.Blocks.{series_row, part_of_series}
 use Rattle.block.specs.Fewer.{is_among, row_without, part_without}
 use Rattle.block.proofs.Turns.{below, upto, is_upto}
@@ -62,23 +62,23 @@ fewer rs from to ds held h r ss =
     (λ (s : ℤ × ℤ). not (covered ds r s.0)) ss)
 
 -- the part of more deletions is the part without what they delete
-pub part_fewer : (file : List ℕ) (rs : List ℕ) (from to : ℤ) (ds held : List Deletion)
+pub part_fewer : (source : Source) (rs : List ℕ) (from to : ℤ) (ds held : List Deletion)
     (ss : List Series)
     → ((r : ℕ) (t : ℤ) → covered held r t ≡ (are_covered rs from to r t || covered ds r t))
-    → part_of_series file held ss ≡ part_without rs from to (part_of_series file ds ss)
-part_fewer file rs from to ds held [] h = refl
-part_fewer file rs from to ds held (s ∷ ss) h =
-    ap (λ (xs : List (ℤ × ℤ)). (s.reference, (s.labels, xs)) ∷ part_of_series file held ss)
-    (fewer rs from to ds held h s.reference (samples_in file s.chunks))
-    ∙ ap (λ (rows : Part). row_without rs from to (series_row file ds s) ∷ rows)
-    (part_fewer file rs from to ds held ss h)
+    → part_of_series source held ss ≡ part_without rs from to (part_of_series source ds ss)
+part_fewer source rs from to ds held [] h = refl
+part_fewer source rs from to ds held (s ∷ ss) h =
+    ap (λ (xs : List (ℤ × ℤ)). (s.reference, (s.labels, xs)) ∷ part_of_series source held ss)
+    (fewer rs from to ds held h s.reference (samples_in source s.chunks))
+    ∙ ap (λ (rows : Part). row_without rs from to (series_row source ds s) ∷ rows)
+    (part_fewer source rs from to ds held ss h)
 
 -- the same, of times as they were handed over
-pub part_removed : (file : List ℕ) (rs : List ℕ) (a b from to : ℤ) (ds held : List Deletion)
+pub part_removed : (source : Source) (rs : List ℕ) (a b from to : ℤ) (ds held : List Deletion)
     (ss : List Series) → a ≡ from → b ≡ to
     → ((r : ℕ) (t : ℤ) → covered held r t ≡ (are_covered rs a b r t || covered ds r t))
-    → part_of_series file held ss ≡ part_without rs from to (part_of_series file ds ss)
-part_removed file rs a b from to ds held ss one two h =
-    part_fewer file rs from to ds held ss (λ r t. h r t
+    → part_of_series source held ss ≡ part_without rs from to (part_of_series source ds ss)
+part_removed source rs a b from to ds held ss one two h =
+    part_fewer source rs from to ds held ss (λ r t. h r t
     ∙ ap (λ (z : ℤ). are_covered rs z b r t || covered ds r t) one
     ∙ ap (λ (z : ℤ). are_covered rs from z r t || covered ds r t) two)

@@ -13,7 +13,7 @@ use Rattle.wire.specs.Outcome.{◌>>=◌}
 use Rattle.chunk_reader.specs.declared.error.ChunkError.{ChunkError}
 use Rattle.block.specs.Opening.{each, chunk_check, have_few}
 use Rattle.block.specs.Shared.{IsLookedAt, lists_between}
-use Rattle.block.specs.Sound.{IsHeldChunk}
+use Rattle.block.specs.Sound.{IsReadChunk}
 use Rattle.block.proofs.Turns.{all_append}
 
 pub between_length : (series : List Series) (from count : ℕ) → from + count ≤ length series
@@ -110,5 +110,5 @@ looked_both file xs ys a b x y = record {
       ap (λ (t : Bool). t && b) x.few
       ∙ ap (λ (t : Bool). list_all (have_few file) xs && t) y.few
       ∙ sym (list_all_append (have_few file) xs ys);
-  held = all_append (AllByRecursion (IsHeldChunk file)) xs ys x.held y.held;
+  held = all_append (AllByRecursion (IsReadChunk file)) xs ys x.held y.held;
 }

@@ -1,5 +1,5 @@
 -- Samples of chunks that follow one another are in the order of their times.
-use Rattle.std.proofs.Common.{◌≡◌, ℕ, suc, ◌-◌, ◌<◌, Bool, true, false, List, [], ◌∷◌, ◌++◌, length}
+use Rattle.std.proofs.Common.{◌≡◌, suc, ◌-◌, ◌<◌, Bool, true, false, List, [], ◌∷◌, ◌++◌, length}
 use Rattle.std.proofs.Common.{cond, refl, sym, ap, ◌∙◌, arith}
 use Rattle.std.specs.Prelude.{ℤ, int_lt, int_le, T}
 use Rattle.std.specs.Int.Signed.{◌<ℤ◌, ◌≤ℤ◌, lt_z_yes}
@@ -10,9 +10,9 @@ use Rattle.std.specs.Ordering.{int_cmp, is_lt}
 use Rattle.std.specs.FinMap.Entries.{is_sorted, below_all}
 use Rattle.std.proofs.lemmas.Int.{ints}
 use Rattle.labels.proofs.Times.{both_T, first_T, second_T, T_of, less_of, lt_of}
-use Rattle.chunk_reader.specs.Grammar.{time_at, IsChunk}
+use Rattle.chunk_reader.specs.Grammar.{time_at}
 use Rattle.index_reader.specs.declared.chunk.Chunk.{Chunk}
-use Rattle.block.specs.Samples.{chunk_samples, samples_in}
+use Rattle.block.specs.Samples.{Source, samples_in}
 use Rattle.block.specs.Sound.{IsHeldChunk, AreBehind, AreInTurn}
 
 pub weaker : {X : Type 0} (P Q : X → Type 0) → ((x : X) → P x → Q x) → (xs : List X)
@@ -119,42 +119,41 @@ spans mint maxt (s ∷ ss) some sorted first last =
       end = upto_last s ss maxt sorted last;
     }
 
-pub span_of : (file : List ℕ) (reference : ℕ) (mint maxt : ℤ) (ss : List (ℤ × ℤ))
-    → IsChunk file reference mint maxt ss → IsSpan mint maxt ss
-span_of file reference mint maxt ss x =
-    spans mint maxt ss x.batch.some x.batch.ascending x.first x.last
+pub span_of : (source : Source) (c : Chunk) → IsHeldChunk source c → IsSpan c.mint c.maxt (source c)
+span_of source c x =
+    spans c.mint c.maxt (source c) x.batch.some x.batch.ascending x.first x.last
 
 -- chunks behind another
 pub record IsRun (before : ℤ) (ss : List (ℤ × ℤ)) : Type 0 where
   pub sorted : T (is_sorted int_cmp ss)
   pub later : AllByRecursion (λ (s : ℤ × ℤ). before <ℤ s.0) ss
 
-pub run_of : (file : List ℕ) (before : Chunk) (cs : List Chunk) → AreBehind before cs
-    → AllByRecursion (IsHeldChunk file) cs → IsRun before.maxt (samples_in file cs)
-run_of file before [] turn held = record { sorted = tt; later = tt }
-run_of file before (c ∷ cs) turn held =
-    let rest = run_of file c cs turn.2 held.1 in
-    let span = span_of file c.reference c.mint c.maxt (chunk_samples file c) held.0.stands in
+pub run_of : (source : Source) (before : Chunk) (cs : List Chunk) → AreBehind before cs
+    → AllByRecursion (IsHeldChunk source) cs → IsRun before.maxt (samples_in source cs)
+run_of source before [] turn held = record { sorted = tt; later = tt }
+run_of source before (c ∷ cs) turn held =
+    let rest = run_of source c cs turn.2 held.1 in
+    let span = span_of source c held.0 in
     let gap : before.maxt <ℤ c.mint = turn.0 in
     let order : c.mint ≤ℤ c.maxt = turn.1 in
     record {
       sorted =
-          sorted_append c.maxt (chunk_samples file c) (samples_in file cs) span.sorted rest.sorted
+          sorted_append c.maxt (source c) (samples_in source cs) span.sorted rest.sorted
           span.end rest.later;
       later =
-          all_append (λ (s : ℤ × ℤ). before.maxt <ℤ s.0) (chunk_samples file c) (samples_in file cs)
+          all_append (λ (s : ℤ × ℤ). before.maxt <ℤ s.0) (source c) (samples_in source cs)
           (weaker (λ (s : ℤ × ℤ). c.mint ≤ℤ s.0) (λ (s : ℤ × ℤ). before.maxt <ℤ s.0) (λ s h.
-          let le : c.mint ≤ℤ s.0 = h in omega (arith, ints)) (chunk_samples file c) span.begin)
+          let le : c.mint ≤ℤ s.0 = h in omega (arith, ints)) (source c) span.begin)
           (weaker (λ (s : ℤ × ℤ). c.maxt <ℤ s.0) (λ (s : ℤ × ℤ). before.maxt <ℤ s.0) (λ s h.
-          let lt : c.maxt <ℤ s.0 = h in omega (arith, ints)) (samples_in file cs) rest.later);
+          let lt : c.maxt <ℤ s.0 = h in omega (arith, ints)) (samples_in source cs) rest.later);
     }
 
 -- the samples of a series
-pub sorted_in : (file : List ℕ) (cs : List Chunk) → AreInTurn cs → AllByRecursion (IsHeldChunk file) cs
-    → T (is_sorted int_cmp (samples_in file cs))
-sorted_in file [] turn held = tt
-sorted_in file (c ∷ cs) turn held =
-    let rest = run_of file c cs turn.1 held.1 in
-    let span = span_of file c.reference c.mint c.maxt (chunk_samples file c) held.0.stands in
-    sorted_append c.maxt (chunk_samples file c) (samples_in file cs) span.sorted
+pub sorted_in : (source : Source) (cs : List Chunk) → AreInTurn cs → AllByRecursion (IsHeldChunk source) cs
+    → T (is_sorted int_cmp (samples_in source cs))
+sorted_in source [] turn held = tt
+sorted_in source (c ∷ cs) turn held =
+    let rest = run_of source c cs turn.1 held.1 in
+    let span = span_of source c held.0 in
+    sorted_append c.maxt (source c) (samples_in source cs) span.sorted
     rest.sorted span.end rest.later

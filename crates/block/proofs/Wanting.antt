@@ -15,7 +15,7 @@ use Rattle.labels.proofs.Times.{true_not_false}
 use Rattle.index_reader.specs.declared.chunk.Chunk.{Chunk}
 use Rattle.tombstones.specs.declared.deletion.Deletion.{Deletion}
 use Rattle.tombstones.specs.Covering.{covered}
-use Rattle.block.specs.Samples.{chunk_samples, samples_in}
+use Rattle.block.specs.Samples.{Source, samples_in}
 use Rattle.block.specs.Sound.{IsHeldChunk}
 use Rattle.block.specs.Wanted.{AreHeldChunks, is_wanted, meets}
 use Rattle.block.proofs.Passing.{any_passed, any_found, kept_one, kept_none, and_false, or_true}
@@ -106,104 +106,104 @@ module _ (deletions : List Deletion) (reference : ℕ) (from to : ℤ) where
     unmet_each c ss e low.1 high.1,
   )
 
-  pub unmet : (file : List ℕ) (c : Chunk) → IsHeldChunk file c → meets from to c ≡ false
-      → AllByRecursion (λ (s : ℤ × ℤ). is_asked s ≡ false) (chunk_samples file c)
-  unmet file c held e =
-      let span = span_of file c.reference c.mint c.maxt (chunk_samples file c) held.stands in
-      unmet_each c (chunk_samples file c) e span.begin span.end
+  pub unmet : (source : Source) (c : Chunk) → IsHeldChunk source c → meets from to c ≡ false
+      → AllByRecursion (λ (s : ℤ × ℤ). is_asked s ≡ false) (source c)
+  unmet source c held e =
+      let span = span_of source c held in
+      unmet_each c (source c) e span.begin span.end
 
   -- one chunk more is read
-  pub chunk_kept : (file : List ℕ) (chunks : List Chunk) (i : ℕ) (d : Chunk)
+  pub chunk_kept : (source : Source) (chunks : List Chunk) (i : ℕ) (d : Chunk)
       (before after all : List (ℤ × ℤ)) → i < length chunks
-      → after ≡ before ++ filter is_asked (chunk_samples file (get_or chunks i d))
-      → before ++ filter is_asked (samples_in file (drop i chunks)) ≡ all
-      → after ++ filter is_asked (samples_in file (drop (i + 1) chunks)) ≡ all
-  chunk_kept file chunks i d before after all l f h =
-      ap (λ (xs : List (ℤ × ℤ)). xs ++ filter is_asked (samples_in file (drop (i + 1) chunks))) f
-      ∙ append_assoc before (filter is_asked (chunk_samples file (get_or chunks i d)))
-      (filter is_asked (samples_in file (drop (i + 1) chunks)))
+      → after ≡ before ++ filter is_asked (source (get_or chunks i d))
+      → before ++ filter is_asked (samples_in source (drop i chunks)) ≡ all
+      → after ++ filter is_asked (samples_in source (drop (i + 1) chunks)) ≡ all
+  chunk_kept source chunks i d before after all l f h =
+      ap (λ (xs : List (ℤ × ℤ)). xs ++ filter is_asked (samples_in source (drop (i + 1) chunks))) f
+      ∙ append_assoc before (filter is_asked (source (get_or chunks i d)))
+      (filter is_asked (samples_in source (drop (i + 1) chunks)))
       ∙ ap (λ (xs : List (ℤ × ℤ)). before ++ xs)
-      (sym (ap (λ cs. filter is_asked (samples_in file cs)) (drop_more chunks i d l)
-      ∙ filter-append is_asked (chunk_samples file (get_or chunks i d))
-      (samples_in file (drop (i + 1) chunks))))
+      (sym (ap (λ cs. filter is_asked (samples_in source cs)) (drop_more chunks i d l)
+      ∙ filter-append is_asked (source (get_or chunks i d))
+      (samples_in source (drop (i + 1) chunks))))
       ∙ h
 
-  pub chunk_passed : (file : List ℕ) (chunks : List Chunk) (i : ℕ) (d : Chunk) (b : Bool)
+  pub chunk_passed : (source : Source) (chunks : List Chunk) (i : ℕ) (d : Chunk) (b : Bool)
       → i < length chunks
-      → b ≡ list_any is_asked (chunk_samples file (get_or chunks i d)) → b ≡ false
-      → list_any is_asked (samples_in file (drop (i + 1) chunks))
-      ≡ list_any is_asked (samples_in file (drop i chunks))
-  chunk_passed file chunks i d b l is e =
-      sym (ap (λ cs. list_any is_asked (samples_in file cs)) (drop_more chunks i d l)
-      ∙ list_any-append is_asked (chunk_samples file (get_or chunks i d))
-      (samples_in file (drop (i + 1) chunks))
-      ∙ ap (λ v. v || list_any is_asked (samples_in file (drop (i + 1) chunks))) (sym is ∙ e))
+      → b ≡ list_any is_asked (source (get_or chunks i d)) → b ≡ false
+      → list_any is_asked (samples_in source (drop (i + 1) chunks))
+      ≡ list_any is_asked (samples_in source (drop i chunks))
+  chunk_passed source chunks i d b l is e =
+      sym (ap (λ cs. list_any is_asked (samples_in source cs)) (drop_more chunks i d l)
+      ∙ list_any-append is_asked (source (get_or chunks i d))
+      (samples_in source (drop (i + 1) chunks))
+      ∙ ap (λ v. v || list_any is_asked (samples_in source (drop (i + 1) chunks))) (sym is ∙ e))
 
-  pub chunk_found : (file : List ℕ) (chunks : List Chunk) (i : ℕ) (d : Chunk) (b : Bool)
+  pub chunk_found : (source : Source) (chunks : List Chunk) (i : ℕ) (d : Chunk) (b : Bool)
       → i < length chunks
-      → b ≡ list_any is_asked (chunk_samples file (get_or chunks i d)) → b ≡ true
-      → list_any is_asked (samples_in file (drop i chunks)) ≡ true
-  chunk_found file chunks i d b l is e =
-      ap (λ cs. list_any is_asked (samples_in file cs)) (drop_more chunks i d l)
-      ∙ list_any-append is_asked (chunk_samples file (get_or chunks i d))
-      (samples_in file (drop (i + 1) chunks))
-      ∙ ap (λ v. v || list_any is_asked (samples_in file (drop (i + 1) chunks))) (sym is ∙ e)
+      → b ≡ list_any is_asked (source (get_or chunks i d)) → b ≡ true
+      → list_any is_asked (samples_in source (drop i chunks)) ≡ true
+  chunk_found source chunks i d b l is e =
+      ap (λ cs. list_any is_asked (samples_in source cs)) (drop_more chunks i d l)
+      ∙ list_any-append is_asked (source (get_or chunks i d))
+      (samples_in source (drop (i + 1) chunks))
+      ∙ ap (λ v. v || list_any is_asked (samples_in source (drop (i + 1) chunks))) (sym is ∙ e)
 
-  pub chunks_ended : (file : List ℕ) (chunks : List Chunk) (i : ℕ) → length chunks ≤ i
-      → list_any is_asked (samples_in file (drop i chunks)) ≡ false
-  chunks_ended file chunks i l =
-      ap (λ cs. list_any is_asked (samples_in file cs)) (drop_all i chunks l)
+  pub chunks_ended : (source : Source) (chunks : List Chunk) (i : ℕ) → length chunks ≤ i
+      → list_any is_asked (samples_in source (drop i chunks)) ≡ false
+  chunks_ended source chunks i l =
+      ap (λ cs. list_any is_asked (samples_in source cs)) (drop_all i chunks l)
 
-  pub chunks_kept : (file : List ℕ) (chunks : List Chunk) (i : ℕ) (before all : List (ℤ × ℤ))
+  pub chunks_kept : (source : Source) (chunks : List Chunk) (i : ℕ) (before all : List (ℤ × ℤ))
       → length chunks ≤ i
-      → before ++ filter is_asked (samples_in file (drop i chunks)) ≡ all → before ≡ all
-  chunks_kept file chunks i before all l h =
-      sym (ap (λ cs. before ++ filter is_asked (samples_in file cs)) (drop_all i chunks l)
+      → before ++ filter is_asked (samples_in source (drop i chunks)) ≡ all → before ≡ all
+  chunks_kept source chunks i before all l h =
+      sym (ap (λ cs. before ++ filter is_asked (samples_in source cs)) (drop_all i chunks l)
       ∙ append-nil before)
       ∙ h
 
   -- the first or the last sample of a chunk
-  end_asked : (file : List ℕ) (c : Chunk) → IsHeldChunk file c → has_end c ≡ true
-      → list_any is_asked (chunk_samples file c) ≡ true
-  end_asked file c held e = go (is_wanted deletions reference from to c.mint) refl
+  end_asked : (source : Source) (c : Chunk) → IsHeldChunk source c → has_end c ≡ true
+      → list_any is_asked (source c) ≡ true
+  end_asked source c held e = go (is_wanted deletions reference from to c.mint) refl
     where
-      some : 0 < length (chunk_samples file c)
-      some = held.stands.batch.some
+      some : 0 < length (source c)
+      some = held.batch.some
 
-      last_inside : length (chunk_samples file c) - 1 < length (chunk_samples file c)
+      last_inside : length (source c) - 1 < length (source c)
       last_inside = let s = some in omega arith
 
       at_first : is_wanted deletions reference from to c.mint ≡ true
-          → list_any is_asked (chunk_samples file c) ≡ true
+          → list_any is_asked (source c) ≡ true
       at_first f =
-          list_any_at is_asked (chunk_samples file c) 0 (pos 0, pos 0) some
-          (ap (is_wanted deletions reference from to) held.stands.first ∙ f)
+          list_any_at is_asked (source c) 0 (pos 0, pos 0) some
+          (ap (is_wanted deletions reference from to) held.first ∙ f)
 
       at_last : is_wanted deletions reference from to c.maxt ≡ true
-          → list_any is_asked (chunk_samples file c) ≡ true
-      at_last f = list_any_at is_asked (chunk_samples file c) (length (chunk_samples file c) - 1) (
+          → list_any is_asked (source c) ≡ true
+      at_last f = list_any_at is_asked (source c) (length (source c) - 1) (
         pos 0,
         pos 0,
-      ) last_inside (ap (is_wanted deletions reference from to) held.stands.last ∙ f)
+      ) last_inside (ap (is_wanted deletions reference from to) held.last ∙ f)
 
       go : (b : Bool) → is_wanted deletions reference from to c.mint ≡ b
-          → list_any is_asked (chunk_samples file c) ≡ true
+          → list_any is_asked (source c) ≡ true
       go true f = at_first f
       go false f = at_last (sym (ap (λ b. b || is_wanted deletions reference from to c.maxt) f) ∙ e)
 
-  pub ends_asked : (file : List ℕ) (chunks : List Chunk) → AreHeldChunks file chunks
-      → list_any has_end chunks ≡ true → list_any is_asked (samples_in file chunks) ≡ true
-  ends_asked file [] held e = absurd (true_not_false (sym e))
-  ends_asked file (c ∷ cs) held e =
-      list_any-append is_asked (chunk_samples file c) (samples_in file cs)
-      ∙ go (has_end c) refl (ends_asked file cs held.1)
+  pub ends_asked : (source : Source) (chunks : List Chunk) → AreHeldChunks source chunks
+      → list_any has_end chunks ≡ true → list_any is_asked (samples_in source chunks) ≡ true
+  ends_asked source [] held e = absurd (true_not_false (sym e))
+  ends_asked source (c ∷ cs) held e =
+      list_any-append is_asked (source c) (samples_in source cs)
+      ∙ go (has_end c) refl (ends_asked source cs held.1)
     where
       go : (b : Bool) → has_end c ≡ b
-          → (list_any has_end cs ≡ true → list_any is_asked (samples_in file cs) ≡ true)
-          → (list_any is_asked (chunk_samples file c) || list_any is_asked (samples_in file cs))
+          → (list_any has_end cs ≡ true → list_any is_asked (samples_in source cs) ≡ true)
+          → (list_any is_asked (source c) || list_any is_asked (samples_in source cs))
           ≡ true
       go true f ih =
-          ap (λ b. b || list_any is_asked (samples_in file cs)) (end_asked file c held.0 f)
+          ap (λ b. b || list_any is_asked (samples_in source cs)) (end_asked source c held.0 f)
       go false f ih =
-          or_true (list_any is_asked (chunk_samples file c)) (list_any is_asked
-          (samples_in file cs)) (ih (sym (ap (λ b. b || list_any has_end cs) f) ∙ e))
+          or_true (list_any is_asked (source c)) (list_any is_asked
+          (samples_in source cs)) (ih (sym (ap (λ b. b || list_any has_end cs) f) ∙ e))

@@ -9,7 +9,7 @@ use Rattle.labels.proofs.Times.{first_T, second_T, T_of}
 use Rattle.index_reader.specs.declared.chunk.Chunk.{Chunk}
 use Rattle.tombstones.specs.declared.deletion.Deletion.{Deletion}
 use Rattle.tombstones.specs.Covering.{covered, has_deletion}
-use Rattle.block.specs.Samples.{chunk_samples}
+use Rattle.block.specs.Samples.{Source}
 use Rattle.block.specs.Sound.{IsHeldChunk}
 use Rattle.block.specs.Wanted.{is_wanted, wants_whole}
 use Rattle.block.proofs.Counts.{none_covers}
@@ -65,9 +65,9 @@ module _ (deletions : List Deletion) (reference : ℕ) (from to : ℤ) where
       (filter (is_asked deletions reference from to) ss)) (asked_time c s.0 h low.0 high.0)
       ∙ ap (λ (xs : List (ℤ × ℤ)). s ∷ xs) (asked_each c ss h low.1 high.1)
 
-  pub whole_kept : (file : List ℕ) (c : Chunk) → IsHeldChunk file c
+  pub whole_kept : (source : Source) (c : Chunk) → IsHeldChunk source c
       → wants_whole deletions reference from to c ≡ true
-      → filter (is_asked deletions reference from to) (chunk_samples file c) ≡ chunk_samples file c
-  whole_kept file c held e =
-      let span = span_of file c.reference c.mint c.maxt (chunk_samples file c) held.stands in
-      asked_each c (chunk_samples file c) (all_asked c e) span.begin span.end
+      → filter (is_asked deletions reference from to) (source c) ≡ source c
+  whole_kept source c held e =
+      let span = span_of source c held in
+      asked_each c (source c) (all_asked c e) span.begin span.end

@@ -7,7 +7,7 @@ use Rattle.labels.specs.Rows.{Row, row_before}
 use Rattle.index_reader.specs.Indexes.{Series, Indexed}
 use Rattle.tombstones.specs.declared.deletion.Deletion.{Deletion}
 use Rattle.block.specs.Ranges.{covers}
-use Rattle.block.specs.Samples.{samples_in, undeleted}
+use Rattle.block.specs.Samples.{Source, samples_in, undeleted}
 
 -- the times that the block covers, its part, and the pairs that its series carry
 pub record Shown : Type 0 where
@@ -16,18 +16,18 @@ pub record Shown : Type 0 where
   pub pairs : List (List ℕ × List ℕ)
 
 -- a series: its reference, its label set, and the samples of its chunks less the deleted ones
-abbrev pub series_row : List ℕ → List Deletion → Series → ℕ × Row
-series_row chunks deletions s =
-    (s.reference, (s.labels, undeleted deletions s.reference (samples_in chunks s.chunks)))
+abbrev pub series_row : Source → List Deletion → Series → ℕ × Row
+series_row source deletions s =
+    (s.reference, (s.labels, undeleted deletions s.reference (samples_in source s.chunks)))
 
 -- the rows of all series
-abbrev pub part_of_series : List ℕ → List Deletion → List Series → Part
-part_of_series chunks deletions series = map (series_row chunks deletions) series
+abbrev pub part_of_series : Source → List Deletion → List Series → Part
+part_of_series source deletions series = map (series_row source deletions) series
 
--- a range, the chunks' file, what the index holds and the deletions, as what a block shows
-abbrev pub shown_of : ℤ × ℤ → List ℕ → Indexed → List Deletion → Shown
-shown_of range chunks x deletions =
-    record { range = range; part = part_of_series chunks deletions x.series; pairs = x.pairs }
+-- a range, the samples of chunks, what the index holds and the deletions, as what a block shows
+abbrev pub shown_of : ℤ × ℤ → Source → Indexed → List Deletion → Shown
+shown_of range source x deletions =
+    record { range = range; part = part_of_series source deletions x.series; pairs = x.pairs }
 
 -- the time of each sample lies in the range
 abbrev pub AreInside : ℤ × ℤ → Part → Type 0

@@ -5,6 +5,8 @@ pub mod Grammar
 pub mod Metas
 pub mod Opening
 pub mod Outcome
+pub mod Packing
+pub mod Kept
 pub mod Ranges
 pub mod Samples
 pub mod Sound

@@ -17,7 +17,7 @@ use Rattle.block.specs.declared.error.BlockError.{BlockError}
 use Rattle.block.specs.declared.error.BlockError.TheVariants.{Index, UnknownSeries, OutsideRange}
 use Rattle.block.specs.Blocks.{Shown, shown_of}
 use Rattle.block.specs.Outcome.{of_index, of_chunk, of_tombstone}
-use Rattle.block.specs.Samples.{chunk_read, samples_in}
+use Rattle.block.specs.Samples.{chunk_read, chunk_samples, samples_in}
 use Rattle.block.specs.Sound.{lies_in}
 
 -- what was read of the index, or its refusal
@@ -51,7 +51,7 @@ series_check file s = each (chunk_check file) s.chunks
 
 -- whether chunks have no more than 1,048,576 samples, deleted ones too
 abbrev pub have_few : List ℕ → List Chunk → Bool
-have_few file chunks = nat_le (length (samples_in file chunks)) 1048576
+have_few file chunks = nat_le (length (samples_in (chunk_samples file) chunks)) 1048576
 
 -- whether a series has no more
 abbrev pub is_few : List ℕ → Series → Bool
@@ -84,5 +84,6 @@ block_of range index chunks tombstones = do
   file ← or_chunks (opened chunks)
   stored ← stored_of file x.series
   deletions ← deleted_of tombstones x.series
-  if list_all (is_inside range) x.series then Ok (shown_of range file x deletions)
+  if list_all (is_inside range) x.series
+      then Ok (shown_of range (chunk_samples file) x deletions)
       else Err OutsideRange

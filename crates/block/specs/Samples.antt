@@ -16,13 +16,17 @@ or_none (Err e) = []
 abbrev pub chunk_read : List ℕ → Chunk → Result (List (ℤ × ℤ)) ChunkError
 chunk_read file c = samples_of file c.reference c.mint c.maxt
 
--- the samples of a chunk
-abbrev pub chunk_samples : List ℕ → Chunk → List (ℤ × ℤ)
+-- which samples a chunk has
+abbrev pub Source : Type 0
+Source = Chunk → List (ℤ × ℤ)
+
+-- the samples of a chunk, as they stand in a file
+abbrev pub chunk_samples : List ℕ → Source
 chunk_samples file c = or_none (chunk_read file c)
 
 -- the samples of chunks, one after the other
-abbrev pub samples_in : List ℕ → List Chunk → List (ℤ × ℤ)
-samples_in file chunks = flat_map (chunk_samples file) chunks
+abbrev pub samples_in : Source → List Chunk → List (ℤ × ℤ)
+samples_in source chunks = flat_map source chunks
 
 -- those samples of a series that no deletion covers
 abbrev pub undeleted : List Deletion → ℕ → List (ℤ × ℤ) → List (ℤ × ℤ)

@@ -6,7 +6,7 @@ use Rattle.index_reader.specs.Indexes.{Series, chunk_lists}
 use Rattle.chunk_reader.specs.declared.error.ChunkError.{ChunkError}
 use Rattle.wire.specs.Outcome.{Answers}
 use Rattle.block.specs.Opening.{each, chunk_check, have_few}
-use Rattle.block.specs.Sound.{IsHeldChunk}
+use Rattle.block.specs.Sound.{IsReadChunk}
 
 -- the chunks of so many series, from a place on
 abbrev pub lists_between : List Series → ℕ → ℕ → List (List Chunk)
@@ -18,4 +18,4 @@ pub record IsLookedAt (file : List ℕ) (lists : List (List Chunk))
     (r : Result Bool ChunkError) : Type 0 where
   pub exact : Answers (λ _. tt) r (each (each (chunk_check file)) lists)
   pub few : IfOk r (λ few. few ≡ list_all (have_few file) lists)
-  pub held : OnOk r (AllByRecursion (AllByRecursion (IsHeldChunk file)) lists)
+  pub held : OnOk r (AllByRecursion (AllByRecursion (IsReadChunk file)) lists)

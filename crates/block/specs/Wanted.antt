@@ -1,11 +1,13 @@
 -- The samples of a series that are asked for.
-use Rattle.std.specs.Prelude.{ℕ, ℤ, List, Bool, not, ◌&&◌, ◌||◌, int_lt, int_le}
+use Rattle.std.specs.Prelude.{◌≡◌, ℕ, ◌+◌, ◌<◌, ◌≤◌, ℤ, List, Bool, not, ◌&&◌, ◌||◌, int_lt, int_le}
+use Rattle.std.specs.Prelude.{length, slice_get}
 use Rattle.std.specs.List.{AllByRecursion}
 use Rattle.index_reader.specs.declared.chunk.Chunk.{Chunk}
 use Rattle.tombstones.specs.declared.deletion.Deletion.{Deletion}
 use Rattle.tombstones.specs.Covering.{covered, has_deletion}
 use Rattle.labels.specs.Contents.{in_range}
 use Rattle.block.specs.declared.samples.Wanted.{Wanted}
+use Rattle.block.specs.Samples.{Source}
 use Rattle.block.specs.Sound.{IsHeldChunk}
 
 -- whether a time lies in the closed range and no deletion of the series covers it
@@ -36,6 +38,11 @@ wants_all wanted c =
 abbrev pub meets : ℤ → ℤ → Chunk → Bool
 meets from to c = not (int_lt c.maxt from) && not (int_lt to c.mint)
 
--- each of the chunks stands in the file
-abbrev pub AreHeldChunks : List ℕ → List Chunk → Type 0
-AreHeldChunks file chunks = AllByRecursion (IsHeldChunk file) chunks
+-- each of the chunks has samples of its times
+abbrev pub AreHeldChunks : Source → List Chunk → Type 0
+AreHeldChunks source chunks = AllByRecursion (IsHeldChunk source) chunks
+
+-- these chunks stand side by side among those, from a place on
+pub record AreSideBySide (place : ℕ) (these those : List Chunk) : Type 0 where
+  pub inside : place + length these ≤ length those
+  pub each : (k : ℕ) → k < length these → slice_get these k ≡ slice_get those (place + k)

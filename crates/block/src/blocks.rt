@@ -13,8 +13,10 @@ ghost use Rattle.block.specs.Outcome.{Gives};
 ghost use Rattle.block.specs.Ranges.{IsRange};
 
 use crate::checking::{Checker, OneThread, Workers};
+use crate::comparing::are_same_chunks;
 use crate::counting::count_live;
 use crate::error::BlockError;
+use crate::files::Files;
 use crate::opening::{are_inside, check_stored, known_deletions};
 use crate::range::Range;
 use chunk_reader::Chunks;
@@ -26,15 +28,9 @@ use std::sync::Arc;
 use std::thread::Threads;
 use tombstones::Tombstones;
 
-/// What a block was read from, and never changes.
-#[derive(Drop)]
-pub(crate) struct Files {
-    pub(crate) index: Index,
-    pub(crate) chunks: Chunks,
-}
-
 /// A block of files that were checked, seen as the times that it covers, its part, and the pairs of
-/// a name and a value that its series carry. Its samples stay in the bytes of the chunks file.
+/// a name and a value that its series carry. It keeps its samples packed, and no bytes of its
+/// files.
 #[derive(Drop)]
 pub struct Block {
     range: Range,
@@ -49,13 +45,15 @@ impl Model for Block {
 
     ghost use Rattle.std.specs.Arc.{arc_value};
     ghost use Rattle.block.specs.Blocks.{shown_of};
-    ghost use Rattle.block.specs.Sound.{IsSoundBlock};
+    ghost use Rattle.block.specs.Packing.{IsOpened, source_of};
 
     ghost view = { λ b.
-        shown_of b.range (arc_value b.files).chunks (arc_value b.files).index b.tombstones };
+        shown_of b.range (source_of (arc_value b.files).index (arc_value b.files).packed)
+        (arc_value b.files).index b.tombstones };
 
     ghost invariant = { λ b.
-        IsSoundBlock b.range (arc_value b.files).chunks (arc_value b.files).index };
+        IsOpened b.range (arc_value b.files).starts.items (arc_value b.files).packed
+        (arc_value b.files).index };
 }
 
 // The checks, and what they leave.
@@ -83,7 +81,15 @@ fn open_with_checker<C: Checker>(
     if !are_inside(&index, range) {
         return Err(BlockError::OutsideRange);
     }
-    let files = Arc::new(alloc, Files { index, chunks })?;
+    let packed = checker.pack(alloc, &index, &chunks)?;
+    let files = Arc::new(
+        alloc,
+        Files {
+            index,
+            packed: packed.chunks,
+            starts: packed.starts,
+        },
+    )?;
     Ok(Block {
         range,
         files,
@@ -100,7 +106,8 @@ impl Block {
     /// 1,048,576 samples; of the deletions, `T1` to `T4`; `T5` where one is of a series that the
     /// index does not have; `B1` where a chunk begins before the range or does not end before its
     /// end. Time in proportion to the files, and to what the index names: a list or a chunk that it
-    /// names twice is read twice. It keeps the chunks file and copies none of it.
+    /// names twice is read twice, and a chunk's samples are kept twice. What is kept takes at most
+    /// 16 bytes for a sample, mostly 1 to 8, and some 60 for a chunk. The chunks file is dropped.
     pub fn open(
         alloc: Global,
         range: Range,
@@ -123,10 +130,10 @@ impl Block {
         open_with_checker(&OneThread, alloc, range, index, read, chunks, tombstones)
     }
 
-    /// The same as [`Block::open`], with the bodies of the series and the checks of the chunks
-    /// shared out over at most `threads` threads, the calling one among them. The answer does not
-    /// depend on their number, nor on whether they can be started. Ask for four for each processor:
-    /// the shares are equal in series, not in work.
+    /// The same as [`Block::open`], with the bodies of the series, the checks of the chunks and the
+    /// packing of their samples shared out over at most `threads` threads, the calling one among
+    /// them. The answer does not depend on their number, nor on whether they can be started. Ask
+    /// for four for each processor: the shares are equal in series, not in work.
     pub fn open_by<R: Threads + Sync>(
         rt: &R,
         threads: usize,
@@ -209,7 +216,7 @@ impl Block {
     pub fn sample_count(&self) -> u64
         ensures { result ≡ sample_count self.now.part }
     {
-        count_live(&self.files.index, &self.files.chunks, &self.tombstones)
+        count_live(&self.files, &self.tombstones)
     }
 
     /// Whether another block shows the same, as far as both are kept alike: then it does, and
@@ -225,10 +232,10 @@ impl Block {
             return false;
         }
         let (files, others) = (&self.files, &other.files);
-        if !files.chunks.is_same(&others.chunks) {
+        if !files.index.is_same(&others.index) {
             return false;
         }
-        files.index.is_same(&others.index)
+        are_same_chunks(&files.packed, &others.packed)
     }
 
     /// An equal block. It shares the files, and takes memory for the deletions alone.

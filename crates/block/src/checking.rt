@@ -1,4 +1,4 @@
-//! The chunks that an index names, looked at by one thread or shared out over several.
+//! The chunks that an index names, looked at and packed by one thread or shared out over several.
 
 ghost use Rattle.std.specs.Prelude.{◌≡◌, ◌+◌, ◌<◌, ◌≤◌, ◌^◌, ⊤, length, IfOk, OnOk};
 ghost use Rattle.std.specs.List.{AllByRecursion};
@@ -6,11 +6,15 @@ ghost use Rattle.std.specs.Thread.{IsSync};
 ghost use Rattle.index_reader.specs.Indexes.{chunk_lists};
 ghost use Rattle.wire.specs.Outcome.{Answers};
 ghost use Rattle.block.specs.Opening.{each, chunk_check, have_few};
+ghost use Rattle.block.specs.Packing.{IsPackOf};
+ghost use Rattle.block.specs.Samples.{chunk_samples};
 ghost use Rattle.block.specs.Shared.{IsLookedAt, lists_between};
-ghost use Rattle.block.specs.Sound.{IsHeldChunk, IsCounted};
+ghost use Rattle.block.specs.Sound.{IsReadChunk, IsCounted};
 
+use crate::packing::{Packed, pack_among, pack_between};
 use chunk_reader::{ChunkError, Chunks};
 use index_reader::{Chunk, Index};
+use std::alloc::{AllocError, Global};
 use std::thread::{Threads, join};
 
 const MAX_SAMPLES: u64 = 1_048_576;
@@ -28,7 +32,7 @@ fn count_in(chunks: &Chunks, chunk: &Chunk) -> Result<u64, ChunkError>
 fn are_few(chunks: &Chunks, list: &[Chunk]) -> Result<bool, ChunkError>
     ensures exact { Answers (λ _. tt) result (each (chunk_check chunks.now) list.now) }
     ensures few { IfOk result (λ few. few ≡ have_few chunks.now list.now) }
-    ensures held { OnOk result (AllByRecursion (IsHeldChunk chunks.now) list.now) }
+    ensures held { OnOk result (AllByRecursion (IsReadChunk chunks.now) list.now) }
 {
     let mut count = 0u64;
     for chunk in list {
@@ -96,7 +100,7 @@ fn few_among<R: Threads + Sync>(
     Ok(few & more)
 }
 
-/// Who looks at the chunks of a block.
+/// Who looks at the chunks of a block, and packs their samples.
 pub(crate) trait Checker {
     // What its looking takes: that threads may share what starts them.
     ghost is_ready: { Self → Type 0 };
@@ -106,6 +110,15 @@ pub(crate) trait Checker {
     fn check(&self, index: &Index, chunks: &Chunks) -> Result<bool, ChunkError>
         requires ready { is_ready self.now }
         ensures { IsLookedAt chunks.now (chunk_lists index.now.series) result };
+
+    /// Packs the samples of all chunks that the index names, in its order.
+    fn pack(&self, alloc: Global, index: &Index, chunks: &Chunks) -> Result<Packed, AllocError>
+        requires ready { is_ready self.now }
+        requires read { AllByRecursion (AllByRecursion (IsReadChunk chunks.now))
+            (chunk_lists index.now.series) }
+        ensures pack { IfOk result (λ p. IsPackOf (chunk_samples chunks.now)
+            (chunk_lists index.now.series) p.starts.items p.chunks) }
+        ensures small { IfOk result (λ p. length p.chunks < 2 ^ 64) };
 }
 
 /// The calling thread alone.
@@ -117,6 +130,10 @@ impl Checker for OneThread {
 
     fn check(&self, index: &Index, chunks: &Chunks) -> Result<bool, ChunkError> {
         few_between(index, chunks, 0, index.len())
+    }
+
+    fn pack(&self, alloc: Global, index: &Index, chunks: &Chunks) -> Result<Packed, AllocError> {
+        pack_between(alloc, index, chunks, 0, index.len())
     }
 }
 
@@ -132,5 +149,9 @@ impl<'a, R: Threads + Sync> Checker for Workers<'a, R> {
 
     fn check(&self, index: &Index, chunks: &Chunks) -> Result<bool, ChunkError> {
         few_among(self.rt, index, chunks, 0, index.len(), self.threads)
+    }
+
+    fn pack(&self, alloc: Global, index: &Index, chunks: &Chunks) -> Result<Packed, AllocError> {
+        pack_among(self.rt, alloc, index, chunks, 0, index.len(), self.threads)
     }
 }

@@ -19,19 +19,22 @@
 //! assert_eq!(rt; refused, Some(BlockError::Index(IndexError::TooShort)));
 //! ```
 //!
-//! It stands on `labels`, `postings`, `wire`, `index_reader`, `chunk_reader`, `tombstones`,
-//! `byteorder` and `serde_json`. The files are those of Prometheus's TSDB format documents; that
-//! other members of `meta.json` are ignored is this project's own.
+//! It stands on `labels`, `postings`, `wire`, `index_reader`, `chunk_reader`, `packed_chunks`,
+//! `tombstones`, `byteorder` and `serde_json`. The files are those of Prometheus's TSDB format
+//! documents; that other members of `meta.json` are ignored is this project's own.
 #![tactic(auto)]
 
 mod blocks;
 mod checking;
+mod comparing;
 mod counting;
 mod error;
+mod files;
 mod listing;
 mod live_list;
 mod meta;
 mod opening;
+mod packing;
 mod range;
 mod raw_list;
 mod samples;

@@ -5,7 +5,7 @@ ghost use Rattle.std.specs.List.{AllByRecursion, list_all};
 ghost use Rattle.std.specs.List.Sorted.{IsStrictlyIncreasing};
 ghost use Rattle.index_reader.specs.Indexes.{references, chunk_lists};
 ghost use Rattle.block.specs.Outcome.{Gives, GivesAll};
-ghost use Rattle.block.specs.Sound.{IsHeldChunk, lies_in};
+ghost use Rattle.block.specs.Sound.{IsReadChunk, lies_in};
 ghost use Rattle.block.specs.Opening.{have_few, is_known, stored_of, deleted_of};
 
 use crate::checking::Checker;
@@ -29,7 +29,7 @@ pub(crate) fn check_stored<C: Checker>(
     requires ready { C.is_ready checker.now }
     ensures exact { Gives (λ _. tt) result (stored_of chunks.now index.now.series) }
     ensures held { OnOk result
-        (AllByRecursion (AllByRecursion (IsHeldChunk chunks.now)) (chunk_lists index.now.series)) }
+        (AllByRecursion (AllByRecursion (IsReadChunk chunks.now)) (chunk_lists index.now.series)) }
     ensures few { OnOk result
         (list_all (have_few chunks.now) (chunk_lists index.now.series) ≡ true) }
 {

@@ -1,14 +1,17 @@
 //! The samples of one series in a closed range of times, less those that are deleted.
 
-ghost use Rattle.std.specs.Prelude.{◌≡◌, ◌++◌, ℤ, filter, OnOk};
+ghost use Rattle.std.specs.Prelude.{◌≡◌, ◌<◌, ◌++◌, ℤ, filter, length, map, slice_get, OnOk, Some};
 ghost use Rattle.std.specs.List.{list_any};
-ghost use Rattle.block.specs.Samples.{chunk_samples, samples_in};
-ghost use Rattle.block.specs.Sound.{AreInTurn, IsHeldChunk};
-ghost use Rattle.block.specs.Wanted.{AreHeldChunks, meets, wants, wants_all, wants_end};
+ghost use Rattle.block.specs.Kept.{source_in, AreKeptFrom};
+ghost use Rattle.block.specs.Samples.{samples_in};
+ghost use Rattle.block.specs.Sound.{AreInTurn, AreSamplesOf};
+ghost use Rattle.block.specs.Wanted.{AreHeldChunks, AreSideBySide, meets, wants, wants_all};
+ghost use Rattle.block.specs.Wanted.{wants_end};
 
-use chunk_reader::{Chunks, Samples};
+use crate::files::Files;
 use index_reader::Chunk;
 use labels::{Sample, SeriesRef};
+use packed_chunks::PackedSamples;
 use std::alloc::AllocError;
 use tombstones::Tombstones;
 
@@ -58,28 +61,36 @@ impl<'a> Wanted<'a> {
     }
 }
 
-/// The chunks whose times meet the range. They stand side by side, and are found by halving.
-fn meeting_chunks(series: &[Chunk], times: Times) -> &[Chunk]
+/// The chunks whose times meet the range, and the place of the first of them. They stand side by
+/// side, and are found by halving.
+fn meeting_chunks(series: &[Chunk], times: Times) -> (usize, &[Chunk])
     requires { AreInTurn series.now }
-    ensures { result.now ≡ filter (meets times.from times.to) series.now }
+    ensures met { result.1.now ≡ filter (meets times.from times.to) series.now }
+    ensures place { AreSideBySide result.0 result.1.now series.now }
 {
     let end = series.partition_point(|chunk| chunk.mint <= times.to);
     let begun = &series[..end];
     let start = begun.partition_point(|chunk| chunk.maxt < times.from);
-    &begun[start..]
+    (start, &begun[start..])
 }
 
-/// The samples of a chunk, in place. No check of it is made again.
-pub(crate) fn chunk_samples(chunks: &Chunks, chunk: Chunk) -> Samples<'_>
-    requires { IsHeldChunk chunks.now chunk }
-    ensures { result ≡ chunk_samples chunks.now chunk }
+/// The samples of the chunk at a place among chunks of which the first has this number.
+pub(crate) fn chunk_samples<'a>(
+    files: &'a Files,
+    first: usize,
+    chunks: &[Chunk],
+    k: usize,
+) -> PackedSamples<'a>
+    requires at { k < length chunks.now }
+    requires kept { AreKeptFrom files.now first chunks.now }
+    ensures { slice_get (map (source_in files.now) chunks.now) k ≡ Some result }
 {
-    chunks.stored(chunk.reference, chunk.mint, chunk.maxt)
+    files.packed.get(first + k)
 }
 
 fn push_wanted(
     found: &mut Vec<Sample>,
-    samples: &Samples<'_>,
+    samples: &PackedSamples<'_>,
     wanted: &Wanted<'_>,
 ) -> Result<(), AllocError>
     ensures { OnOk result (found.new.items
@@ -94,56 +105,48 @@ fn push_wanted(
     Ok(())
 }
 
-/// Adds all samples.
-fn push_all(found: &mut Vec<Sample>, samples: &Samples<'_>) -> Result<(), AllocError>
-    ensures { OnOk result (found.new.items ≡ found.old.items ++ samples.now) }
-{
-    found.reserve(samples.len())?;
-    for i in 0..samples.len() {
-        found.push(samples.get(i))?;
-    }
-    Ok(())
-}
-
 /// Adds the samples of a chunk that are wanted.
 fn push_chunk(
     found: &mut Vec<Sample>,
-    chunks: &Chunks,
+    samples: &PackedSamples<'_>,
     chunk: Chunk,
     wanted: &Wanted<'_>,
 ) -> Result<(), AllocError>
-    requires { IsHeldChunk chunks.now chunk }
+    requires { AreSamplesOf chunk samples.now }
     ensures { OnOk result (found.new.items ≡ found.old.items
-        ++ filter (λ (s : ℤ × ℤ). wants wanted.now s.0) (chunk_samples chunks.now chunk)) }
+        ++ filter (λ (s : ℤ × ℤ). wants wanted.now s.0) samples.now) }
 {
-    let samples = chunk_samples(chunks, chunk);
     if wanted.has_all(chunk) {
-        return push_all(found, &samples);
+        return samples.push_all(found);
     }
-    push_wanted(found, &samples, wanted)
+    push_wanted(found, samples, wanted)
 }
 
 /// Adds the samples that are wanted. It finds the chunks whose times meet the range by halving, and
 /// reads no other.
 pub(crate) fn push_each(
     found: &mut Vec<Sample>,
-    chunks: &Chunks,
+    files: &Files,
+    first: usize,
     series: &[Chunk],
     wanted: &Wanted<'_>,
 ) -> Result<(), AllocError>
-    requires held { AreHeldChunks chunks.now series.now }
+    requires held { AreHeldChunks (source_in files.now) series.now }
     requires in_turn { AreInTurn series.now }
+    requires kept { AreKeptFrom files.now first series.now }
     ensures { OnOk result (found.new.items ≡ found.old.items
-        ++ filter (λ (s : ℤ × ℤ). wants wanted.now s.0) (samples_in chunks.now series.now)) }
+        ++ filter (λ (s : ℤ × ℤ). wants wanted.now s.0)
+        (samples_in (source_in files.now) series.now)) }
 {
-    let met = meeting_chunks(series, wanted.times);
-    for chunk in met {
-        push_chunk(found, chunks, *chunk, wanted)?;
+    let (start, met) = meeting_chunks(series, wanted.times);
+    for k in 0..met.len() {
+        let samples = chunk_samples(files, first + start, met, k);
+        push_chunk(found, &samples, met[k], wanted)?;
     }
     Ok(())
 }
 
-fn has_wanted(samples: &Samples<'_>, wanted: &Wanted<'_>) -> bool
+fn has_wanted(samples: &PackedSamples<'_>, wanted: &Wanted<'_>) -> bool
     ensures { result ≡ list_any (λ (s : ℤ × ℤ). wants wanted.now s.0) samples.now }
 {
     for i in 0..samples.len() {
@@ -167,13 +170,13 @@ fn has_wanted_end(series: &[Chunk], wanted: &Wanted<'_>) -> bool
 }
 
 /// Whether one of the samples is wanted. It reads the chunks up to the first that has one.
-fn has_wanted_within(chunks: &Chunks, series: &[Chunk], wanted: &Wanted<'_>) -> bool
-    requires { AreHeldChunks chunks.now series.now }
-    ensures { result
-        ≡ list_any (λ (s : ℤ × ℤ). wants wanted.now s.0) (samples_in chunks.now series.now) }
+fn has_wanted_within(files: &Files, first: usize, chunks: &[Chunk], wanted: &Wanted<'_>) -> bool
+    requires { AreKeptFrom files.now first chunks.now }
+    ensures { result ≡ list_any (λ (s : ℤ × ℤ). wants wanted.now s.0)
+        (samples_in (source_in files.now) chunks.now) }
 {
-    for chunk in series {
-        if has_wanted(&chunk_samples(chunks, *chunk), wanted) {
+    for k in 0..chunks.len() {
+        if has_wanted(&chunk_samples(files, first, chunks, k), wanted) {
             return true;
         }
     }
@@ -182,15 +185,21 @@ fn has_wanted_within(chunks: &Chunks, series: &[Chunk], wanted: &Wanted<'_>) -> 
 
 /// Whether one of the samples is wanted. It finds the chunks whose times meet the range by halving;
 /// where the first or the last time of one of them says so it reads no chunk.
-pub(crate) fn is_any_wanted(chunks: &Chunks, series: &[Chunk], wanted: &Wanted<'_>) -> bool
-    requires held { AreHeldChunks chunks.now series.now }
+pub(crate) fn is_any_wanted(
+    files: &Files,
+    first: usize,
+    series: &[Chunk],
+    wanted: &Wanted<'_>,
+) -> bool
+    requires held { AreHeldChunks (source_in files.now) series.now }
     requires in_turn { AreInTurn series.now }
-    ensures { result
-        ≡ list_any (λ (s : ℤ × ℤ). wants wanted.now s.0) (samples_in chunks.now series.now) }
+    requires kept { AreKeptFrom files.now first series.now }
+    ensures { result ≡ list_any (λ (s : ℤ × ℤ). wants wanted.now s.0)
+        (samples_in (source_in files.now) series.now) }
 {
-    let met = meeting_chunks(series, wanted.times);
+    let (start, met) = meeting_chunks(series, wanted.times);
     if has_wanted_end(met, wanted) {
         return true;
     }
-    has_wanted_within(chunks, met, wanted)
+    has_wanted_within(files, first + start, met, wanted)
 }

@@ -73,7 +73,13 @@ impl Block {
             reference: files.index.reference_at(i),
             times,
         };
-        push_each(&mut found, &files.chunks, files.index.chunks_at(i), &wanted)?;
+        push_each(
+            &mut found,
+            files,
+            files.starts[i],
+            files.index.chunks_at(i),
+            &wanted,
+        )?;
         Ok(found)
     }
 
@@ -106,7 +112,7 @@ impl Block {
             reference: files.index.reference_at(i),
             times,
         };
-        is_any_wanted(&files.chunks, files.index.chunks_at(i), &wanted)
+        is_any_wanted(files, files.starts[i], files.index.chunks_at(i), &wanted)
     }
 
     /// The place of the first series, from a place on, whose reference is not below the target, or

@@ -98,8 +98,8 @@ fn write_at<'a, D: Disk>(
 /// Writes the directory of a block: under another name, with each file and directory synced; then
 /// it gets its name. Where a call of the disk fails, no further call is made.
 ///
-/// At whatever moment the machine stops, nothing has the block's name, or the whole block has it, if
-/// nothing had it before and both names stand in the parent.
+/// At whatever moment the machine stops, nothing has the block's name, or the whole block has it,
+/// if nothing had it before and both names stand in the parent.
 pub fn write_block<'a, D: Disk>(
     alloc: Global,
     disk: &mut D,

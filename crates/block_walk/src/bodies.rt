@@ -7,7 +7,8 @@ ghost use Rattle.block_walk.specs.IndexFile.Seen.{texts, entry_seen, entries_see
 ghost use Rattle.block_walk.specs.IndexFile.Each.{each, rises};
 ghost use Rattle.block_walk.specs.IndexFile.Whole.{is_small};
 ghost use Rattle.block_walk.specs.IndexFile.Flat.{body_in, bodies_in, AllIn, body_of_entry};
-ghost use Rattle.block_walk.specs.IndexFile.Flat.{label_sets_in, is_before, AreSpansIn, zero_between};
+ghost use Rattle.block_walk.specs.IndexFile.Flat.{label_sets_in, is_before, AreSpansIn};
+ghost use Rattle.block_walk.specs.IndexFile.Flat.{zero_between};
 ghost use Rattle.block_walk.specs.IndexFile.Flat.{gaps_zero};
 
 use crate::body::body_into;

@@ -7,7 +7,8 @@ ghost use Rattle.std.specs.List.{AllByRecursion};
 ghost use Rattle.std.specs.Thread.{IsSync};
 ghost use Rattle.tombstones.specs.Covering.{covered};
 ghost use Rattle.block_walk.specs.IndexFile.Series.{chunk_lists};
-ghost use Rattle.block_walk.specs.BlockFiles.Samples.{chunk_samples, samples_in, undeleted, part_of};
+ghost use Rattle.block_walk.specs.BlockFiles.Samples.{chunk_samples, samples_in, undeleted};
+ghost use Rattle.block_walk.specs.BlockFiles.Samples.{part_of};
 ghost use Rattle.block_walk.specs.BlockFiles.Shared.{stretch};
 ghost use Rattle.block_walk.specs.BlockFiles.Sound.{IsHeld};
 

@@ -38,7 +38,8 @@ use Rattle.commands.specs.declared.fault.Fault.TheVariants.{NoListener, NoThread
 use Rattle.commands.specs.declared.fault.Refusal.{Refusal}
 use Rattle.commands.specs.declared.fault.Refusal.TheVariants.{Labels, Matcher, Selector, Query}
 use Rattle.commands.specs.declared.fault.Refusal.TheVariants.{Commit, Block, Open, Snapshot}
-use Rattle.commands.specs.declared.fault.Refusal.TheVariants.{NotEmpty, Start, Unsettled, WholeNumbers}
+use Rattle.commands.specs.declared.fault.Refusal.TheVariants.{NotEmpty, Start, Unsettled}
+use Rattle.commands.specs.declared.fault.Refusal.TheVariants.{WholeNumbers}
 use Rattle.commands.specs.declared.files.ReadError.{ReadError}
 use Rattle.commands.specs.declared.files.ReadError.TheVariants as failure
 

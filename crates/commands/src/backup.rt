@@ -1,9 +1,10 @@
 //! A store that is kept, copied while its server may run.
 
-ghost use Rattle.std.specs.Prelude.{◌≡◌, ◌⊎◌, IfErr, IfOk, OnOk, string_bytes};
+ghost use Rattle.std.specs.Prelude.{◌≡◌, ◌⊎◌, IfErr, IfOk, OnOk, string_bytes, true};
 ghost use Rattle.commands.specs.Backing.{IsBackedUp, IsBackupFault, IsCopyFault, backup_line};
 ghost use Rattle.commands.specs.Keeping.{IsDataFault, IsFolderFault};
 ghost use Rattle.commands.specs.Selecting.{KeepsAt};
+ghost use Rattle.data_folder.specs.Hosts.{host_sound};
 ghost use Rattle.store_backup.specs.Copies.{TellsSome};
 ghost use Rattle.store_folder.specs.Codes.{cause_of};
 ghost use Rattle.store_folder.specs.Refusals.{IsRefusal};
@@ -14,10 +15,11 @@ use crate::files::ReadFiles;
 use crate::keeping::{no_journal, unreadable};
 use crate::locking::{cannot_read, cannot_write, lock_data};
 use crate::sending::send;
+use data_folder::HostFolder;
 use std::alloc::{AllocError, Global};
 use std::fs;
 use std::io::{ErrorKind, Write};
-use store_backup::{Copied, CopyFault, HostFolders, copy_between};
+use store_backup::{Copied, CopyFault, copy_between};
 use store_folder::{RollFault, StartCause, StartError};
 
 /// The line of a copy, as `OUT: 2 blocks, 37 events`.
@@ -82,6 +84,20 @@ fn not_copied(alloc: Global, from: &str, out: &str, fault: CopyFault) -> Fault
     }
 }
 
+/// Two views of a folder of the host, to read a store by.
+fn views_of<'a>(
+    alloc: Global,
+    host: &'a HostRuntime,
+    folder: &'a str,
+) -> (HostFolder<'a, HostRuntime>, HostFolder<'a, HostRuntime>)
+    ensures { (host_sound result.0 ≡ true) × (host_sound result.1 ≡ true) }
+{
+    (
+        HostFolder::new(host, alloc, folder),
+        HostFolder::new(host, alloc, folder),
+    )
+}
+
 /// Copies a store of the host to a folder, which is made if there is none, and locked meanwhile.
 fn copy(alloc: Global, host: &HostRuntime, from: &str, out: &str) -> Result<Copied, Fault>
     ensures ok { IfOk result TellsSome }
@@ -89,14 +105,18 @@ fn copy(alloc: Global, host: &HostRuntime, from: &str, out: &str) -> Result<Copi
 {
     check_empty(alloc, host, out)?;
     let lock = lock_data(alloc, host, out)?;
-    let folders = HostFolders {
-        host,
-        from,
-        to: out,
-    };
-    let copied = match copy_between(alloc, &folders) {
-        Ok(copied) => copied,
-        Err(fault) => return Err(not_copied(alloc, from, out, fault)),
+    // The source's journal may be begun anew each time that it is read, five times in all.
+    let mut views = [
+        views_of(alloc, host, from),
+        views_of(alloc, host, from),
+        views_of(alloc, host, from),
+        views_of(alloc, host, from),
+        views_of(alloc, host, from),
+    ];
+    let target = HostFolder::new(host, alloc, out);
+    let copied = match copy_between(alloc, &mut views, target) {
+        Ok((copied, _)) => copied,
+        Err((fault, _)) => return Err(not_copied(alloc, from, out, fault)),
     };
     drop(lock);
     Ok(copied)

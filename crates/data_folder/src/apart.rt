@@ -21,8 +21,8 @@ pub enum ApartError {
     Medium,
 }
 
-/// Writes a file of a block beside the files to be kept, and keeps it from then on: its name is then
-/// the last of theirs. A name of theirs, or that is no block's, as the journal's, is refused.
+/// Writes a file of a block beside the files to be kept, and keeps it from then on: its name is
+/// then the last of theirs. A name of theirs, or that is no block's, as the journal's, is refused.
 ///
 /// So after any number of such calls the journal, all that is no block's and all files that were to
 /// be kept are as they were, and each file that was written is whole; a crash at any moment leaves

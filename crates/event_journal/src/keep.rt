@@ -67,8 +67,8 @@ impl<M: Medium + Drop> EventJournal<M> {
         }
     }
 
-    /// Keeps several events, for good, by their records, which name series as they are named so far.
-    /// It takes one write and one sync. `J5` to `J7` as `Journal::append_records` has them.
+    /// Keeps several events, for good, by their records, which name series as they are named so
+    /// far. It takes one write and one sync. `J5` to `J7` as `Journal::append_records` has them.
     pub fn append(&mut self, records: &[u8]) -> Result<(), JournalError>
         requires held { (front : List (List ℕ)) × (names : List Label) × (events : List Change)
             × Holds M.shows M.kept M.sound M.moment M.left_since front

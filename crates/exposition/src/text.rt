@@ -333,8 +333,8 @@ fn read_lines(
 }
 
 /// The samples of a text in rows. Values are read as decimals, in parts of which 10^places make
-/// one, and fractions of these are rounded, or told beside the rows; or as doubles, each the nearest
-/// to what the text writes.
+/// one, and fractions of these are rounded, or told beside the rows; or as doubles, each the
+/// nearest to what the text writes.
 ///
 /// A text of OpenMetrics without its end is refused, and then the first line that is wrong. It
 /// takes time in proportion to the text.

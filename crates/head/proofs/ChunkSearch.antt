@@ -1,6 +1,6 @@
 -- A sample in a range is searched in the chunk that the range begins in.
 use Rattle.std.proofs.Common.{◌≡◌, ◌≢◌, ℕ, zero, suc, ◌+◌, ◌<◌, ◌≤◌, ℤ, Bool, true, false, not, ◌&&◌, ◌||◌, List, [], ◌∷◌, ◌++◌, length, map, get_or, append_assoc, refl, sym, ap, subst, ◌∙◌, arith}
-use Rattle.std.specs.Prelude.{T, int_lt, nat_eq}
+use Rattle.std.specs.Prelude.{T, int_lt, nat_eq, pos}
 use Rattle.std.proofs.Math.ListN.{get_or-map}
 use Rattle.std.proofs.lemmas.List.{length-map, get_or-map as get_or-map_below}
 use Rattle.std.specs.List.{flat_map, list_all, Contains}
@@ -143,12 +143,12 @@ ends_parted a (c ∷ cs) last h full (suc i) (suc j) d le l t =
     ends_parted a cs last (sorted_back c (joined_chunks cs last) (sorted_regroup c cs last h)) (λ k e m. full (suc k) e (omega (arith, m))) i j d (omega (arith, le)) (omega (arith, l)) t
 
 -- the last sample tells whether a chunk ends before a time
-pub ends_at : (t : ℤ) (xs : Samples) (k : ℕ) (x : ℤ × ℤ) → k + 1 ≡ length xs → x ≡ get_or xs k x → int_lt x.0 t ≡ ends_before t xs
-ends_at t [] k x l e = absurd (omega (arith, l))
-ends_at t (s ∷ []) zero x l e = ap (λ (z : ℤ × ℤ). int_lt z.0 t) e
-ends_at t (s ∷ []) (suc k) x l e = absurd (omega (arith, l))
-ends_at t (s ∷ y ∷ ys) zero x l e = absurd (omega (arith, l))
-ends_at t (s ∷ y ∷ ys) (suc k) x l e = ends_at t (y ∷ ys) k x (omega (arith, l)) e
+pub ends_at : (t : ℤ) (xs : Samples) (k : ℕ) → k + 1 ≡ length xs → int_lt (get_or xs k (pos 0, pos 0)).0 t ≡ ends_before t xs
+ends_at t [] k l = absurd (omega (arith, l))
+ends_at t (s ∷ []) zero l = refl
+ends_at t (s ∷ []) (suc k) l = absurd (omega (arith, l))
+ends_at t (s ∷ y ∷ ys) zero l = absurd (omega (arith, l))
+ends_at t (s ∷ y ∷ ys) (suc k) l = ends_at t (y ∷ ys) k (omega (arith, l))
 
 eq_of : (a b : ℕ) → T (nat_eq a b) → a ≡ b
 eq_of a b h = grind (arith, nat_tests)

@@ -9,6 +9,7 @@ use Rattle.head.specs.contracts.references.Held as held
 use Rattle.head.specs.contracts.references.References as references
 use Rattle.head.specs.contracts.listed.Listed as listed
 use Rattle.head.specs.contracts.index.Index as index
+use Rattle.packed_chunks.proofs.Crossing.{PackedChunk-send, PackedChunk-sync}
 use Rattle.pages.proofs.Crossing.{PagedList-send, PagedList-sync, SortedPages-send, SortedPages-sync}
 use Rattle.head.specs.contracts.order.Placed as placed
 use Rattle.head.specs.contracts.order.Order as order
@@ -16,10 +17,10 @@ use Rattle.head.specs.contracts.head.HeadView as head
 use Rattle.head.specs.contracts.snapshot.Snapshot as snapshot
 
 pub Chunk-send : IsSend chunk.the_field.row
-Chunk-send = search (sendable, heap.Vec-send) depth 60 fits 20000
+Chunk-send = search (sendable, PackedChunk-send) depth 60 fits 20000
 
 pub Chunk-sync : IsSync chunk.the_field.row
-Chunk-sync = search (sendable, heap.Vec-sync) depth 60 fits 20000
+Chunk-sync = search (sendable, PackedChunk-sync) depth 60 fits 20000
 
 pub Sealed-send : IsSend sealed.the_field.row
 Sealed-send = search (sendable, heap.Vec-send, heap.Vec-sync, heap.Arc-send, heap.Arc-sync, Chunk-send, Chunk-sync) depth 60 fits 20000

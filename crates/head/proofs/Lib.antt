@@ -8,6 +8,7 @@ pub mod RowSteps
 pub mod Chunks
 pub mod BlockNaming
 pub mod Opening
+pub mod PackedReads
 pub mod PartLaws
 pub mod Ordered
 pub mod Keyed

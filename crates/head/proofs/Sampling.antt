@@ -62,7 +62,7 @@ sampled_none a b (s ∷ ss) before =
     ap (λ c. (not c && not (int_lt b s.0)) || has_sample a b ss) (before zero s (omega arith))
     ∙ sampled_none a b ss (λ k e m. before (suc k) e (omega (arith, m)))
 
-below_at : (t : ℤ) (ss : List (ℤ × ℤ)) → T (below_all int_cmp t ss) → (k : ℕ) (d : ℤ × ℤ) → k < length ss → int_cmp t (get_or ss k d).0 ≡ Less
+pub below_at : (t : ℤ) (ss : List (ℤ × ℤ)) → T (below_all int_cmp t ss) → (k : ℕ) (d : ℤ × ℤ) → k < length ss → int_cmp t (get_or ss k d).0 ≡ Less
 below_at t [] h k d l = absurd (omega (arith, l))
 below_at t (s ∷ ss) h zero d l = less_is (int_cmp t s.0) (first_T _ _ h)
 below_at t (s ∷ ss) h (suc k) d l = below_at t ss (second_T _ _ h) k d (omega (arith, l))

@@ -1,4 +1,4 @@
-//! The samples of one label set, in chunks that versions share.
+//! The samples of one label set, in packed chunks that versions share.
 
 ghost use Rattle.std.specs.Prelude.{◌≡◌, ◌<◌, ◌++◌, IfOk, OnOk, [], ◌∷◌, length, map, filter};
 ghost use Rattle.std.specs.Prelude.{nat_le, OnErr};
@@ -19,6 +19,7 @@ use crate::MAX_SAMPLES;
 use crate::looking::first_value;
 use crate::saved::SavedSeries;
 use labels::{LabelSet, Sample};
+use packed_chunks::{PackedChunk, PackedSamples};
 use pages::PagedList;
 use std::alloc::{AllocError, Global};
 use std::marker::Model;
@@ -28,10 +29,10 @@ use std::sync::Arc;
 /// How many samples a sealed chunk has.
 pub(crate) const CHUNK: usize = 120;
 
-/// Samples that do not change any more.
+/// Samples that do not change any more, in few bytes.
 #[derive(Drop)]
 pub(crate) struct Chunk {
-    samples: Vec<Sample>,
+    packed: PackedChunk,
 }
 
 impl Model for Chunk {
@@ -39,30 +40,55 @@ impl Model for Chunk {
 
     ghost Value = { List (ℤ × ℤ) };
 
-    ghost view = { λ c. c.samples.items };
+    ghost view = { λ c. c.packed };
 }
 
 impl Chunk {
-    fn new(samples: Vec<Sample>) -> Chunk
-        ensures { result ≡ samples.items }
+    fn new(alloc: Global, samples: &[Sample]) -> Result<Chunk, AllocError>
+        requires { length samples.now < 65536 }
+        ensures { IfOk result (λ c. c ≡ samples.now) }
     {
-        Chunk { samples }
+        let packed = PackedChunk::encode(alloc, samples)?;
+        Ok(Chunk { packed })
     }
 
-    fn samples(&self) -> &[Sample]
-        ensures { result.now ≡ self.now }
+    /// The samples, which are decoded as they are asked for.
+    fn samples(&self) -> PackedSamples<'_>
+        ensures { result ≡ self.now }
     {
-        self.samples.as_slice()
+        self.packed.samples()
     }
 
     /// Whether all samples lie before a time, as seen from the last.
     fn ends_before(&self, time: i64) -> bool
         ensures { result ≡ ends_before time self.now }
     {
-        match self.samples.as_slice() {
-            [] => true,
-            [.., last] => last.t() < time,
+        let samples = self.samples();
+        samples.is_empty() || samples.last_time() < time
+    }
+
+    /// Whether one of the samples, whose times ascend, lies in the closed range.
+    fn has_sample_in(&self, from: i64, to: i64) -> bool
+        requires { T (is_sorted int_cmp self.now) }
+        ensures { result ≡ has_sample from to self.now }
+    {
+        let samples = self.samples();
+        let place = samples.place_from(from);
+        place < samples.len() && samples.time_at(place) <= to
+    }
+
+    /// Adds those of the samples whose times lie in the closed range.
+    fn push_within(&self, found: &mut Vec<Sample>, from: i64, to: i64) -> Result<(), AllocError>
+        ensures { OnOk result (found.new.items ≡ found.old.items ++ within from to self.now) }
+    {
+        let samples = self.samples();
+        for place in 0..samples.len() {
+            let sample = samples.get(place);
+            if is_within(sample, from, to) {
+                found.push(sample)?;
+            }
         }
+        Ok(())
     }
 }
 
@@ -154,11 +180,12 @@ impl Sealed {
     }
 
     /// Seals a chunk of these samples.
-    fn push(&mut self, alloc: Global, samples: Vec<Sample>) -> Result<(), AllocError>
-        ensures ok { OnOk result (self.new ≡ self.old ++ samples.items ∷ []) }
+    fn push(&mut self, alloc: Global, samples: &[Sample]) -> Result<(), AllocError>
+        requires { length samples.now < 65536 }
+        ensures ok { OnOk result (self.new ≡ self.old ++ samples.now ∷ []) }
         ensures err { OnErr result (self.new ≡ self.old) }
     {
-        let chunk = Arc::new(alloc, Chunk::new(samples))?;
+        let chunk = Arc::new(alloc, Chunk::new(alloc, samples)?)?;
         match &mut self.chunks {
             Some(chunks) => push_to(alloc, chunks, chunk),
             None => {
@@ -304,7 +331,7 @@ impl Series {
         self.tail.push(sample)?;
         if self.tail.len() == CHUNK {
             let full = mem::replace(&mut self.tail, Vec::new(alloc));
-            self.sealed.push(alloc, full)?;
+            self.sealed.push(alloc, full.as_slice())?;
         }
         Ok(())
     }
@@ -339,10 +366,8 @@ impl Series {
             tail: Vec::new(alloc),
             newest: self.newest,
         };
-        for chunk in self.sealed.chunks() {
-            left.append_outside(alloc, chunk.samples(), from, to)?;
-        }
-        left.append_outside(alloc, self.tail.as_slice(), from, to)?;
+        let samples = self.samples(alloc)?;
+        left.append_outside(alloc, samples.as_slice(), from, to)?;
         Ok(left)
     }
 
@@ -376,7 +401,7 @@ impl Series {
         let chunks = self.sealed.chunks();
         let place = chunks.partition_point(|chunk| chunk.ends_before(from));
         if place < chunks.len() {
-            return has_sample_in(chunks[place].samples(), from, to);
+            return chunks[place].has_sample_in(from, to);
         }
         has_sample_in(self.tail.as_slice(), from, to)
     }
@@ -387,7 +412,7 @@ impl Series {
     {
         let mut found = Vec::new(alloc);
         for chunk in self.sealed.chunks() {
-            found.extend_from_slice(chunk.samples())?;
+            chunk.samples().push_all(&mut found)?;
         }
         found.extend_from_slice(self.tail.as_slice())?;
         Ok(found)
@@ -404,7 +429,7 @@ impl Series {
     {
         let mut found = Vec::new(alloc);
         for chunk in self.sealed.chunks() {
-            push_within(&mut found, chunk.samples(), from, to)?;
+            chunk.push_within(&mut found, from, to)?;
         }
         push_within(&mut found, self.tail.as_slice(), from, to)?;
         Ok(found)

@@ -6,9 +6,9 @@
 //! the world that the snapshot had ([`start_of_save`]). [`head_contents`] spells a head, and
 //! [`read_head`] reads it from the front of a journal's contents.
 //!
-//! It stands on `block_folder` for what values may mean, on `event_text` for the words of label sets
-//! and samples, on `head` for snapshots and their worlds, and on `event_journal` for what may stand
-//! before events.
+//! It stands on `block_folder` for what values may mean, on `event_text` for the words of label
+//! sets and samples, on `head` for snapshots and their worlds, and on `event_journal` for what may
+//! stand before events.
 #![tactic(auto)]
 
 mod error;

@@ -17,4 +17,4 @@ mod paths;
 mod reading;
 
 pub use fault::StoreFault;
-pub use reading::{FoundJournal, FoundStore, read_kept, read_store};
+pub use reading::{FoundJournal, FoundStore, read_kept, read_store, read_store_by};

@@ -12,7 +12,7 @@ ghost use Rattle.kept_folder.specs.Folders.{journal_path, most};
 use crate::fault::StoreFault;
 use crate::heads::head_sum;
 use crate::paths::{block_paths, journal_path, lent};
-use audit_command::{Fault, ReadError, ReadFiles, tables_at};
+use audit_command::{Fault, OneThread, ReadError, ReadFiles, Walker, tables_by};
 use auditor::BlockTable;
 use kept_walk::{Kept, KeptError};
 use std::alloc::{AllocError, Global};
@@ -83,12 +83,14 @@ fn still_begins<F: ReadFiles>(
 }
 
 /// What is known of the blocks that a head names.
-fn tables_of<F: ReadFiles>(
+fn tables_of<K: Walker, F: ReadFiles>(
+    walker: &K,
     alloc: Global,
     files: &F,
     folder: &str,
     kept: &Kept,
 ) -> Result<Vec<BlockTable>, Fault>
+    requires ready { K.is_ready walker.now }
     ensures ok { IfOk result (λ tables. AreTablesAt (F.may_read files.now)
         (block_paths folder.now kept.now.folders) tables.items) }
     ensures err { IfErr result (λ fault. IsFirstFault (F.may_read files.now)
@@ -96,7 +98,7 @@ fn tables_of<F: ReadFiles>(
 {
     let paths = block_paths(alloc, folder, kept.folders())?;
     let directories = lent(alloc, &paths)?;
-    tables_at(alloc, files, &directories)
+    tables_by(walker, alloc, files, &directories)
 }
 
 /// What a journal of these bytes says.
@@ -115,32 +117,36 @@ fn journal_of(alloc: Global, bytes: &[u8]) -> Result<FoundJournal, StoreFault>
 }
 
 /// What a journal of these bytes says, and what is known of the blocks that its head names.
-fn store_of<F: ReadFiles>(
+fn store_of<K: Walker, F: ReadFiles>(
+    walker: &K,
     alloc: Global,
     files: &F,
     folder: &str,
     bytes: &[u8],
 ) -> Result<FoundStore, StoreFault>
+    requires ready { K.is_ready walker.now }
     ensures ok { IfOk result (λ found. IsStoreOf (F.may_read files.now) folder.now bytes.now
         found) }
     ensures err { IfErr result (λ fault.
         IsFaultOf (F.may_read files.now) folder.now bytes.now fault) }
 {
     let FoundJournal { kept, head } = journal_of(alloc, bytes)?;
-    match tables_of(alloc, files, folder, &kept) {
+    match tables_of(walker, alloc, files, folder, &kept) {
         Ok(tables) => Ok(FoundStore { kept, head, tables }),
         Err(fault) => Err(StoreFault::Files(fault)),
     }
 }
 
 /// What is read of a folder, unless its journal has changed behind that.
-fn read_once<F: ReadFiles>(
+fn read_once<K: Walker, F: ReadFiles>(
+    walker: &K,
     alloc: Global,
     files: &F,
     folder: &str,
     path: &str,
 ) -> Result<Option<FoundStore>, StoreFault>
-    requires { path.now ≡ journal_path folder.now }
+    requires ready { K.is_ready walker.now }
+    requires path { path.now ≡ journal_path folder.now }
     ensures ok { IfOk result (λ once. MatchOption once
         (IsChanging (F.may_read files.now) folder.now)
         (λ found. IsStoreAt (F.may_read files.now) folder.now found)) }
@@ -148,7 +154,7 @@ fn read_once<F: ReadFiles>(
         IsStoreFault (F.may_read files.now) folder.now fault) }
 {
     let bytes = read_journal(alloc, files, path)?;
-    let store = store_of(alloc, files, folder, &bytes);
+    let store = store_of(walker, alloc, files, folder, &bytes);
     if !still_begins(alloc, files, path, &bytes)? {
         return Ok(None);
     }
@@ -165,11 +171,13 @@ fn read_once<F: ReadFiles>(
 /// The store may run meanwhile. A journal that is refused, and a file that is missing, are told
 /// only if the journal is still the same. It takes the memory of the journal twice, and of the
 /// blocks.
-pub fn read_store<F: ReadFiles>(
+pub fn read_store_by<K: Walker, F: ReadFiles>(
+    walker: &K,
     alloc: Global,
     files: &F,
     folder: &str,
 ) -> Result<FoundStore, StoreFault>
+    requires ready { K.is_ready walker.now }
     // What is read is one journal and the blocks of its head, which it had before and behind them.
     ensures ok { IfOk result (λ found. IsStoreAt (F.may_read files.now) folder.now found) }
     // A fault is of such a journal, or it changed.
@@ -178,11 +186,24 @@ pub fn read_store<F: ReadFiles>(
 {
     let path = journal_path(alloc, folder)?;
     for turn in 0..TURNS {
-        if let Some(found) = read_once(alloc, files, folder, path.as_str())? {
+        if let Some(found) = read_once(walker, alloc, files, folder, path.as_str())? {
             return Ok(found);
         }
     }
     Err(StoreFault::Changes)
+}
+
+/// The same as [`read_store_by`], by the calling thread alone.
+pub fn read_store<F: ReadFiles>(
+    alloc: Global,
+    files: &F,
+    folder: &str,
+) -> Result<FoundStore, StoreFault>
+    ensures ok { IfOk result (λ found. IsStoreAt (F.may_read files.now) folder.now found) }
+    ensures err { IfErr result (λ fault.
+        IsStoreFault (F.may_read files.now) folder.now fault) }
+{
+    read_store_by(&OneThread, alloc, files, folder)
 }
 
 /// Reads the journal of a store alone, once: an append that is seen half is a torn end, and a store

@@ -49,8 +49,8 @@ pub record SpellsEvent (content : List ℕ) (event : Event) : Type 0 where
   pub fits : HasText event
   pub bounded : is_bounded event ≡ true
 
--- the content is that of a batch whose series are named by number: the kind 4, and its fields. These
--- names were given before it, and those after it.
+-- the content is that of a batch whose series are named by number: the kind 4, and its fields;
+-- these names were given before it, and those after it
 pub record SpellsNumbered (names : Names) (content : List ℕ) (runs : List Row) (after : Names)
     : Type 0 where
   pub fields : List ℕ

@@ -4,7 +4,8 @@ ghost use Rattle.std.specs.Prelude.{◌≡◌, ◌∷◌, false, IfOk, IsErrOf, 
 ghost use Rattle.journal.specs.Contents.{contents_in};
 ghost use Rattle.kept_walk.specs.Numbered.{AreBytes};
 ghost use Rattle.kept_walk.specs.Parts.{event_in, is_numbered, matcher_in, matchers_in};
-ghost use Rattle.kept_walk.specs.Refusals.{Builds, FindsChange, FindsChanges, FindsPlain, HasRefused};
+ghost use Rattle.kept_walk.specs.Refusals.{Builds, FindsChange, FindsChanges, FindsPlain};
+ghost use Rattle.kept_walk.specs.Refusals.{HasRefused};
 ghost use Rattle.kept_walk.specs.Refusals.{MayBeRefused, refused_at};
 
 use crate::error::KeptError;

@@ -3,7 +3,8 @@
 ghost use Rattle.std.specs.Prelude.{◌≡◌, IfOk};
 ghost use Rattle.kept_walk.specs.Fields as form;
 ghost use Rattle.kept_walk.specs.NumberedReading.{each_by, is_allowed, later_at, list_by, name_at};
-ghost use Rattle.kept_walk.specs.NumberedReading.{new_at, numbered_at, numbered_of, run_by, time_after};
+ghost use Rattle.kept_walk.specs.NumberedReading.{new_at, numbered_at, numbered_of, run_by};
+ghost use Rattle.kept_walk.specs.NumberedReading.{time_after};
 ghost use Rattle.kept_walk.specs.Outcome.{Gives};
 ghost use Rattle.kept_walk.specs.Reading.{all_of, labels_at};
 

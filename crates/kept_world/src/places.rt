@@ -27,10 +27,11 @@ pub(crate) fn places_of(alloc: Global, series: &[Series]) -> Result<Option<Place
 {
     let mut places = BTreeMap::new(alloc);
     for (place, one) in series.iter().enumerate() {
-        if place_of(&places, one.labels()).is_some() {
+        let labels = one.labels().try_clone()?;
+        let before = places.insert(labels, place)?;
+        if before.is_some() {
             return Ok(None);
         }
-        places.insert(one.labels().try_clone()?, place)?;
     }
     Ok(Some(places))
 }

@@ -1,6 +1,7 @@
 //! Which parts a reply names, and which of them nobody judged.
 
-ghost use Rattle.std.specs.Prelude.{◌≡◌, ◌≤◌, ◌==◌, ◌&&◌, not, length, map, option_map, slice_get, IfOk};
+ghost use Rattle.std.specs.Prelude.{◌≡◌, ◌≤◌, ◌==◌, ◌&&◌, not, length, map, option_map, slice_get};
+ghost use Rattle.std.specs.Prelude.{IfOk};
 ghost use Rattle.std.specs.List.{list_all, flat_map};
 ghost use Rattle.page_claims.specs.Judging.{skipped_in, names_of, same_name, times_named, is_among};
 ghost use Rattle.page_claims.specs.Judging.{names_each, is_of, is_valid, is_skip, is_found_valid};

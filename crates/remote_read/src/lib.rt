@@ -2,9 +2,9 @@
 //!
 //! A body is a message of Protocol Buffers, `prometheus.ReadRequest`; `snappy` gives it out of what
 //! was sent. [`read_queries`] gives its queries, or the first fault of the whole body, `U1` to
-//! `U5`, with its place. [`put_response`] writes a reply of samples, a result for each query. Ranges,
-//! kinds of matchers, names and patterns are the caller's to judge. Accepted types of replies are
-//! passed over, as is what else is not known; of hints the function's name is read.
+//! `U5`, with its place. [`put_response`] writes a reply of samples, a result for each query.
+//! Ranges, kinds of matchers, names and patterns are the caller's to judge. Accepted types of
+//! replies are passed over, as is what else is not known; of hints the function's name is read.
 //!
 //! ```
 //! // `up` from 0 to 100 ms.

@@ -2,8 +2,8 @@
 //!
 //! [`put_answer`] writes the rows of one answer as one result of `prometheus.ReadResponse`: a
 //! series for each row, its labels by name, its samples by time, and for each number that is kept
-//! the double that it is kept for, every bit of it. [`packed`] compresses the whole. What is written
-//! is read again as the series of these rows, by whoever reads Snappy and Protocol Buffers
+//! the double that it is kept for, every bit of it. [`packed`] compresses the whole. What is
+//! written is read again as the series of these rows, by whoever reads Snappy and Protocol Buffers
 //! (`specs/Sent.antt`).
 //!
 //! ```

@@ -14,10 +14,12 @@ use Rattle.snapshots.specs.Views.{Edition}
 use Rattle.snapshots.specs.Grows.{Shows, Keeps, SeesList}
 use Rattle.snapshots.proofs.Prefixes.{prefix_self, prefix_trans}
 
-module _ (book : Book) (opening : SnapshotParts) (asked : Event → ℕ → ℕ → Type 0) where
+module _ (book : Book) (opening : SnapshotParts) (asked : Event → ℕ → ℕ → Type 0)
+    (kept : List Entry → Type 0) where
   pub rises : (seat : ℕ) (v : List Entry) (x y : Edition)
-      → IsPrefix (list_of x.marks) (list_of y.marks) → Shows book opening asked y (list_of y.marks)
-      → TurnsAt (Keeps book opening asked) seat v x y (SeesList book opening asked)
+      → IsPrefix (list_of x.marks) (list_of y.marks)
+      → Shows book opening asked kept y (list_of y.marks)
+      → TurnsAt (Keeps book opening asked kept) seat v x y (SeesList book opening asked kept)
   rises seat v x y up of views h at = (
     list_of y.marks,
     (
@@ -34,10 +36,10 @@ module _ (book : Book) (opening : SnapshotParts) (asked : Event → ℕ → ℕ 
   )
 
   pub enters : (seat : ℕ) (v : List Entry)
-      → Turns (Keeps book opening asked) seat v (λ x. x) (SeesList book opening asked)
+      → Turns (Keeps book opening asked kept) seat v (λ x. x) (SeesList book opening asked kept)
   enters seat v x views h at = rises seat v x x (prefix_self (list_of x.marks)) h.0 views h at
 
-  pub admits : Admits (Keeps book opening asked) []
+  pub admits : Admits (Keeps book opening asked kept) []
   admits x views h = (
     h.0,
     λ seat v at. ⊎_elim (h.1 seat v)
@@ -46,8 +48,8 @@ module _ (book : Book) (opening : SnapshotParts) (asked : Event → ℕ → ℕ 
         (at_snoc views [] v seat at),
   )
 
-  pub starts : (x : Edition) → Shows book opening asked x (list_of x.marks)
-      → Keeps book opening asked x ([] ∷ [])
+  pub starts : (x : Edition) → Shows book opening asked kept x (list_of x.marks)
+      → Keeps book opening asked kept x ([] ∷ [])
   starts x of = (
     of,
     λ seat v at. ⊎_elim

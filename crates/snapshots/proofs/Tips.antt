@@ -162,18 +162,20 @@ module _ (book : Book) (opening : SnapshotParts) (idle : Bool) (group log : List
   listed = lists ∙ sym is_group.whole
 
   -- the version may be published, and shows the list of the group
-  module _ (asked : Event → ℕ → ℕ → Type 0) (x y : Edition) (t : SnapshotParts) (alike : t ≡ s) (shows : Shows book opening asked x (accepted group))
-      (y_is : y ≡ record { book = book; marks = log; parts = t }) (is_asked : AreAsked asked (list_of log)) where
-    pub shows_listed : (entries : List Entry) → list_of group ≡ entries → Shows book opening asked y entries
+  module _ (asked : Event → ℕ → ℕ → Type 0) (kept : List Entry → Type 0) (x y : Edition) (t : SnapshotParts) (alike : t ≡ s)
+      (shows : Shows book opening asked kept x (accepted group)) (y_is : y ≡ record { book = book; marks = log; parts = t })
+      (is_asked : AreAsked asked (list_of log)) (is_kept : kept (list_of group)) where
+    pub shows_listed : (entries : List Entry) → list_of group ≡ entries → Shows book opening asked kept y entries
     shows_listed entries same = (
       ap (λ (z : Edition). z.book) y_is,
       ap (λ (z : Edition). list_of z.marks) y_is ∙ (listed ∙ same),
       subst (λ (z : SnapshotParts). IsAfter opening entries z) (sym (ap (λ (z : Edition). z.parts) y_is ∙ alike))
           (subst (λ (z : List Entry). IsAfter opening z s) same is_group.stands.after),
       subst (λ (z : List Entry). AreAsked asked z) (listed ∙ same) is_asked,
+      subst kept same is_kept,
     )
 
-    pub may_publish : MayFollow book opening asked x y
+    pub may_publish : MayFollow book opening asked kept x y
     may_publish = (
       shows_listed (list_of y.marks) (sym (ap (λ (z : Edition). list_of z.marks) y_is ∙ listed)),
       (

@@ -12,26 +12,29 @@ use Rattle.snapshots.specs.Marks.{list_of}
 use Rattle.snapshots.specs.Replays.{IsAfter}
 use Rattle.snapshots.specs.Views.{Edition}
 
--- the version is of this store, has this list, its snapshot is what the list makes of the opening
--- one, and each event of the list was asked for
-abbrev pub Shows : Book → SnapshotParts → (Event → ℕ → ℕ → Type 0) → Edition → List Entry → Type 0
-Shows book opening asked x entries =
+-- The version is of this store and has this list, and its snapshot is what the list makes of the
+-- opening one. Each event of the list was asked for, and the list is kept.
+abbrev pub Shows : Book → SnapshotParts → (Event → ℕ → ℕ → Type 0) → (List Entry → Type 0)
+    → Edition → List Entry → Type 0
+Shows book opening asked kept x entries =
     (x.book ≡ book) × (list_of x.marks ≡ entries) × IsAfter opening entries x.parts
-    × AreAsked asked entries
+    × AreAsked asked entries × kept entries
 
 -- every published version shows its list, and what each handle has seen is a prefix of that
-abbrev pub Keeps : Book → SnapshotParts → (Event → ℕ → ℕ → Type 0) → Edition → List (List Entry)
-    → Type 0
-Keeps book opening asked x views =
-    Shows book opening asked x (list_of x.marks)
+abbrev pub Keeps : Book → SnapshotParts → (Event → ℕ → ℕ → Type 0) → (List Entry → Type 0)
+    → Edition → List (List Entry) → Type 0
+Keeps book opening asked kept x views =
+    Shows book opening asked kept x (list_of x.marks)
     × ((seat : ℕ) (v : List Entry) → get_elem? views seat ≡ some v → IsPrefix v (list_of x.marks))
 
 -- the version y may follow x: it shows its list, of which that of x is a prefix
-abbrev pub MayFollow : Book → SnapshotParts → (Event → ℕ → ℕ → Type 0) → Edition → Edition → Type 0
-MayFollow book opening asked x y =
-    Shows book opening asked y (list_of y.marks) × IsPrefix (list_of x.marks) (list_of y.marks)
+abbrev pub MayFollow : Book → SnapshotParts → (Event → ℕ → ℕ → Type 0) → (List Entry → Type 0)
+    → Edition → Edition → Type 0
+MayFollow book opening asked kept x y =
+    Shows book opening asked kept y (list_of y.marks)
+    × IsPrefix (list_of x.marks) (list_of y.marks)
 
 -- a handle that had seen v has seen w, the list that the version y shows, of which v is a prefix
-abbrev pub SeesList : Book → SnapshotParts → (Event → ℕ → ℕ → Type 0) → List Entry → Edition → Edition
-    → List Entry → Type 0
-SeesList book opening asked v x y w = Shows book opening asked y w × IsPrefix v w
+abbrev pub SeesList : Book → SnapshotParts → (Event → ℕ → ℕ → Type 0) → (List Entry → Type 0)
+    → List Entry → Edition → Edition → List Entry → Type 0
+SeesList book opening asked kept v x y w = Shows book opening asked kept y w × IsPrefix v w

@@ -8,9 +8,9 @@ ghost use Rattle.keeper.specs.Finding.{AreAll, FindsWorld, LeavesEvents};
 ghost use Rattle.snapshots.specs.Asking.{AreAsked};
 ghost use Rattle.snapshots.specs.Marks.{accepted, list_of};
 ghost use Rattle.snapshots.specs.Grows.{Shows};
-ghost use Rattle.snapshots.specs.Keeping.{kept_of, AreKeptBetween, IsGroup, IsHindered};
-ghost use Rattle.snapshots.specs.Keeping.{IsOfAllKept, IsOfKeeping, IsOfKeptBetween, MayBeKept};
-ghost use Rattle.snapshots.specs.Keeping.{OpensAsKept};
+ghost use Rattle.snapshots.specs.Keeping.{kept_of, AreKeptBetween, HeldIsKept, IsGroup};
+ghost use Rattle.snapshots.specs.Keeping.{IsHindered, IsOfAllKept, IsOfKeeping, IsOfKeptBetween};
+ghost use Rattle.snapshots.specs.Keeping.{MayBeKept, OpensAsKept};
 ghost use Rattle.snapshots.specs.Replays.{IsAfter};
 
 use crate::group::Group;
@@ -38,7 +38,7 @@ pub struct Book<J: Naming, R: Wait + Drop, K: Keeper + Drop = NoKeeper> {
 impl<J: Naming, R: Wait + Drop, K: Keeper + Drop> Model for Book<J, R, K> {
     ghost use Rattle.snapshots.specs.Marks.{accepted};
     ghost use Rattle.snapshots.specs.Grows.{Shows};
-    ghost use Rattle.snapshots.specs.Keeping.{kept_of, MayBeKept, OpensAsKept};
+    ghost use Rattle.snapshots.specs.Keeping.{kept_of, HeldIsKept, MayBeKept, OpensAsKept};
     ghost use Rattle.snapshots.specs.Views.{Published};
 
     ghost Value = { Published K };
@@ -50,10 +50,11 @@ impl<J: Naming, R: Wait + Drop, K: Keeper + Drop> Model for Book<J, R, K> {
     } };
 
     ghost invariant = { λ b.
-        Shows J.book J.opening J.asked b.press.desk.shown.value (accepted b.log)
+        Shows J.book J.opening J.asked J.kept b.press.desk.shown.value (accepted b.log)
         × K.holds b.keeper (kept_of J.before (accepted b.log))
         × OpensAsKept K.idle K.first J.before J.opening
-        × MayBeKept K.may J.asked J.opening J.before };
+        × MayBeKept K.may J.asked J.opening J.before
+        × HeldIsKept K.holds J.kept J.before };
 }
 
 impl<J: Naming, R: Wait + Drop, K: Keeper + Drop> Book<J, R, K> {
@@ -62,7 +63,9 @@ impl<J: Naming, R: Wait + Drop, K: Keeper + Drop> Book<J, R, K> {
         requires kept { K.holds keeper J.before }
         requires world { OpensAsKept K.idle K.first J.before J.opening }
         requires may { MayBeKept K.may J.asked J.opening J.before }
-        requires shown { Shows J.book J.opening J.asked press.desk.shown.value (accepted log) }
+        requires rule { HeldIsKept K.holds J.kept J.before }
+        requires shown { Shows J.book J.opening J.asked J.kept press.desk.shown.value
+            (accepted log) }
         requires empty { accepted log ≡ [] }
         ensures { result ≡ record {
           entries = accepted log;

@@ -2,13 +2,15 @@
 
 use std::marker::{Brand, PhantomData};
 
-/// Which store it is, the snapshot that it opened with, the events that were kept before, and what
-/// its callers have asked for. The call that opens a store is generic in it.
+/// Which store it is, the snapshot that it opened with, the events that were kept before, what its
+/// callers have asked for, and what its keeper has come to hold. The call that opens a store is
+/// generic in it.
 pub trait Naming {
     ghost use Rattle.std.specs.Prelude.{ℕ, List};
     ghost use Rattle.logbook.specs.Pages.{Book};
     ghost use Rattle.head.specs.Heads.{SnapshotParts};
     ghost use Rattle.head.specs.Worlds.{Event};
+    ghost use Rattle.snapshots.specs.declared.entry.Entry.{Entry};
 
     ghost book: { Book };
 
@@ -19,6 +21,9 @@ pub trait Naming {
     /// The event was asked for, under this number of a seat, as the event behind this many of the
     /// seat.
     ghost asked: { Event → ℕ → ℕ → Type 0 };
+
+    /// These entries are kept: a keeper of the store has come to hold them.
+    ghost kept: { List Entry → Type 0 };
 }
 
 impl Naming for Brand {
@@ -32,17 +37,22 @@ impl Naming for Brand {
     ghost before = { [] };
 
     ghost asked = { λ event seat place. Unit {0} };
+
+    ghost kept = { λ entries. Unit {0} };
 }
 
-/// The name of a store whose callers may ask for any event.
+/// The name of a store whose callers may ask for any event, and count all of it as kept.
 pub trait OpenNaming: Naming {
-    ghost use Rattle.std.specs.Prelude.{ℕ};
+    ghost use Rattle.std.specs.Prelude.{ℕ, List};
     ghost use Rattle.head.specs.Worlds.{Event};
+    ghost use Rattle.snapshots.specs.declared.entry.Entry.{Entry};
 
     ghost any: { (event : Event) (seat place : ℕ) → Self.asked event seat place };
+
+    ghost any_kept: { (entries : List Entry) → Self.kept entries };
 }
 
-/// The same name, under which any event may be asked for.
+/// The same name, under which any event may be asked for, and all counts as kept.
 pub struct Open<J: Naming> {
     of: PhantomData<J>,
 }
@@ -55,8 +65,12 @@ impl<J: Naming> Naming for Open<J> {
     ghost before = { J.before };
 
     ghost asked = { λ event seat place. Unit {0} };
+
+    ghost kept = { λ entries. Unit {0} };
 }
 
 impl<J: Naming> OpenNaming for Open<J> {
     ghost any = { λ event seat place. tt };
+
+    ghost any_kept = { λ entries. tt };
 }

@@ -7,7 +7,7 @@ ghost use mathlib.Core.List.{IsPrefix};
 ghost use Rattle.keeper.specs.Finding.{AreAll, AreAllAndSome, LeavesEvents};
 ghost use Rattle.snapshots.specs.Marks.{accepted, list_of};
 ghost use Rattle.snapshots.specs.Grows.{Shows, MayFollow};
-ghost use Rattle.snapshots.specs.Keeping.{kept_of, IsGroup, IsHindered, IsOfAllKept};
+ghost use Rattle.snapshots.specs.Keeping.{kept_of, HeldIsKept, IsGroup, IsHindered, IsOfAllKept};
 ghost use Rattle.snapshots.specs.Keeping.{IsOfKeeping};
 ghost use Rattle.snapshots.specs.Replays.{events_in};
 ghost use Rattle.snapshots.specs.declared.entry.Entry.{Entry as Listed};
@@ -31,7 +31,7 @@ pub type Press<J> = Writer<Version, Version, [Entry; 0], Grows<J>>;
 /// Publishes one whole version. Where it is refused, the version is left pending, and the next one
 /// overtakes it.
 pub fn publish<J: Naming, R: Wait>(rt: &R, mut press: Press<J>, next: Version) -> (Press<J>, bool)
-    requires { MayFollow J.book J.opening J.asked press.desk.shown.value next }
+    requires { MayFollow J.book J.opening J.asked J.kept press.desk.shown.value next }
     ensures { MatchBool result.1 (result.0.desk.shown.value ≡ next) (result.0.desk.shown.value
         ≡ press.desk.shown.value) }
 {
@@ -100,11 +100,13 @@ pub fn publish_group<'a, J: Naming, R: Wait, K: Keeper>(
 ) -> (MutexGuard<'a, Tip<J, K>>, Result<(), CommitError>)
     requires held { K.holds keeper.old (kept_of J.before (accepted log.old)) }
     requires may { K.may (kept_of J.before (list_of group.log)) }
+    requires rule { HeldIsKept K.holds J.kept J.before }
     requires group { IsGroup J.opening K.idle group.log
         (arc_value group.standing.snapshot) group.standing.counts.items group.records.items }
     requires alike { arc_value group.shown ≡ arc_value group.standing.snapshot }
     requires follows { accepted group.log ≡ accepted log.old }
-    requires shown { Shows J.book J.opening J.asked press.old.desk.shown.value (accepted log.old) }
+    requires shown { Shows J.book J.opening J.asked J.kept press.old.desk.shown.value
+        (accepted log.old) }
     // What is kept is what is published.
     ensures held { K.holds keeper.new (kept_of J.before (accepted log.new)) }
     // A closed keeper stays as it is, and nothing is published.
@@ -121,7 +123,8 @@ pub fn publish_group<'a, J: Naming, R: Wait, K: Keeper>(
         (λ _. accepted log.new ≡ accepted log.old) }
     // What was published stays, and what is new comes behind it.
     ensures begins { IsPrefix (accepted log.old) (accepted log.new) }
-    ensures shown { Shows J.book J.opening J.asked press.new.desk.shown.value (accepted log.new) }
+    ensures shown { Shows J.book J.opening J.asked J.kept press.new.desk.shown.value
+        (accepted log.new) }
     ensures parts { MatchResult result.1
         (λ _. press.new.desk.shown.value.parts ≡ arc_value group.shown)
         (λ _. press.new.desk.shown.value ≡ press.old.desk.shown.value) }

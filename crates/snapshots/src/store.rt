@@ -1,18 +1,19 @@
 //! Stores, and how one is opened.
 
 ghost use Rattle.std.specs.Prelude.{◌≡◌, ◌≤◌, ◌<◌, ◌↔◌, [], length, map, vec_len, IfOk, IfErr};
-ghost use Rattle.std.specs.Prelude.{MatchBool, MatchResult, Ok};
+ghost use Rattle.std.specs.Prelude.{List, MatchBool, MatchResult, Ok};
 ghost use Rattle.std.specs.Arc.{arc_value};
 ghost use Rattle.std.specs.List.{All};
 ghost use Rattle.head.specs.Blocks.{part_in, opening_of};
 ghost use Rattle.head.specs.Heads.{world_of};
 ghost use Rattle.head.specs.Worlds.{replayed};
-ghost use Rattle.snapshots.specs.Keeping.{MayBeKept, OpensAsKept};
+ghost use Rattle.snapshots.specs.Keeping.{HeldIsKept, MayBeKept, OpensAsKept};
 ghost use Rattle.snapshots.specs.Rules.{end_of};
 ghost use Rattle.snapshots.specs.Views.{nothing};
 ghost use Rattle.snapshots.specs.Grows.{Shows};
 ghost use Rattle.snapshots.specs.Seats.{AreFresh, IsRoom};
 ghost use Rattle.snapshots.specs.Standings.{StandsFor};
+ghost use Rattle.snapshots.specs.declared.entry.Entry.{Entry as Listed};
 
 use crate::book::Book;
 use crate::committer::Committer;
@@ -67,7 +68,8 @@ fn press_over<J: Naming>(
     requires room { (0 < passes) × (passes ≤ 64) }
     requires opening { arc_value opening.now ≡ J.opening }
     requires empty { log.now ≡ [] }
-    ensures { IfOk result (λ p. Shows J.book J.opening J.asked p.desk.shown.value []) }
+    requires kept { J.kept [] }
+    ensures { IfOk result (λ p. Shows J.book J.opening J.asked J.kept p.desk.shown.value []) }
 {
     let first = Version::of(Arc::try_clone(opening)?, log);
     let second = first.share()?;
@@ -151,6 +153,8 @@ impl Store {
     ) -> Result<(Committer<J, R>, Vec<Pass<J>>, Vec<Seat<J>>), OpenError>
         requires book { self.seen.book ≡ J.book }
         requires opening { opening_of (map part_in blocks.items) ≡ J.opening }
+        // In memory alone all counts as kept.
+        requires rule { (entries : List Listed) → J.kept entries }
         ensures room { MatchResult result (λ _. IsRoom passes seats) (λ e.
             (e ≡ OpenError.BadPasses) ↔ (¬ IsRoom passes seats)) }
         ensures few { MatchResult result (λ _. length blocks.items ≤ 63) (λ e.
@@ -191,6 +195,8 @@ impl Store {
         requires world { replayed K.first J.before ≡ Ok (world_of J.opening) }
         // The keeper may be handed what is asked for, and nothing else.
         requires may { MayBeKept K.may J.asked J.opening J.before }
+        // What it holds is kept, and nothing else is known to be.
+        requires rule { HeldIsKept K.holds J.kept J.before }
         ensures room { MatchResult result (λ _. IsRoom passes seats) (λ e.
             (e ≡ OpenError.BadPasses) ↔ (¬ IsRoom passes seats)) }
         ensures few { IfErr result (λ e. ¬ (e ≡ OpenError.Limit)) }
@@ -220,6 +226,7 @@ impl Store {
         requires kept { K.holds keeper J.before }
         requires world { OpensAsKept K.idle K.first J.before J.opening }
         requires may { MayBeKept K.may J.asked J.opening J.before }
+        requires rule { HeldIsKept K.holds J.kept J.before }
         ensures passes { IfOk result (λ r.
             (vec_len r.1 ≡ passes) × All (λ p. p ≡ nothing) r.1.items) }
         ensures seats { IfOk result (λ r. (vec_len r.2 ≡ seats) × AreFresh 0 r.2.items) }

@@ -428,16 +428,18 @@ impl<J: Naming, K: Keeper> Tip<J, K> {
             (arc_value group.standing.snapshot) group.standing.counts.items group.records.items }
         requires alike { arc_value group.shown ≡ arc_value group.standing.snapshot }
         requires held { K.holds keeper.now (kept_of J.before (list_of group.log)) }
+        requires kept { J.kept (list_of group.log) }
         // If the right to take it back is given up, the group stays.
         requires settles { (token : K.Settled)
             → ((events more : List Event) → K.kept_last keeper.now last events more
             → K.stays token (events ++ more))
             → K.stays token (kept_of J.before (list_of group.log)) }
-        requires shown { Shows J.book J.opening J.asked press.old.desk.shown.value
+        requires shown { Shows J.book J.opening J.asked J.kept press.old.desk.shown.value
             (accepted group.log) }
         ensures list { IfOk result (λ log. accepted log ≡ list_of group.log) }
         ensures shown { MatchResult result
-            (λ log. Shows J.book J.opening J.asked press.new.desk.shown.value (accepted log))
+            (λ log. Shows J.book J.opening J.asked J.kept press.new.desk.shown.value
+            (accepted log))
             (λ _. press.new.desk.shown.value ≡ press.old.desk.shown.value) }
         ensures parts { OnOk result
             (press.new.desk.shown.value.parts ≡ arc_value group.shown) }
@@ -469,7 +471,7 @@ impl<J: Naming, K: Keeper> Tip<J, K> {
             press,
             next,
             |press: Press<J>, next: Version| -> (Press<J>, bool)
-                requires { MayFollow J.book J.opening J.asked press.desk.shown.value next }
+                requires { MayFollow J.book J.opening J.asked J.kept press.desk.shown.value next }
                 ensures { MatchBool result.1 (result.0.desk.shown.value ≡ next)
                     (result.0.desk.shown.value ≡ press.desk.shown.value) }
             { publish(rt, press, next) },

@@ -115,7 +115,7 @@ impl Absorb<Version> for Version {
 }
 
 /// The rule of the published versions: each is of the store `J`, each event of its list was asked
-/// for, and lists only grow.
+/// for, the list is kept, and lists only grow.
 pub struct Grows<J> {
     of: PhantomData<J>,
 }
@@ -124,7 +124,7 @@ impl<J: Naming> Protocol<Version, [Entry; 0]> for Grows<J> {
     ghost use Rattle.std.specs.Prelude.{[]};
     ghost use Rattle.snapshots.specs.Grows.{Keeps};
 
-    ghost holds = { Keeps J.book J.opening J.asked };
+    ghost holds = { Keeps J.book J.opening J.asked J.kept };
 
     ghost first = { [] };
 }
@@ -137,5 +137,5 @@ pub struct Sees<J> {
 impl<J: Naming> Outcome<Version, [Entry; 0]> for Sees<J> {
     ghost use Rattle.snapshots.specs.Grows.{SeesList};
 
-    ghost then = { SeesList J.book J.opening J.asked };
+    ghost then = { SeesList J.book J.opening J.asked J.kept };
 }

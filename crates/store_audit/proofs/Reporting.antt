@@ -1,10 +1,10 @@
 -- What a report says of searches.
-use Rattle.std.proofs.Common.{◌≡◌, ◌-◌, ◌+◌, ◌++◌, ◌∷◌, [], ℕ, Bool, true, false, List, length, Option, Some, None, refl, sym, ap, subst, ◌∙◌, arith}
+use Rattle.std.proofs.Common.{◌≡◌, ◌≤◌, ◌-◌, ◌+◌, ◌++◌, ◌∷◌, [], ℕ, Bool, true, false, List, length, take, Option, Some, None, refl, sym, ap, subst, ◌∙◌, arith}
 use Rattle.std.specs.Prelude.{unwrap_or, slice_get, if◌then◌else◌}
 use Rattle.std.specs.List.{flat_map}
 use Rattle.std.proofs.lemmas.List.{length-append}
 use Rattle.std.proofs.lemmas.Option.{slice_get_read}
-use Rattle.std.proofs.Math.Seq.{get_or-append_seam}
+use Rattle.std.proofs.Math.Seq.{get_or-append_seam, take-length}
 use Rattle.labels.specs.Parts.{Part}
 use Rattle.labels.specs.Rows.{Row, AreRows}
 use Rattle.labels.proofs.Times.{true_not_false}
@@ -21,9 +21,11 @@ use Rattle.whole_audit.specs.declared.lines.StateLine.{StateLine}
 use Rattle.whole_audit.specs.declared.lines.StateSubject.TheVariants as of
 use Rattle.kept_walk.specs.Kept.{Event}
 use Rattle.kept_world.specs.Changes.{LeadsTo}
-use Rattle.kept_world.specs.States.{State, numbered, shown}
+use Rattle.kept_world.specs.States.{State, numbered, shown, state_after}
+use Rattle.reply_state.specs.Searches.{AreRightIn}
 use Rattle.reply_state.proofs.Rights.{whole_when, listed_when}
-use Rattle.store_audit.specs.Reports.{ArePlaces, IsEarlier, IsFound, IsReport, has_right_rows, is_right_line}
+use Rattle.store_audit.specs.Reports.{AreLinesAt, ArePlaces, IsEarlier, IsFound, IsReport}
+use Rattle.store_audit.specs.Reports.{has_right_rows, is_right_line}
 use Rattle.store_audit.specs.declared.judging.StateReport.{StateReport}
 
 -- THE LINE OF THE ROWS
@@ -127,3 +129,24 @@ module _ (query : QueryView) (reply : Reply) (since : ℕ) (first : State) (even
     lines = (s, leads, lines);
     counted = m ∙ n;
   }
+
+  -- a report of the last state, with the lines over that
+  pub is_last : (report : StateReport) (many : ℕ) (s : State) → many ≡ length events → since ≤ many
+      → state_after events first ≡ Some s → AreRightIn query reply.parts.items s
+      → AreStateLines s.blocks (numbered 1 (shown s.head)) query reply report.lines.items
+      → report.found ≡ Some many → report.earlier ≡ None → report.told ≡ many
+      → report.events ≡ many → IsReport query reply since first events report
+  is_last report many s m after leads right lines f e t n =
+      let at : LeadsTo first events many s =
+      ap (λ (es : List Event). state_after es first)
+      (ap (λ (k : ℕ). take k events) m ∙ take-length events)
+      ∙ leads in
+      record {
+        found = subst (λ (o : Option ℕ). IsFound query reply since first events o report.told) (sym f)
+            (t, (after, omega (arith, m), (s, at, right)));
+        earlier = subst (λ (o : Option ℕ). IsEarlier query reply first events o report.earlier) (sym f)
+            e;
+        lines = subst (λ (k : ℕ). AreLinesAt query reply first events k report.lines.items) (sym t)
+            (s, at, lines);
+        counted = n ∙ m;
+      }

@@ -7,12 +7,15 @@ use Rattle.whole_audit.specs.Grading.{is_right}
 use Rattle.whole_audit.specs.StateLines.{AreStateLines}
 use Rattle.whole_audit.specs.declared.lines.StateLine.{StateLine}
 use Rattle.kept_walk.specs.Kept.{Event, Series, Store}
+use Rattle.kept_world.specs.Births.{AreBornBy}
 use Rattle.kept_world.specs.Changes.{IsRefusedAt, LeadsTo}
 use Rattle.kept_world.specs.Sound.{IsSoundHead, started}
-use Rattle.kept_world.specs.States.{State, numbered, shown}
+use Rattle.kept_world.specs.States.{State, numbered, shown, state_after}
 use Rattle.reply_state.specs.Searches.{AreRightIn, IsWholeIn, Searches}
 use Rattle.state_search.specs.declared.search.Search.TheVariants as search
 use Rattle.store_audit.specs.declared.judging.Beginning.{Beginning}
+use Rattle.store_audit.specs.declared.judging.Reached.{Reached}
+use Rattle.store_audit.specs.declared.judging.Reached.TheVariants.{Last, NoHead, NoEvent}
 use Rattle.store_audit.specs.declared.judging.StateReport.{StateReport}
 use Rattle.store_audit.specs.declared.judging.StoreJudgement.{StoreJudgement}
 use Rattle.store_audit.specs.declared.judging.StoreJudgement.TheVariants.{Told, BadHead, BadEvent}
@@ -69,6 +72,14 @@ IsJudgement query reply since store blocks judgement =
     IsJudgementOf query reply since store.head (first_of store blocks) store.events judgement
 
 -- WHAT THE CODE KNOWS ON THE WAY
+
+-- where events lead to: the last state, whose head has what they brought; or no store has the head,
+-- or an event is the first that the state before it refuses
+abbrev pub IsReached : List Series → State → List Event → Reached → Type 0
+IsReached head first events (Last s) =
+    (state_after events first ≡ Some s) × AreBornBy s.number s.head
+IsReached head first events NoHead = IsSoundHead head → ⊥
+IsReached head first events (NoEvent at) = IsRefusedAt first events at
 
 -- a line that names no flaw
 abbrev pub is_right_line : Option StateLine → Bool

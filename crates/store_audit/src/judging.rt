@@ -1,8 +1,9 @@
 //! Judging a reply over a kept store.
 
-ghost use Rattle.std.specs.Prelude.{◌≡◌, ◌≤◌, ℕ, [], IfOk, IfNone, IfSome, None, Some, length};
-ghost use Rattle.std.specs.Prelude.{if◌then◌else◌, unwrap_or};
+ghost use Rattle.std.specs.Prelude.{◌≡◌, ◌≤◌, ℕ, List, [], IfOk, IfErr, IfNone, IfSome, None, Some};
+ghost use Rattle.std.specs.Prelude.{if◌then◌else◌, unwrap_or, length};
 ghost use Rattle.whole_audit.specs.StateLines.{AreStateLines};
+ghost use Rattle.kept_walk.specs.Kept.{Event};
 ghost use Rattle.kept_world.specs.Births.{AreBornBy};
 ghost use Rattle.kept_world.specs.Changes.{events_of};
 ghost use Rattle.kept_world.specs.Sound.{IsSoundHead};
@@ -10,7 +11,7 @@ ghost use Rattle.kept_world.specs.States.{State, numbered, shown, state_after};
 ghost use Rattle.reply_state.specs.Searches.{AreRightIn, Searches};
 ghost use Rattle.state_search.specs.declared.search.Search.TheVariants.{Nowhere};
 ghost use Rattle.store_audit.specs.Reports.{AreLinesAt, ArePlaces, IsJudgement, IsJudgementOf};
-ghost use Rattle.store_audit.specs.Reports.{IsReport, first_in, has_right_rows};
+ghost use Rattle.store_audit.specs.Reports.{IsReached, IsReport, first_in, has_right_rows};
 
 use crate::copies::{copied_head, copied_tables};
 use block_walk::Table;
@@ -21,7 +22,7 @@ use reply_reader::Reply;
 use reply_state::find_parts;
 use state_search::Search;
 use std::alloc::{AllocError, Global};
-use whole_audit::{StateLine, state_lines};
+use whole_audit::{StateLine, are_right, state_lines};
 
 /// What is said of a reply over a store.
 #[derive(Drop)]
@@ -86,23 +87,41 @@ fn first_world(alloc: Global, beginning: Beginning) -> Result<Option<World>, All
     Ok(World::start(alloc, floor, head, tables)?)
 }
 
-/// The world that changes lead to; `None` if there is none.
+/// Where changes lead to.
+#[derive(Drop)]
+enum Reached {
+    /// The world after them.
+    Last(World),
+    /// No store has such a head.
+    NoHead,
+    /// The change at this place, from 0, is the first that is refused.
+    NoEvent(usize),
+}
+
+/// Where changes lead to from a beginning.
 fn world_after(
     alloc: Global,
     beginning: Beginning,
     changes: &[Change],
-) -> Result<Option<World>, AllocError>
-    ensures reached { IfOk result (λ world. IfSome world (λ s.
-        state_after (events_of changes.now) (first_in beginning) ≡ Some s)) }
-    ensures born { IfOk result (λ world. IfSome world (λ s. AreBornBy s.number s.head)) }
+) -> Result<Reached, AllocError>
+    ensures { IfOk result (IsReached beginning.head.items (first_in beginning)
+        (events_of changes.now)) }
 {
     match first_world(alloc, beginning)? {
         Some(world) => match world.replay(alloc, changes)? {
-            Replay::Last(world) => Ok(Some(world)),
-            Replay::Refused(_) => Ok(None),
+            Replay::Last(world) => Ok(Reached::Last(world)),
+            Replay::Refused(at) => Ok(Reached::NoEvent(at)),
         },
-        None => Ok(None),
+        None => Ok(Reached::NoHead),
     }
+}
+
+/// The head of a world, as a part.
+fn head_of(alloc: Global, world: &World) -> Result<Table, AllocError>
+    requires { AreBornBy world.now.number world.now.head }
+    ensures { IfOk result (λ head. head ≡ numbered 1 (shown world.now.head)) }
+{
+    Ok(world.head_at(alloc, world.number())?)
 }
 
 /// The lines of a reply over a world.
@@ -116,7 +135,7 @@ fn lines_of(
     ensures { IfOk result (λ lines. AreStateLines world.now.blocks
         (numbered 1 (shown world.now.head)) query.now reply lines.items) }
 {
-    let head = world.head_at(alloc, world.number())?;
+    let head = head_of(alloc, world)?;
     Ok(state_lines(alloc, world.blocks(), &head, query, reply)?)
 }
 
@@ -134,8 +153,8 @@ fn lines_after(
         × AreStateLines s.blocks (numbered 1 (shown s.head)) query.now reply lines.items) }
 {
     match world_after(alloc, beginning, changes)? {
-        Some(world) => Ok(lines_of(alloc, &world, query, reply)?),
-        None => Err(AllocError),
+        Reached::Last(world) => Ok(lines_of(alloc, &world, query, reply)?),
+        Reached::NoHead | Reached::NoEvent(_) => Err(AllocError),
     }
 }
 
@@ -212,6 +231,50 @@ fn search_since(
     }
 }
 
+fn is_batch(change: &Change) -> bool {
+    match change {
+        Change::Batch(_) => true,
+        Change::Deletion(_, _, _) | Change::Cut(_) => false,
+    }
+}
+
+/// After how many changes the last run of batches begins.
+fn last_run_of(changes: &[Change]) -> usize {
+    let mut from = 0;
+    for (at, change) in changes.iter().enumerate() {
+        if !is_batch(change) {
+            from = at + 1;
+        }
+    }
+    from
+}
+
+/// Searches as [`search_since`] does, but first in the last run of batches alone: most replies are
+/// right of a state of that, and then no other state is looked at.
+fn search_newest(
+    alloc: Global,
+    beginning: &Beginning,
+    changes: &[Change],
+    query: &Query,
+    reply: &Reply,
+    since: usize,
+) -> Result<Option<Search>, AllocError>
+    ensures none { IfOk result (λ search. IfNone search
+        (IsSoundHead beginning.now.head.items → ⊥)) }
+    ensures some { IfOk result (λ search. IfSome search
+        (Searches (AreRightIn query.now reply.now.parts.items) since (first_in beginning.now)
+        (events_of changes.now))) }
+{
+    let late = last_run_of(changes);
+    if since < late {
+        match search_since(alloc, beginning, changes, query, reply, late)? {
+            Some(Search::Found(at)) => return Ok(Some(Search::Found(at))),
+            Some(Search::Nowhere) | Some(Search::Refused(_)) | None => {}
+        }
+    }
+    search_since(alloc, beginning, changes, query, reply, since)
+}
+
 /// Searches for an earlier state, where there is none from `since` events on. The first search has
 /// begun there too, so there is such a head; if not, this fails as if memory ran out.
 fn search_before(
@@ -264,7 +327,8 @@ fn judge_before(
     }
 }
 
-fn judge(
+/// Judges a reply over all states from `since` events on, the newest run of batches first.
+fn judge_all(
     alloc: Global,
     beginning: Beginning,
     changes: &[Change],
@@ -275,7 +339,7 @@ fn judge(
     ensures { IfOk result (λ judgement. IsJudgementOf query.now reply since
         beginning.head.items (first_in beginning) (events_of changes.now) judgement) }
 {
-    match search_since(alloc, &beginning, changes, query, &reply, since)? {
+    match search_newest(alloc, &beginning, changes, query, &reply, since)? {
         None => Ok(StoreJudgement::BadHead),
         Some(Search::Refused(at)) => Ok(StoreJudgement::BadEvent(at)),
         Some(Search::Found(at)) => {
@@ -288,13 +352,68 @@ fn judge(
     }
 }
 
+/// The report over the last state, that after so many events, if all that a reply says of parts is
+/// right of that; else the reply.
+fn judge_last(
+    alloc: Global,
+    world: World,
+    events: usize,
+    query: &Query,
+    reply: Reply,
+    since: usize,
+) -> Result<Result<StateReport, Reply>, AllocError>
+    requires { AreBornBy world.number world.head }
+    ensures told { IfOk result (λ said. IfOk said (λ report. (first : State) (es : List Event)
+        → events ≡ length es → state_after es first ≡ Some world
+        → IsReport query.now reply since first es report)) }
+    ensures back { IfOk result (λ said. IfErr said (λ same. same ≡ reply)) }
+{
+    let head = head_of(alloc, &world)?;
+    let parts = reply.parts.as_slice();
+    if events < since || !are_right(alloc, world.blocks(), &head, query, parts)? {
+        return Ok(Err(reply));
+    }
+    let lines = state_lines(alloc, world.blocks(), &head, query, reply)?;
+    Ok(Ok(StateReport {
+        lines,
+        found: Some(events),
+        earlier: None,
+        told: events,
+        events,
+    }))
+}
+
+fn judge(
+    alloc: Global,
+    beginning: Beginning,
+    changes: &[Change],
+    query: &Query,
+    reply: Reply,
+    since: usize,
+) -> Result<StoreJudgement, AllocError>
+    ensures { IfOk result (λ judgement. IsJudgementOf query.now reply since
+        beginning.head.items (first_in beginning) (events_of changes.now) judgement) }
+{
+    let copy = copied(alloc, &beginning)?;
+    match world_after(alloc, copy, changes)? {
+        Reached::NoHead => Ok(StoreJudgement::BadHead),
+        Reached::NoEvent(at) => Ok(StoreJudgement::BadEvent(at)),
+        Reached::Last(world) => {
+            match judge_last(alloc, world, changes.len(), query, reply, since)? {
+                Ok(report) => Ok(StoreJudgement::Told(report)),
+                Err(reply) => judge_all(alloc, beginning, changes, query, reply, since),
+            }
+        }
+    }
+}
+
 /// Judges a reply over a store: what its journal says, and its blocks. Not before `since` events,
 /// it finds the newest state of which all that the reply says of parts is right, and gives the
 /// lines over that state; if there is none, those over the last, and it finds a state before of
 /// which the whole reply is right, if there is one.
 ///
-/// It replays the changes twice, and copies the head and the blocks once; if it finds no state that
-/// is not before `since` events, it does so once more.
+/// It copies the head and the blocks, and replays the changes, once, if the reply is right of the
+/// last state: that is tried first. Then the last run of batches is, and then each other.
 pub fn judge_store(
     alloc: Global,
     kept: Kept,

@@ -28,7 +28,7 @@ use Rattle.store_backup.specs.declared.error.CopyFault.{CopyFault}
 use Rattle.store_backup.specs.declared.error.CopyFault.TheVariants.{Source}
 use Rattle.store_backup.specs.declared.error.CopyFault.TheVariants as faults
 use Rattle.store_backup.specs.Copies.{DeniesRead, IsOfTarget, IsTaken}
-use Rattle.store_backup.specs.Reading.{DeniesSource, IsOfStart}
+use Rattle.store_backup.specs.Reading.{DeniesSource, HasChanged, IsOfStart}
 
 -- whether one text begins with another
 
@@ -157,3 +157,46 @@ not_taken shows kept failed old new again fault other taken (inr (inl (inr (inr 
     no_taken fault other (faults.Source Medium) taken e x.0 (λ none. absurd none)
 not_taken shows kept failed old new again fault other taken (inr (inr x)) e =
     no_taken fault other (faults.Source x.4.0) taken e x.4.1 (λ none. absurd none)
+
+-- what is said of a target tells of no change of the source
+
+pub not_changed : {X : Type 0} (fault : CopyFault) → IsTaken fault ⊎ IsOfTarget fault
+    → fault ≡ faults.Changed → X
+not_changed fault (inl (inl is)) changed = cc
+not_changed fault (inl (inr is)) changed = cc
+not_changed fault (inr (inl is)) changed = cc
+not_changed fault (inr (inr x)) changed = let is = x.1 in cc
+
+-- and the source has changed if it is said to
+
+pub has_changed : {F : Type 0} (shows : F → List ℕ → Option (List ℕ) → Type 0)
+    (kept : F → List ℕ → ℕ → Type 0) (failed : F → Bool) (old new again : F)
+    (fault : CopyFault)
+    → IsTaken fault ⊎ (IsOfTarget fault ⊎ (DeniesSource shows kept failed new again fault
+    ⊎ DeniesRead shows kept old new fault)) → fault ≡ faults.Changed
+    → HasChanged shows kept new again
+has_changed shows kept failed old new again fault (inl (inl is)) changed = cc
+has_changed shows kept failed old new again fault (inl (inr is)) changed = cc
+has_changed shows kept failed old new again fault (inr (inl (inl is))) changed = cc
+has_changed shows kept failed old new again fault (inr (inl (inr x))) changed =
+    let is = x.1 in cc
+has_changed shows kept failed old new again fault (inr (inr (inl (inl x)))) changed = x.1
+has_changed shows kept failed old new again fault (inr (inr (inl (inr (inl (inl (inl x)))))))
+    changed = let is = x.0 in cc
+has_changed shows kept failed old new again fault (inr (inr (inl (inr (inl (inl (inr x)))))))
+    changed = let is = x.0 in cc
+has_changed shows kept failed old new again fault (inr (inr (inl (inr (inl (inr x)))))) changed =
+    let is = x.1 in cc
+has_changed shows kept failed old new again fault (inr (inr (inl (inr (inr (inl x)))))) changed =
+    let is = x.0 in cc
+has_changed shows kept failed old new again fault (inr (inr (inl (inr (inr (inr x)))))) changed =
+    let is = x.0 in cc
+has_changed shows kept failed old new again fault (inr (inr (inr x))) changed =
+    let is = x.4.1 in cc
+
+pub not_of_found : {X : Type 0} (P : StartError → Type 0) (fault : CopyFault)
+    → IsOfTarget fault ⊎ ((cause : StartError) × (fault ≡ Source cause) × P cause)
+    → fault ≡ faults.Changed → X
+not_of_found P fault (inl (inl is)) changed = cc
+not_of_found P fault (inl (inr x)) changed = let is = x.1 in cc
+not_of_found P fault (inr x) changed = let is = x.1 in cc

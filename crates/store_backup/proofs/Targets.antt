@@ -259,6 +259,8 @@ module _ {F : Type 0} (shows : F → List ℕ → Option (List ℕ) → Type 0)
     blocks = c.blocks;
     begins = begins_later shows kept sound moment left_since only_now
         (copy_of saved parts c.world) old mid new before c.begins;
+    places = c.places;
+    says = c.says;
   }
 
   pub may_later : (saved : Saved) (parts : List BlockPart) (events : List Event) (old mid new : F)

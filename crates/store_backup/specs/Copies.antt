@@ -6,17 +6,18 @@ use Rattle.data_folder.specs.States.{HasStore as HasFilesOf, Named}
 use Rattle.data_folder.specs.Sweeping.{KeepsForeign}
 use Rattle.head.specs.Heads.{BlockPart}
 use Rattle.head.specs.Worlds.{Event, World, replayed}
-use Rattle.head_record.specs.Saved.{Saved}
+use Rattle.head_record.specs.Saved.{Place, Saved}
 use Rattle.store_folder.specs.Origins.{Origin}
 use Rattle.store_folder.specs.Starting.{DeniesStart}
 use Rattle.store_folder.specs.States.{origin_of}
 use Rattle.store_folder.specs.declared.error.RollFault.{RollFault}
 use Rattle.store_folder.specs.declared.error.StartError.{StartError}
 use Rattle.store_joiner.specs.Finds.{Finds, FindsNow, other_of}
+use Rattle.store_joiner.specs.Stores.{SaysMeaning}
 use Rattle.store_backup.specs.declared.copying.Copied.{Copied}
 use Rattle.store_backup.specs.declared.error.CopyFault.{CopyFault}
 use Rattle.store_backup.specs.declared.error.CopyFault.TheVariants as faults
-use Rattle.store_backup.specs.Reading.{IsRead, IsSettled}
+use Rattle.store_backup.specs.Reading.{IsRead}
 
 -- what is left has no journal, or one of these contents and these files
 abbrev pub NoneOrWhole : List Named → List (List ℕ) → Left → Type 0
@@ -45,8 +46,9 @@ abbrev pub copy_of : Saved → List BlockPart → World → Origin
 copy_of saved parts w = other_of (origin_of saved parts) w
 
 -- The store of this head, these blocks and these events was copied from old to new: the events are
--- accepted, and a start finds their world, in which the values mean what they meant. What is told
--- is how many events there are, and how many blocks their world has.
+-- accepted, and a start finds their world, in which the values mean what they meant, as the head
+-- and each block say. What is told is how many events there are, and how many blocks their world
+-- has.
 pub record IsCopied {F : Type 0} (shows : F → List ℕ → Option (List ℕ) → Type 0)
     (kept : F → List ℕ → ℕ → Type 0) (moment : F → ℕ)
     (left_since : F → ℕ → Left → Type 0) (saved : Saved) (parts : List BlockPart)
@@ -57,6 +59,8 @@ pub record IsCopied {F : Type 0} (shows : F → List ℕ → Option (List ℕ) �
   pub events : told.events ≡ length late
   pub blocks : told.blocks ≡ world.blocks
   pub begins : Begins shows kept moment left_since (copy_of saved parts world) old new
+  pub places : List Place
+  pub says : SaysMeaning shows kept saved.values places new
 
 -- The store was not copied: nothing was changed; or its events are accepted, and the store of their
 -- world was to be begun.
@@ -90,26 +94,3 @@ abbrev pub TellsSome : Copied → Type 0
 TellsSome told =
     (saved : Saved) × (parts : List BlockPart) × (events : List Event) × (w : World)
     × Make saved parts events w × (told.events ≡ length events) × (told.blocks ≡ w.blocks)
-
--- The store that a view of a folder has was copied into a target, and this tells of it: the journal
--- begins, by another view, as it was read.
-pub record IsCopyBetween {F G : Type 0} (f_shows : F → List ℕ → Option (List ℕ) → Type 0)
-    (f_kept : F → List ℕ → ℕ → Type 0) (shows : G → List ℕ → Option (List ℕ) → Type 0)
-    (kept : G → List ℕ → ℕ → Type 0) (moment : G → ℕ)
-    (left_since : G → ℕ → Left → Type 0) (views : F → Type 0) (takes : G → Type 0)
-    (told : Copied) : Type 0 where
-  pub source : F
-  pub is_view : views source
-  pub read : F
-  pub saved : Saved
-  pub parts : List BlockPart
-  pub events : List Event
-  pub is_read : IsRead f_shows f_kept saved parts events source read
-  pub again : F
-  pub is_other : views again
-  pub last : F
-  pub settled : IsSettled f_shows f_kept read last
-  pub target : G
-  pub is_target : takes target
-  pub new : G
-  pub copied : IsCopied shows kept moment left_since saved parts events told target new

@@ -7,9 +7,11 @@ ghost use Rattle.data_folder.specs.JournalFile.{journal_name, next_name};
 ghost use Rattle.data_folder.specs.Rolls.{Keeps};
 ghost use Rattle.data_folder.specs.States.{AreThere, IsApart, Named};
 ghost use Rattle.head.specs.Heads.{world_of};
+ghost use Rattle.head_record.specs.Saved.{Place};
 ghost use Rattle.journal.specs.Group.{IsJournalText};
 ghost use Rattle.store_backup.specs.Copies.{Begins, IsOfTarget, NoneOrWhole};
 ghost use Rattle.store_joiner.specs.Finds.{FindsNow};
+ghost use Rattle.store_joiner.specs.Stores.{SaysMeaning};
 
 use crate::error::CopyFault;
 use block_folder::Values;
@@ -60,6 +62,8 @@ pub(crate) fn begin_with<F: Folder + Drop>(
     requires none { F.shows folder journal_name None × F.kept folder journal_name 0 }
     ensures finds { IfOk result (λ f. FindsNow F.moment F.left_since f
         (record { world = world_of snapshot.now; values = values })) }
+    ensures says { IfOk result (λ f. (places : List Place)
+        × SaysMeaning F.shows F.kept values places f) }
     ensures begins { MatchResult result
         (λ f. Begins F.shows F.kept F.moment F.left_since
         (record { world = world_of snapshot.now; values = values }) folder f)

@@ -114,6 +114,8 @@ fn copy_into<F: Folder, G: Folder + Drop>(
         × IsRead F.shows F.kept saved parts events source.old source.new
         × MayBegin G.shows G.kept G.moment G.left_since saved parts events
         target e.1)) }
+    ensures changed { IfErr result (λ e. e.0 ≡ CopyFault.Changed → (G.sound e.1 ≡ true)
+        × Untouched G.shows G.kept G.moment G.left_since target e.1) }
     ensures refused { IfErr result (λ e. IsOfTarget e.0
         ⊎ (DeniesSource F.shows F.kept F.failed source.new again.new e.0
         ⊎ DeniesRead F.shows F.kept source.old source.new e.0)) }
@@ -185,7 +187,8 @@ pub fn copy_store<F: Folder, G: Folder + Drop>(
         source.old source.new }
     ensures looked { Untouched F.shows F.kept F.moment F.left_since again.old again.new }
     // After `Ok` a store was read, the one that lay there, if the source tells what its files have.
-    // Its events are accepted, and a start of the target finds their world.
+    // Its events are accepted, and a start of the target finds their world; the `meta.json` of each
+    // block says what the values mean.
     ensures copied { IfOk result (λ x. (saved : Saved) × (parts : List BlockPart)
         × (events : List Change)
         × IsRead F.shows F.kept saved parts events source.old source.new
@@ -215,6 +218,9 @@ pub fn copy_store<F: Folder, G: Folder + Drop>(
         → HasBlocks G.shows G.lists G.kept G.moment G.left_since target
         → MatchResult result (λ x. ⊥)
         (λ e. Untouched G.shows G.kept G.moment G.left_since target e.1) }
+    // Where the source has changed, the target may be asked again.
+    ensures changed { IfErr result (λ e. e.0 ≡ CopyFault.Changed → (G.sound e.1 ≡ true)
+        × Untouched G.shows G.kept G.moment G.left_since target e.1) }
     // What is refused is what a start refuses, or it has changed meanwhile.
     ensures refused { IfErr result (λ e. IsTaken e.0 ⊎ (IsOfTarget e.0
         ⊎ (DeniesSource F.shows F.kept F.failed source.new again.new e.0

@@ -7,8 +7,8 @@ use store_folder::{RollFault, StartError};
 pub enum CopyFault {
     /// The target has a journal. Nothing is changed there.
     Taken,
-    /// The target has no journal, but below its `blocks` the name of a number is listed: a block may
-    /// lie there, of a store whose journal is lost. Nothing is changed there.
+    /// The target has no journal, but below its `blocks` the name of a number is listed: a block
+    /// may lie there, of a store whose journal is lost. Nothing is changed there.
     Blocks,
     /// The source has no journal.
     NoStore,

@@ -9,8 +9,7 @@
 //! appends to its journal, which does no harm: a record that is cut short is not read. Or it begins
 //! the journal anew and removes blocks that the old head named. So the source's journal is read
 //! again afterwards: where it no longer begins with what was read first, nothing is written, and
-//! the fault is [`CopyFault::Changed`]. [`copy_between`] then begins again, with what gives the
-//! folders, as those of the host ([`HostFolders`]).
+//! the fault is [`CopyFault::Changed`]. [`copy_between`] then begins again, by other views.
 //!
 //! It stands on `store_folder` for what a folder has of a store, on `store_joiner` for what a start
 //! finds of one, and on `head` for snapshots.
@@ -19,9 +18,9 @@
 mod begun;
 mod copying;
 mod error;
-mod hosts;
 mod settled;
+mod tries;
 
 pub use copying::{Copied, copy_store};
 pub use error::CopyFault;
-pub use hosts::{CopyFolders, HostFolders, TRIES, copy_between};
+pub use tries::copy_between;

@@ -11,9 +11,9 @@ use crate::command::Asked;
 use crate::fault::{Earlier, Fault};
 use crate::mark::{Mark, Since};
 use crate::report::{Report, has_refused, is_right, refused_report, report_of, walked};
-use audit_command::{ReadFiles, query_of, reply_in};
+use audit_command::{OneThread, ReadFiles, Walker, query_of, reply_in};
 use auditor::Reply;
-use kept_folder::{FoundJournal, FoundStore, StoreFault, read_kept, read_store};
+use kept_folder::{FoundJournal, FoundStore, StoreFault, read_kept, read_store_by};
 use matchers::Query;
 use std::alloc::Global;
 use std::io::Read;
@@ -47,7 +47,24 @@ fn told_as(alloc: Global, folder: &str, fault: StoreFault) -> Fault
     }
 }
 
-/// Reads the folder of a store.
+/// Reads the folder of a store, and has its blocks walked.
+fn read_folder_by<K: Walker, F: ReadFiles>(
+    walker: &K,
+    alloc: Global,
+    files: &F,
+    folder: &str,
+) -> Result<FoundStore, Fault>
+    requires ready { K.is_ready walker.now }
+    ensures ok { IfOk result (λ found. IsStoreAt (F.may_read files.now) folder.now found) }
+    ensures err { IfErr result (λ fault. IsFolderFault (F.may_read files.now) folder.now fault) }
+{
+    match read_store_by(walker, alloc, files, folder) {
+        Ok(found) => Ok(found),
+        Err(fault) => Err(told_as(alloc, folder, fault)),
+    }
+}
+
+/// Reads the folder of a store, by the calling thread alone.
 pub fn read_folder<F: ReadFiles>(
     alloc: Global,
     files: &F,
@@ -56,10 +73,7 @@ pub fn read_folder<F: ReadFiles>(
     ensures ok { IfOk result (λ found. IsStoreAt (F.may_read files.now) folder.now found) }
     ensures err { IfErr result (λ fault. IsFolderFault (F.may_read files.now) folder.now fault) }
 {
-    match read_store(alloc, files, folder) {
-        Ok(found) => Ok(found),
-        Err(fault) => Err(told_as(alloc, folder, fault)),
-    }
+    read_folder_by(&OneThread, alloc, files, folder)
 }
 
 /// Reads the journal of the store in a folder alone.
@@ -133,12 +147,14 @@ fn report_over(
 ///
 /// The mark is looked at first, then the selector is checked, then the range; then the reply is
 /// read, to its end, and then the folder.
-pub fn audit<F: ReadFiles, R: Read>(
+pub fn audit<K: Walker, F: ReadFiles, R: Read>(
+    walker: &K,
     alloc: Global,
     files: &F,
     asked: &Asked<'_>,
     input: &mut R,
 ) -> Result<Report, Fault>
+    requires ready { K.is_ready walker.now }
     ensures ok { IfOk result
         (λ report. IsReport (F.may_read files.now) (R.remaining input.old) asked.now report) }
     ensures err { IfErr result (λ fault.
@@ -147,6 +163,6 @@ pub fn audit<F: ReadFiles, R: Read>(
     let mark = since_in(asked)?;
     let query = query_of(alloc, &asked.audit)?;
     let reply = reply_in(alloc, input)?;
-    let found = read_folder(alloc, files, asked.store)?;
+    let found = read_folder_by(walker, alloc, files, asked.store)?;
     report_over(alloc, found, &query, reply, mark)
 }

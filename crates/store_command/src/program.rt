@@ -11,24 +11,28 @@ use crate::command::{Aim, Asked, Task, aim_of, read_words};
 use crate::fault::Fault;
 use crate::judging::{audit, read_journal};
 use crate::mark::Mark;
-use audit_command::{Ending, Fault as AuditFault, ReadFiles, run_by as run_over_directories, send};
+use audit_command::{
+    Ending, Fault as AuditFault, ReadFiles, Walker, Workers, run_by as run_over_directories, send,
+};
 use clap::error::ErrorKind;
 use std::alloc::Global;
 use std::io::{self, Read, Write};
 use std::thread::Threads;
 
 /// Judges the reply that a reader gives, writes the lines, and says whether it is right of a state.
-fn write_audit<F: ReadFiles, R: Read, W: Write>(
+fn write_audit<K: Walker, F: ReadFiles, R: Read, W: Write>(
+    walker: &K,
     alloc: Global,
     files: &F,
     asked: &Asked<'_>,
     input: &mut R,
     out: &mut W,
 ) -> Result<bool, Fault>
+    requires ready { K.is_ready walker.now }
     ensures { IsAuditEnd (F.may_read files.now) (R.remaining input.old) asked.now
         (W.contents out.old) (W.contents out.new) result }
 {
-    let report = audit(alloc, files, asked, input)?;
+    let report = audit(walker, alloc, files, asked, input)?;
     send(out, report.text.as_bytes())?;
     Ok(report.is_right)
 }
@@ -50,23 +54,26 @@ fn write_mark<F: ReadFiles, W: Write>(
     Ok(true)
 }
 
-fn do_task<F: ReadFiles, R: Read, W: Write>(
+fn do_task<K: Walker, F: ReadFiles, R: Read, W: Write>(
+    walker: &K,
     alloc: Global,
     files: &F,
     task: &Task<'_>,
     input: &mut R,
     out: &mut W,
 ) -> Result<bool, Fault>
+    requires ready { K.is_ready walker.now }
     ensures { IsTaskEnd (F.may_read files.now) (R.remaining input.old) task.now
         (W.contents out.old) (W.contents out.new) result }
 {
     match task {
-        Task::Audit(asked) => write_audit(alloc, files, asked, input, out),
+        Task::Audit(asked) => write_audit(walker, alloc, files, asked, input, out),
         Task::Mark(folder) => write_mark(alloc, files, folder, out),
     }
 }
 
-fn execute<F: ReadFiles, R: Read, W: Write>(
+fn execute<K: Walker, F: ReadFiles, R: Read, W: Write>(
+    walker: &K,
     alloc: Global,
     files: &F,
     aim: Aim,
@@ -74,6 +81,7 @@ fn execute<F: ReadFiles, R: Read, W: Write>(
     input: &mut R,
     out: &mut W,
 ) -> Result<bool, Fault>
+    requires ready { K.is_ready walker.now }
     ensures ends { AreTaken aim (texts_of words.now)
         → IsEnd aim (F.may_read files.now) (R.remaining input.old) (texts_of words.now)
         (W.contents out.old) (W.contents out.new) result }
@@ -81,7 +89,7 @@ fn execute<F: ReadFiles, R: Read, W: Write>(
         → IsNoTask aim (texts_of words.now) result }
 {
     match read_words(alloc, aim, words) {
-        Ok(task) => do_task(alloc, files, &task, input, out),
+        Ok(task) => do_task(walker, alloc, files, &task, input, out),
         Err(error) => match error.kind() {
             ErrorKind::OutOfMemory => Err(Fault::Audit(AuditFault::Memory)),
             ErrorKind::DisplayHelp | ErrorKind::DisplayVersion => {
@@ -115,7 +123,8 @@ fn tell<E: Write>(end: &Result<bool, Fault>, to: &mut E) -> io::Result<()>
 }
 
 /// Does what words want of a store.
-fn run_over_store<F: ReadFiles, R: Read, W: Write, E: Write>(
+fn run_over_store<K: Walker, F: ReadFiles, R: Read, W: Write, E: Write>(
+    walker: &K,
     alloc: Global,
     files: &F,
     aim: Aim,
@@ -124,13 +133,14 @@ fn run_over_store<F: ReadFiles, R: Read, W: Write, E: Write>(
     out: &mut W,
     err: &mut E,
 ) -> Ending
+    requires ready { K.is_ready walker.now }
     ensures ended { HasEnded aim (F.may_read files.now) (R.remaining input.old)
         (texts_of words.now) (W.contents out.old) (W.contents out.new)
         (E.contents err.old) (E.contents err.new) result }
     ensures few { result.status ≤ 4 }
     ensures nothing_told { result.status ≡ 0 → Keeps (E.contents err.old) (E.contents err.new) }
 {
-    let end = execute(alloc, files, aim, words, input, out);
+    let end = execute(walker, alloc, files, aim, words, input, out);
     let told = tell(&end, err);
     Ending {
         status: status_of(&end),
@@ -165,7 +175,10 @@ pub fn run_by<T: Threads + Sync, F: ReadFiles, R: Read, W: Write, E: Write>(
     ensures nothing_told { result.status ≡ 0 → Keeps (E.contents err.old) (E.contents err.new) }
 {
     match aim_of(words) {
-        Some(aim) => run_over_store(alloc, files, aim, words, input, out, err),
+        Some(aim) => {
+            let walker = Workers { rt };
+            run_over_store(&walker, alloc, files, aim, words, input, out, err)
+        }
         None => run_over_directories(rt, alloc, files, words, input, out, err),
     }
 }

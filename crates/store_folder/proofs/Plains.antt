@@ -43,9 +43,10 @@ pub plain_found : (file : List ℕ) (contents : List (List ℕ)) (events : List 
     (names : List Label) (len : ℕ) → Recovers file contents → Spell contents events names
     → len ≡ length (file_of contents)
     → (stands : Stands [] file events) × (len ≡ length (file_of stands.contents))
+    × (names ≡ stands.names)
 unfolding plain_stands
 plain_found file contents events names len r s is =
-    (plain_stands file contents events names r s, is)
+    (plain_stands file contents events names r s, is, refl)
 
 pub plain_headed : (file : List ℕ) (contents : List (List ℕ)) (events : List Event)
     (names : List Label) (text : List ℕ) → Recovers file contents → Spell contents events names

@@ -1,7 +1,7 @@
 //! A store that saves its snapshot in the place of the events that made it.
 
 ghost use Rattle.std.specs.Prelude.{◌≡◌, ◌≤◌, ◌⊎◌, ℕ, List, Ok, [], false, true, length, map, take};
-ghost use Rattle.std.specs.Prelude.{Err, IfErr, IfOk, OnOk};
+ghost use Rattle.std.specs.Prelude.{◌-◌, ◌++◌, Err, IfErr, IfOk, OnErr, OnOk};
 ghost use Rattle.data_folder.specs.Sweeping.{KeepsForeign};
 ghost use Rattle.event_journal.specs.Holding.{contents_with};
 ghost use Rattle.head.specs.Blocks.{part_in};
@@ -13,7 +13,7 @@ ghost use Rattle.journal.specs.Records.{file_of};
 ghost use Rattle.store_folder.specs.Holding.{HoldsOrLost};
 ghost use Rattle.store_folder.specs.Saving.{AreBelow, IsAbove};
 ghost use Rattle.store_folder.specs.Starting.{StartFinds};
-ghost use Rattle.store_folder.specs.Writing.{EachSays};
+ghost use Rattle.store_folder.specs.Writing.{EachSays, places_from};
 
 use crate::error::{RollFault, WriteFault};
 use crate::keeping::StoreKeeper;
@@ -129,6 +129,24 @@ impl<N: Beginning, F: Folder + Drop> StoreKeeper<N, F> {
         ensures closed { self.old.store.events.journal.closed ≡ true
             → (result ≡ Err (RollFault.Folder RollError.Closed)) × (self.new ≡ self.old) }
         ensures terms { self.new.terms.most ≡ self.old.terms.most }
+        // They note how many bytes the journal has, or had where it fails, and the blocks.
+        ensures noted { OnOk result (self.new.terms ≡ record {
+          most = self.old.terms.most;
+          len = self.new.store.events.journal.len;
+          blocks = length snapshot.now.blocks;
+        }) }
+        ensures tried { OnErr result (self.old.store.events.journal.closed ≡ false
+            → self.new.terms ≡ record {
+              most = self.old.terms.most;
+              len = self.old.store.events.journal.len;
+              blocks = length snapshot.now.blocks;
+            }) }
+        // What is written lies in folders of the least numbers that are above those before.
+        ensures numbers { OnOk result ((same next : ℕ) × (1 ≤ next)
+            × IsAbove next self.old.places.items
+            × ((n : ℕ) → 1 ≤ n → AreBelow n self.old.places.items → next ≤ n)
+            × (self.new.places.items ≡ take same self.old.places.items
+            ++ places_from next (length snapshot.now.blocks - same))) }
         // What is none of the store's stays.
         ensures foreign { KeepsForeign F.shows F.kept self.old.store.events.journal.medium.folder
             self.new.store.events.journal.medium.folder }

@@ -143,6 +143,7 @@ impl<N: Beginning, F: Folder + Drop> Keeper for StoreKeeper<N, F> {
         ensures beside { StaysBeside F.shows F.kept F.moment F.left_since
             self.old.store.events.journal.medium.folder
             self.new.store.events.journal.medium.folder }
+        ensures terms { self.new.terms ≡ self.old.terms }
     {
         if self.store.events.journal.closed {
             return Err(KeepError::Closed);
@@ -182,6 +183,7 @@ impl<N: Beginning, F: Folder + Drop> Keeper for StoreKeeper<N, F> {
         ensures beside { StaysBeside F.shows F.kept F.moment F.left_since
             self.old.store.events.journal.medium.folder
             self.new.store.events.journal.medium.folder }
+        ensures terms { self.new.terms ≡ self.old.terms }
     {
         self.store.events.close();
     }
@@ -223,6 +225,17 @@ impl<N: Beginning, F: Folder + Drop> Keeper for StoreKeeper<N, F> {
             (head_texts (save N.first.values snapshot.now self.new.places.items)) [])))) }
         ensures counted { IfOk result (λ saved. IfSome saved (λ count.
             count ≡ length snapshot.now.blocks)) }
+        // Its terms note it: the next time depends on what the journal grows from then on.
+        ensures noted { IfOk result (λ saved. OnSome saved (self.new.terms ≡ record {
+          most = self.old.terms.most;
+          len = self.new.store.events.journal.len;
+          blocks = length snapshot.now.blocks;
+        })) }
+        ensures tried { OnErr result (self.new.terms ≡ record {
+          most = self.old.terms.most;
+          len = self.old.store.events.journal.len;
+          blocks = length snapshot.now.blocks;
+        }) }
         ensures foreign { KeepsForeign F.shows F.kept
             self.old.store.events.journal.medium.folder
             self.new.store.events.journal.medium.folder }

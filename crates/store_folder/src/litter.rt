@@ -204,8 +204,8 @@ pub fn has_blocks<F: Folder>(alloc: Global, folder: &mut F) -> Result<bool, Bloc
 }
 
 /// Removes what [`StoreJournal::sweep_blocks`] does from a folder of which no journal is open. All
-/// that is no block's stays, as the journal, also one whose end is torn, but for a next journal; and
-/// so do the files of blocks at these places.
+/// that is no block's stays, as the journal, also one whose end is torn, but for a next journal;
+/// and so do the files of blocks at these places.
 pub fn sweep_apart<F: Folder>(
     alloc: Global,
     folder: &mut F,

@@ -77,7 +77,7 @@ fn plain_events(
 pub fn read_plain(alloc: Global, file: &[u8]) -> Result<FoundJournal, ReadError>
     // What is answered is what the file stands for, and how many bytes of it.
     ensures found { IfOk result (λ j. (stands : Stands [] file.now j.events.items)
-        × (j.len ≡ length (file_of stands.contents))) }
+        × (j.len ≡ length (file_of stands.contents)) × (j.names ≡ stands.names)) }
     ensures head { IfOk result (λ j. j.head ≡ nothing_saved) }
     ensures torn { IfOk result (λ j. j.torn ≡ length file.now - j.len) }
     // A refusal tells which check failed first, and where.

@@ -223,6 +223,9 @@ pub fn begin_store<N: Beginning, F: Folder + Drop>(
     ensures terms { IfOk result (λ x.
         x.keeper.terms ≡ record { most = most; len = 0; blocks = 0 }) }
     ensures events { IfOk result (λ x. x.journal.events.items ≡ []) }
+    ensures names { IfOk result (λ x. x.journal.names ≡ []) }
+    ensures len { IfOk result (λ x. x.journal.len ≡ x.keeper.store.events.journal.len) }
+    ensures torn { IfOk result (λ x. x.journal.torn ≡ 0) }
     ensures head { IfOk result (λ x. x.journal.head ≡ nothing_with values) }
     ensures refused { IfErr result (λ e. IsNoRefusal e.0) }
     // A crash at any moment of the call leaves no journal, or that of a store that has nothing.

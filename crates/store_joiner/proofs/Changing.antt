@@ -1,13 +1,13 @@
 -- A folder that is opened to be changed: what was found, and where a store is begun.
-use Rattle.std.proofs.Common.{◌≡◌, ◌+◌, inl, inr, ⊎_elim, ℕ, ◌≤◌, List, [], ◌∷◌, Option, None}
+use Rattle.std.proofs.Common.{◌≡◌, ◌⊎◌, ◌+◌, inl, inr, ⊎_elim, ℕ, ◌≤◌, List, [], ◌∷◌, Option, None}
 use Rattle.std.proofs.Common.{Some, Result, Ok, refl, sym, ap, arith, map, subst, ◌∙◌}
 use Rattle.std.proofs.Common.{Bool, true, false}
 use Rattle.std.specs.Prelude.{IfSome}
 use Rattle.block_folder.specs.declared.values.Values.{Values}
 use Rattle.block_folder.specs.declared.values.Values.TheVariants.{Whole}
 use Rattle.data_folder.specs.declared.journal_file.JournalFile.{JournalFile}
-use Rattle.data_folder.specs.Folders.{HasFile, Left, LeavesOnly, MayLeaveOf, Untouched}
-use Rattle.data_folder.specs.JournalFile.{journal_name}
+use Rattle.data_folder.specs.Folders.{HasFile, KeepsOthers, Left, LeavesOnly, MayLeaveOf, Untouched}
+use Rattle.data_folder.specs.JournalFile.{journal_name, next_name}
 use Rattle.data_folder.proofs.Moments.{joined, weaker}
 use Rattle.event_journal.specs.Holding.{Stands}
 use Rattle.head.specs.Blocks.{part_in}
@@ -16,18 +16,22 @@ use Rattle.head.specs.Refusals.{Refusal}
 use Rattle.head.specs.Worlds.{Event, World, replayed}
 use Rattle.head_record.specs.Saved.{Place, Saved}
 use Rattle.store_folder.specs.declared.journals.FoundJournal.{FoundJournal}
+use Rattle.store_folder.specs.declared.error.StartError.{StartError}
+use Rattle.store_folder.specs.declared.error.StartError.TheVariants.{Medium}
 use Rattle.store_folder.specs.declared.reading.FoundStore.{FoundStore}
 use Rattle.store_folder.specs.Faults.{IsStoreOf, TellsFiles}
 use Rattle.store_folder.specs.Finding.{IsFoundStore}
 use Rattle.store_folder.specs.Holding.{AreAt}
 use Rattle.store_folder.specs.Origins.{Origin, beginning}
-use Rattle.store_folder.specs.Plain.{HasEither}
+use Rattle.store_folder.specs.Plain.{DeniesText, HasEither}
 use Rattle.store_folder.specs.Starting.{GoesOn, IsNoneOrNothing, StartFinds, nothing_saved}
 use Rattle.store_folder.specs.States.{IsAfter, StandsFor, origin_of, started}
 use Rattle.store_joiner.specs.Finds.{FindsNow, other_of}
 use Rattle.store_folder.specs.Sweeps.{ListsNumber, has_number}
-use Rattle.store_joiner.specs.Stores.{Changes, HasBlocks, HasStoreFor, NoneOrFinds, NoneOrStands}
-use Rattle.store_joiner.specs.Stores.{PlainOrFinds, StandsOrFinds, StaysOrFinds}
+use Rattle.store_joiner.specs.Stores.{Changes, HasBlocks, HasStoreFor, IsSame, LeavesNow}
+use Rattle.store_joiner.specs.Stores.{MayChangePlain, NoneOrFinds, NoneOrStands, PlainOrFinds}
+use Rattle.store_joiner.specs.Stores.{StandsOrFinds, StaysNow, StaysOrFinds}
+use Rattle.store_joiner.specs.declared.error.ChangeFault.TheVariants.{Open}
 use Rattle.store_joiner.proofs.Stores.{as_found, has_open}
 
 -- a store was found, before which nothing was changed
@@ -91,6 +95,20 @@ module _ {F : Type 0} (moment : F → ℕ) (left_since : F → ℕ → Left → 
       (as_found (λ (o : Origin) (es : List Event). StaysOrFinds moment left_since mid new o es P)
       nothing_saved [] events s is after))
 
+  pub plain_same : (f : F) (file : List ℕ) (s : FoundStore)
+      → Stands [] file s.journal.events.items
+      → IsStoreOf nothing_saved [] s.journal.events.items s
+      → StaysNow moment left_since f (origin_of s.journal.head (map part_in s.blocks.items))
+      s.journal.events.items
+      → LeavesNow moment left_since f (PlainOrFinds file IsSame)
+  plain_same f file s stands is stays left had =
+      inr (
+        s.journal.events.items,
+        stands,
+        as_found (λ (o : Origin) (es : List Event). StaysNow moment left_since f o es)
+            nothing_saved [] s.journal.events.items s is stays left had,
+      )
+
   -- a store that is begun
 
   nothing_stands : (left : Left) → IsNoneOrNothing Whole left → NoneOrStands left
@@ -135,6 +153,26 @@ module _ {F : Type 0} (moment : F → ℕ) (left_since : F → ℕ → Left → 
       (subst (λ (o : Origin). StaysOrFinds moment left_since mid new o [] P) is
       (subst (λ (es : List Event). StaysOrFinds moment left_since mid new first es P) none
       after)))
+
+  pub first_same : (f : F) (first : Origin) (events : List Event) → first ≡ beginning Whole
+      → events ≡ [] → StaysNow moment left_since f first events
+      → LeavesNow moment left_since f (NoneOrFinds IsSame)
+  first_same f first events is none stays left had =
+      inr (subst (λ (o : Origin). StandsOrFinds o [] IsSame left) is
+      (subst (λ (es : List Event). StandsOrFinds first es IsSame left) none (stays left had)))
+
+-- it was not opened: it is refused for what is wrong with it, or the folder failed
+pub plain_denied : {F : Type 0} (shows : F → List ℕ → Option (List ℕ) → Type 0)
+    (kept : F → List ℕ → ℕ → Type 0) (moment : F → ℕ) (left_since : F → ℕ → Left → Type 0)
+    (file : List ℕ) (old new : F) (e : StartError) (Failed : Type 0)
+    → ((e ≡ Medium) × Failed) ⊎ DeniesText file e
+    → ((e ≡ Medium → ⊥) → Untouched shows kept moment left_since old new)
+    → KeepsOthers shows kept next_name journal_name old new
+    → MayChangePlain shows kept moment left_since file (Open e) old new
+plain_denied shows kept moment left_since file old new e Failed why unless others =
+    ⊎_elim (λ failed. inr (inr (ap (λ (x : StartError). Open x) failed.0, others)))
+    (λ denies. inl (unless (λ is. subst (λ (x : StartError). DeniesText file x) is denies)))
+    why
 
 -- no journal is left where none was, and nothing was changed
 pub none_left : {F : Type 0} (shows : F → List ℕ → Option (List ℕ) → Type 0)

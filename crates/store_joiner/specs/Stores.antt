@@ -2,8 +2,8 @@
 use Rattle.std.specs.Prelude.{◌≡◌, ◌⊎◌, ◌++◌, ℕ, ℤ, true, List, [], Option, None, Ok, codes}
 use Rattle.block_folder.specs.declared.values.Values.{Values}
 use Rattle.block_folder.specs.declared.values.Values.TheVariants.{Whole}
-use Rattle.data_folder.specs.Folders.{HasFile, Left, LeavesOnly, Untouched}
-use Rattle.data_folder.specs.JournalFile.{journal_name}
+use Rattle.data_folder.specs.Folders.{HasFile, KeepsOthers, Left, LeavesOnly, Untouched}
+use Rattle.data_folder.specs.JournalFile.{journal_name, next_name}
 use Rattle.event_journal.specs.Holding.{Stands}
 use Rattle.head.specs.Heads.{BlockPart}
 use Rattle.head.specs.Worlds.{Event, World, replayed}
@@ -15,6 +15,7 @@ use Rattle.store_folder.specs.Plain.{HasEither}
 use Rattle.store_folder.specs.States.{IsAfter, StandsFor, origin_of}
 use Rattle.store_folder.specs.Sweeps.{has_number}
 use Rattle.store_folder.specs.Writing.{EachSays}
+use Rattle.store_folder.specs.declared.error.StartError.TheVariants.{Medium}
 use Rattle.store_joiner.specs.Adds.{with_beneath}
 use Rattle.store_joiner.specs.Finds.{Finds}
 use Rattle.store_joiner.specs.Joins.{with_blocks}
@@ -86,6 +87,16 @@ PlainOrFinds file P left =
     ⊎ ((events : List Event) × Stands [] file events
     × StandsOrFinds (beginning Whole) events P left)
 
+-- Nothing was changed; or this file stands for events alone; or the folder failed as the store was
+-- opened, and all files stay but the journal and one in the making.
+abbrev pub MayChangePlain : {F : Type 0} → (F → List ℕ → Option (List ℕ) → Type 0)
+    → (F → List ℕ → ℕ → Type 0) → (F → ℕ) → (F → ℕ → Left → Type 0) → List ℕ → ChangeFault
+    → F → F → Type 0
+MayChangePlain shows kept moment left_since file fault old new =
+    Untouched shows kept moment left_since old new
+    ⊎ (((events : List Event) × Stands [] file events)
+    ⊎ ((fault ≡ faults.Open Medium) × KeepsOthers shows kept next_name journal_name old new))
+
 -- what is left has no journal, or is a store that has nothing
 abbrev pub NoneOrStands : Left → Type 0
 NoneOrStands left = (left journal_name ≡ None) ⊎ StandsFor (beginning Whole) [] left
@@ -102,12 +113,20 @@ HasBlocks {F} shows lists kept moment left_since old =
     (f : F) (names : List (List ℕ)) → Untouched shows kept moment left_since old f
     → lists f (codes "blocks") names → has_number names ≡ true
 
+-- a crash now leaves what has P
+abbrev pub LeavesNow : {F : Type 0} → (F → ℕ) → (F → ℕ → Left → Type 0) → F → (Left → Type 0)
+    → Type 0
+LeavesNow moment left_since f P = (left : Left) → left_since f (moment f) left → P left
+
+-- the same world
+abbrev pub IsSame : World → World → Type 0
+IsSame w v = v ≡ w
+
 -- a crash now leaves what stands for these events, or a store of their world and meaning
 abbrev pub StaysNow : {F : Type 0} → (F → ℕ) → (F → ℕ → Left → Type 0) → F → Origin
     → List Event → Type 0
 StaysNow moment left_since f first events =
-    (left : Left) → left_since f (moment f) left
-    → StandsOrFinds first events (λ (w : World) (v : World). v ≡ w) left
+    LeavesNow moment left_since f (StandsOrFinds first events IsSame)
 
 -- in the folder lies, for good, a journal of a head alone, which names blocks at these places and
 -- says this meaning of values; and so does the `meta.json` of each of them

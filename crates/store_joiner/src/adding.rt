@@ -1,6 +1,7 @@
 //! Blocks that are added to the store of a folder.
 
-ghost use Rattle.std.specs.Prelude.{◌≡◌, ◌↔◌, ◌+◌, ◌⊎◌, ℕ, List, [], IfErr, IfOk, IsTrue, MatchResult};
+ghost use Rattle.std.specs.Prelude.{◌≡◌, ◌↔◌, ◌+◌, ◌⊎◌, ℕ, List, [], IfErr, IfOk, IsTrue};
+ghost use Rattle.std.specs.Prelude.{MatchResult};
 ghost use Rattle.std.specs.Prelude.{None, Ok, OnOk, Some, false, length, map, true};
 ghost use Rattle.block_folder.specs.declared.values.Values.TheVariants.{Whole};
 ghost use Rattle.data_folder.specs.Folders.{HasFile, LeavesOnly, Untouched};
@@ -21,8 +22,9 @@ ghost use Rattle.store_folder.specs.Sweeps.{ListsNumber};
 ghost use Rattle.store_joiner.specs.Adds.{with_beneath};
 ghost use Rattle.store_joiner.specs.Finds.{FindsEither, FindsNow, other_of};
 ghost use Rattle.store_joiner.specs.Stores.{Changes, HasBlocks, HasStore, HasStoreFor, IsAddedTo};
-ghost use Rattle.store_joiner.specs.Stores.{IsLater, MayChange, NoneOrFinds, NoneOrStands};
-ghost use Rattle.store_joiner.specs.Stores.{PlainOrFinds, SaysOne, StaysNow, StaysOrFinds};
+ghost use Rattle.store_joiner.specs.Stores.{IsLater, IsSame, LeavesNow, MayChange, MayChangePlain};
+ghost use Rattle.store_joiner.specs.Stores.{NoneOrFinds, NoneOrStands, PlainOrFinds, SaysOne};
+ghost use Rattle.store_joiner.specs.Stores.{StaysNow, StaysOrFinds};
 
 use crate::added::added_snapshot;
 use crate::error::ChangeFault;
@@ -254,6 +256,9 @@ fn add_first<F: Folder + Drop>(
     ensures finds { TellsFiles F.shows → IfOk result (λ x. (x.0 ≡ length opening.now.blocks)
         × FindsNow F.moment F.left_since x.1 (other_of (beginning Whole)
         (with_beneath opening.now.blocks opening.now.floor (beginning Whole).world))) }
+    ensures stays { TellsFiles F.shows → IfErr result (λ e.
+        (e.0 ≡ ChangeFault.Roll (RollFault.Folder RollError.Lost) → ⊥)
+        → LeavesNow F.moment F.left_since e.1 (NoneOrFinds IsSame)) }
     ensures meant { OnOk result (values ≡ Whole) }
     ensures says { IfOk result (λ x. SaysOne F.shows F.kept x.1) }
     ensures blocks { HasBlocks F.shows F.lists F.kept F.moment F.left_since folder
@@ -274,10 +279,9 @@ fn add_first<F: Folder + Drop>(
 
 /// Adds the blocks of an opening, whose values mean this, to the store of a folder, before its own:
 /// where both have a sample of one label set at one time, the store's stands. What its journal has
-/// is saved first. A folder that has neither a journal nor blocks gets a store of whole numbers. How
-/// many blocks it then has, and the folder, which an `Err` gives back too. `Meaning` if the values
-/// of the store mean something else; `Unfit` if the blocks are more than 63, or if the floor would
-/// stand above samples of the head.
+/// is saved first. A folder that has neither a journal nor blocks gets a store of whole numbers.
+/// How many blocks it then has, and the folder, which an `Err` gives back too. When `Meaning` and
+/// `Unfit` come is not promised.
 pub fn add_to_store<F: Folder + Drop>(
     alloc: Global,
     folder: F,
@@ -295,8 +299,8 @@ pub fn add_to_store<F: Folder + Drop>(
         events (IsAddedTo opening.now.blocks opening.now.floor))
         (λ e. StaysOrFinds F.moment F.left_since folder e.1 (origin_of saved parts)
         events (IsAddedTo opening.now.blocks opening.now.floor)) }
-    // After `Ok` it finds their world laid over the blocks, in the number of blocks that is told; and
-    // the values of both mean the same.
+    // After `Ok` it finds their world laid over the blocks, in the number of blocks that is told;
+    // and the values of both mean the same.
     ensures finds { TellsFiles F.shows → (saved : Saved) (parts : List BlockPart)
         (events : List Change) → (s : HasStore F.shows F.kept saved parts events folder)
         → begins_plain s.file ≡ false → IfOk result (λ x. (w : World)
@@ -307,17 +311,17 @@ pub fn add_to_store<F: Folder + Drop>(
     // The journal has a head alone, which says what the values mean, and so does the `meta.json` of
     // each block.
     ensures says { IfOk result (λ x. SaysOne F.shows F.kept x.1) }
-    // After an `Err` it finds the store as it was, unless the journal was lost.
+    // After an `Err` it finds the store as it was, unless `Lost` is told.
     ensures stays { TellsFiles F.shows → (saved : Saved) (parts : List BlockPart)
         (events : List Change) → (s : HasStore F.shows F.kept saved parts events folder)
         → begins_plain s.file ≡ false → IfErr result (λ e.
         (e.0 ≡ ChangeFault.Roll (RollFault.Folder RollError.Lost) → ⊥)
         → StaysNow F.moment F.left_since e.1 (origin_of saved parts) events) }
-    // Of a folder that is refused, nothing is changed.
+    // Where `Open` is told, but of `Medium`, nothing is changed.
     ensures unchanged { IfErr result (λ e. (cause : StartError) → e.0 ≡ ChangeFault.Open cause
         → (cause ≡ StartError.Medium → ⊥)
         → Untouched F.shows F.kept F.moment F.left_since folder e.1) }
-    // A folder is refused for what is wrong with it.
+    // `Open` tells what is wrong with the folder.
     ensures refused { IfErr result (λ e. (cause : StartError) → e.0 ≡ ChangeFault.Open cause
         → DeniesFolder F.shows F.kept F.failed e.1 cause) }
     // That there is no store is told only of a folder that has no journal, and below whose `blocks`
@@ -328,9 +332,9 @@ pub fn add_to_store<F: Folder + Drop>(
         → (F.failed e.1 ≡ true) ⊎ ListsNumber F.lists e.1 true) }
     ensures nothing { IfErr result (λ e. e.0 ≡ ChangeFault.NoStore
         → Untouched F.shows F.kept F.moment F.left_since folder e.1) }
-    // Where the journal is not one of events alone, what is changed is a store that was there. So a
-    // folder with a damaged journal, or without a file of a block that the journal names, stays as
-    // it is.
+    // Where the journal does not begin as one of events alone, what is changed is a store that was
+    // there. So a folder with such a journal that is damaged, or without a file of a block that it
+    // names, stays as it is.
     ensures safe { TellsFiles F.shows → (file : List ℕ)
         → F.shows folder journal_name (Some file) → begins_plain file ≡ false
         → MatchResult result
@@ -347,6 +351,20 @@ pub fn add_to_store<F: Folder + Drop>(
         (PlainOrFinds file (IsAddedTo opening.now.blocks opening.now.floor)))
         (λ e. LeavesOnly F.moment F.left_since folder e.1
         (PlainOrFinds file (IsAddedTo opening.now.blocks opening.now.floor))) }
+    // After an `Err` it leaves the journal so, or a start finds the world of its events, unless
+    // `Lost` is told.
+    ensures plain_stays { TellsFiles F.shows → (file : List ℕ)
+        → HasFile F.shows F.kept journal_name file folder → begins_plain file ≡ true
+        → IfErr result (λ e. (e.0 ≡ ChangeFault.Roll (RollFault.Folder RollError.Lost) → ⊥)
+        → LeavesNow F.moment F.left_since e.1 (PlainOrFinds file IsSame)) }
+    // After an `Err` nothing was changed, or that journal stands for events. So where a damaged
+    // journal begins as one of events alone, nothing is changed; if the folder failed as the store
+    // was opened, all files stay but the journal and one in the making.
+    ensures plain_safe { TellsFiles F.shows → (file : List ℕ)
+        → F.shows folder journal_name (Some file) → begins_plain file ≡ true
+        → IfErr result (λ e. MayChangePlain F.shows F.kept F.moment F.left_since file e.0
+        folder e.1) }
+    // After `Ok` a start finds their world laid over the blocks.
     ensures plain_finds { TellsFiles F.shows → (file : List ℕ)
         → F.shows folder journal_name (Some file) → begins_plain file ≡ true
         → IfOk result (λ x. (events : List Change) × (w : World) × Stands [] file events
@@ -368,6 +386,12 @@ pub fn add_to_store<F: Folder + Drop>(
         (NoneOrFinds (IsAddedTo opening.now.blocks opening.now.floor)))
         (λ e. LeavesOnly F.moment F.left_since folder e.1
         (NoneOrFinds (IsAddedTo opening.now.blocks opening.now.floor))) }
+    // After an `Err` it leaves no journal, or that of a store that has nothing, unless `Lost` is
+    // told.
+    ensures first_stays { TellsFiles F.shows → F.shows folder journal_name None
+        → F.kept folder journal_name 0 → IfErr result (λ e.
+        (e.0 ≡ ChangeFault.Roll (RollFault.Folder RollError.Lost) → ⊥)
+        → LeavesNow F.moment F.left_since e.1 (NoneOrFinds IsSame)) }
     ensures first_finds { TellsFiles F.shows → F.shows folder journal_name None
         → IfOk result (λ x. (x.0 ≡ length opening.now.blocks) × (values ≡ Whole)
         × FindsNow F.moment F.left_since x.1 (other_of (beginning Whole)

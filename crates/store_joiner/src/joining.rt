@@ -19,8 +19,9 @@ ghost use Rattle.store_folder.specs.Starting.{StartFinds};
 ghost use Rattle.store_folder.specs.States.{origin_of};
 ghost use Rattle.store_joiner.specs.Finds.{Finds, FindsNow, other_of};
 ghost use Rattle.store_joiner.specs.Joins.{with_blocks};
-ghost use Rattle.store_joiner.specs.Stores.{Changes, HasStore, IsJoinedTo, IsLater, MayChange};
-ghost use Rattle.store_joiner.specs.Stores.{PlainOrFinds, SaysOne, StaysNow, StaysOrFinds};
+ghost use Rattle.store_joiner.specs.Stores.{Changes, HasStore, IsJoinedTo, IsLater, IsSame};
+ghost use Rattle.store_joiner.specs.Stores.{LeavesNow, MayChange, MayChangePlain, PlainOrFinds};
+ghost use Rattle.store_joiner.specs.Stores.{SaysOne, StaysNow, StaysOrFinds};
 
 use crate::error::ChangeFault;
 use crate::joined::joined_snapshot;
@@ -213,13 +214,13 @@ pub fn join_store<F: Folder + Drop>(
     // so does the `meta.json` of each block.
     ensures says { IfOk result (λ x. (x.0.after ≡ x.0.before → ⊥)
         → SaysOne F.shows F.kept x.1) }
-    // After an `Err` it finds the store as it was, unless the journal was lost.
+    // After an `Err` it finds the store as it was, unless `Lost` is told.
     ensures stays { TellsFiles F.shows → (saved : Saved) (parts : List BlockPart)
         (events : List Change) → (s : HasStore F.shows F.kept saved parts events folder)
         → begins_plain s.file ≡ false → IfErr result (λ e.
         (e.0 ≡ ChangeFault.Roll (RollFault.Folder RollError.Lost) → ⊥)
         → StaysNow F.moment F.left_since e.1 (origin_of saved parts) events) }
-    // Of a folder that is refused, or has no store, nothing is changed.
+    // Where `Open` is told, but of `Medium`, nothing is changed; nor where `NoStore` is.
     ensures unchanged { IfErr result (λ e. (cause : StartError) → e.0 ≡ ChangeFault.Open cause
         → (cause ≡ StartError.Medium → ⊥)
         → Untouched F.shows F.kept F.moment F.left_since folder e.1) }
@@ -228,12 +229,12 @@ pub fn join_store<F: Folder + Drop>(
     // That is told only of a folder that has no journal.
     ensures none { IfErr result (λ e. e.0 ≡ ChangeFault.NoStore
         → F.shows e.1 journal_name None) }
-    // A folder is refused for what is wrong with it.
+    // `Open` tells what is wrong with the folder.
     ensures refused { IfErr result (λ e. (cause : StartError) → e.0 ≡ ChangeFault.Open cause
         → DeniesFolder F.shows F.kept F.failed e.1 cause) }
-    // Whatever lies there but a journal of events alone: what is changed is a store that was there.
-    // So a folder without a journal, with a damaged one, or without a file of a block that the
-    // journal names, stays as it is.
+    // Whatever lies there but a journal that begins as one of events alone: what is changed is a
+    // store that was there. So a folder without a journal, with such a one that is damaged, or
+    // without a file of a block that it names, stays as it is.
     ensures safe { TellsFiles F.shows → (x : Option (List ℕ)) → F.shows folder journal_name x
         → may_be_plain x ≡ false → MatchResult result
         (λ y. Changes F.shows F.kept F.moment F.left_since IsJoinedTo folder y.1)
@@ -245,7 +246,20 @@ pub fn join_store<F: Folder + Drop>(
         → MatchResult result
         (λ y. LeavesOnly F.moment F.left_since folder y.1 (PlainOrFinds file IsJoinedTo))
         (λ e. LeavesOnly F.moment F.left_since folder e.1 (PlainOrFinds file IsJoinedTo)) }
-    // After `Ok` it finds this world, in the number of blocks that is told.
+    // After an `Err` it leaves the journal so, or a start finds the world of its events, unless
+    // `Lost` is told.
+    ensures plain_stays { TellsFiles F.shows → (file : List ℕ)
+        → HasFile F.shows F.kept journal_name file folder → begins_plain file ≡ true
+        → IfErr result (λ e. (e.0 ≡ ChangeFault.Roll (RollFault.Folder RollError.Lost) → ⊥)
+        → LeavesNow F.moment F.left_since e.1 (PlainOrFinds file IsSame)) }
+    // After an `Err` nothing was changed, or that journal stands for events. So where a damaged
+    // journal begins as one of events alone, nothing is changed; if the folder failed as the store
+    // was opened, all files stay but the journal and one in the making.
+    ensures plain_safe { TellsFiles F.shows → (file : List ℕ)
+        → F.shows folder journal_name (Some file) → begins_plain file ≡ true
+        → IfErr result (λ e. MayChangePlain F.shows F.kept F.moment F.left_since file e.0
+        folder e.1) }
+    // After `Ok` it finds their world, in the number of blocks that is told.
     ensures plain_finds { TellsFiles F.shows → (file : List ℕ)
         → F.shows folder journal_name (Some file) → begins_plain file ≡ true
         → IfOk result (λ x. (events : List Change) × (w : World) × Stands [] file events

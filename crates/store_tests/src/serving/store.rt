@@ -3,7 +3,7 @@
 ghost use Rattle.std.specs.Prelude.{◌≡◌, []};
 ghost use Rattle.head.specs.Blocks.{opening_of};
 
-use snapshots::{Committer, Naming, Pass, Seat, Store};
+use snapshots::{Committer, Naming, OpenNaming, Pass, Seat, Store};
 use std::alloc::Global;
 use std::sync::Wait;
 
@@ -20,7 +20,7 @@ pub fn last<T: Drop>(mut list: Vec<T>) -> Option<T> {
     list.pop()
 }
 
-pub fn open_empty<J: Naming, R: Wait + Drop>(
+pub fn open_empty<J: OpenNaming, R: Wait + Drop>(
     rt: R,
     alloc: Global,
     store: Store,

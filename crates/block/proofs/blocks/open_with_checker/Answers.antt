@@ -1,10 +1,15 @@
-use Rattle.std.specs.Prelude.{IfOk}
+use Rattle.std.specs.Prelude.{IfOk, ℤ}
 use Rattle.std.proofs.Common.{Ok, sym, ap, subst, ◌∙◌, arith}
 use Rattle.std.proofs.lemmas.Result.{err_from_is_err_and}
-use Rattle.block.specs.declared.blocks.Files.{Files}
-use Rattle.block.specs.Blocks.{part_of_series, shown_of}
+use Rattle.labels.specs.Parts.{Part}
+use Rattle.index_reader.specs.Indexes.{Indexed}
+use Rattle.block.specs.declared.files.Files.{Files}
+use Rattle.block.specs.Blocks.{Shown, part_of_series, shown_of}
 use Rattle.block.specs.Grammar.{IsBlock}
-use Rattle.block.specs.Sound.{IsSoundBlock}
+use Rattle.block.specs.Kept.{source_in}
+use Rattle.block.specs.Packing.{IsOpened}
+use Rattle.block.specs.Samples.{chunk_samples}
+use Rattle.block.proofs.Packs.{opened_packed, part_packed}
 use Rattle.block.proofs.Chunked.{sound_of}
 use Rattle.block.proofs.Found.{block_spelled}
 use Rattle.block.proofs.Refusals.{block_fails_index, block_fails_chunks, block_fails_stored}
@@ -80,12 +85,17 @@ invariant_of-result g c =
     (subst (λ r. IfOk r (IsIndex c.args.index.now)) c.in_ok-index.was c.requires.spelled)
     c.in_ok-check_stored.ensures.held c.in_ok-check_stored.ensures.few
     (sym c.are_inside.ensures ∙ c.if-not-are_inside.false) in
-    subst (λ (f : Files). IsSoundBlock c.args.range f.chunks f.index)
-    (sym c.in_ok-files.ensures.ok) sound
+    let kept = c.in_ok-packed.packed in
+    subst (λ (f : Files). IsOpened c.args.range f.starts.items f.packed f.index)
+    (sym c.in_ok-files.ensures.ok) (opened_packed (chunk_samples c.in_ok-chunks.chunks)
+    c.in_ok-index.index kept.starts.items kept.chunks c.in_ok-packed.ensures.pack c.args.range
+    c.in_ok-packed.ensures.small sound)
 
 pub returns-clause-exact : goal.returns-clause-exact
 returns-clause-exact g c =
     let x = c.in_ok-deletions.ensures in
+    let index = c.in_ok-index.index in
+    let kept = c.in_ok-packed.packed in
     let e = block_opens c.args.range c.args.index.now c.args.chunks.items c.args.tombstones.now
     c.in_ok-index.index c.in_ok-chunks.chunks x.0 c.in_ok-deletions.deletions
     (subst (λ r. index_outcome.Gives (λ x. x) r (indexed_of c.args.index.now)) c.in_ok-index.was
@@ -94,13 +104,20 @@ returns-clause-exact g c =
     c.in_ok-chunks.ensures.exact
     c.in_ok-check_stored.ensures.exact x.1 x.2 (sym c.are_inside.ensures
     ∙ c.if-not-are_inside.false) in
+    let same = part_packed (chunk_samples c.in_ok-chunks.chunks) index kept.starts.items kept.chunks
+    c.in_ok-packed.ensures.pack c.in_ok-deletions.deletions in
     e
-    ∙ ap (λ (f : Files). Ok (shown_of c.args.range f.chunks f.index c.in_ok-deletions.deletions))
-    (sym c.in_ok-files.ensures.ok)
+    ∙ ap (λ (part : Part). Ok (shown c.args.range part index)) (sym same)
+    ∙ ap (λ (f : Files). Ok (shown_of c.args.range (source_in f) f.index
+    c.in_ok-deletions.deletions)) (sym c.in_ok-files.ensures.ok)
+  where
+    shown : ℤ × ℤ → Part → Indexed → Shown
+    shown range part index = record { range = range; part = part; pairs = index.pairs }
 
 pub returns-clause-found : goal.returns-clause-found
 returns-clause-found g c =
     let x = c.in_ok-deletions.ensures in
+    let kept = c.in_ok-packed.packed in
     let spelled = block_spelled c.args.range c.args.index.now c.args.chunks.items
     c.args.tombstones.now c.in_ok-index.index c.in_ok-chunks.chunks x.0 c.in_ok-deletions.deletions
     (λ i. omega (arith, c.type_inv.tombstones i))
@@ -108,6 +125,10 @@ returns-clause-found g c =
     c.in_ok-chunks.ensures.exact c.in_ok-chunks.ensures.found c.in_ok-check_stored.ensures.held
     c.in_ok-check_stored.ensures.few x.1 x.2 (sym c.are_inside.ensures
     ∙ c.if-not-are_inside.false) in
+    let same = part_packed (chunk_samples c.in_ok-chunks.chunks) c.in_ok-index.index
+    kept.starts.items kept.chunks c.in_ok-packed.ensures.pack c.in_ok-deletions.deletions in
     subst (λ (f : Files). IsBlock c.args.range c.args.index.now c.args.chunks.items
-    c.args.tombstones.now (part_of_series f.chunks c.in_ok-deletions.deletions f.index.series))
-    (sym c.in_ok-files.ensures.ok) spelled
+    c.args.tombstones.now (part_of_series (source_in f) c.in_ok-deletions.deletions f.index.series))
+    (sym c.in_ok-files.ensures.ok)
+    (subst (λ (part : Part). IsBlock c.args.range c.args.index.now c.args.chunks.items
+    c.args.tombstones.now part) (sym same) spelled)

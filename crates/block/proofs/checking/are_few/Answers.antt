@@ -3,7 +3,7 @@ use Rattle.std.proofs.lemmas.Option.{slice_get-get_or}
 use Rattle.std.proofs.lemmas.Result.{err_from_is_err_and}
 use Rattle.block.specs.Opening.{chunk_check}
 use Rattle.block.specs.Samples.{chunk_samples}
-use Rattle.block.specs.Sound.{IsHeldChunk}
+use Rattle.block.specs.Sound.{IsReadChunk}
 use Rattle.block.proofs.Steps.{each_next, each_stops, each_ends, facts_next, length_next}
 use Rattle.block.proofs.checking.are_few.Goals as goal
 
@@ -25,7 +25,7 @@ loop-chunk-preserved c =
           each_next (chunk_check c.args.chunks.now) c.args.list.now l.chunk-index _ _ at
           c.in_ok-more.ensures.exact l.invariant.so_far;
       held =
-          facts_next (IsHeldChunk c.args.chunks.now) c.args.list.now l.chunk-index _ at
+          facts_next (IsReadChunk c.args.chunks.now) c.args.list.now l.chunk-index _ at
           l.invariant.held counted.held;
       counted = omega (
         arith,

@@ -3,7 +3,7 @@ use Rattle.std.specs.List.{AllByRecursion, list_all}
 use Rattle.std.proofs.lemmas.Result.{err_from_is_err_and}
 use Rattle.block.specs.Opening.{each, chunk_check, have_few}
 use Rattle.block.specs.Shared.{lists_between}
-use Rattle.block.specs.Sound.{IsHeldChunk}
+use Rattle.block.specs.Sound.{IsReadChunk}
 use Rattle.block.proofs.Steps.{each_next, each_stops, each_ends, facts_next, facts_end}
 use Rattle.block.proofs.Steps.{all_next_test, take_whole}
 use Rattle.block.proofs.Shared.{between_at, between_length}
@@ -38,7 +38,7 @@ loop-at-preserved c =
           each_next (each (chunk_check file)) lists l.at _ _ at
           c.in_ok-these.ensures.exact l.invariant.so_far;
       held =
-          facts_next (AllByRecursion (IsHeldChunk file)) lists l.at _ at l.invariant.held
+          facts_next (AllByRecursion (IsReadChunk file)) lists l.at _ at l.invariant.held
           c.in_ok-these.ensures.held;
       few_is =
           ap (λ (b : Bool). b && c.in_ok-these.these) l.invariant.few_is
@@ -62,6 +62,6 @@ returns c =
           ∙ ap (list_all (have_few file))
           (take_whole lists l.at (omega (arith, long, c.loop-at-test.false)));
       held =
-          facts_end (AllByRecursion (IsHeldChunk file)) lists l.at
+          facts_end (AllByRecursion (IsReadChunk file)) lists l.at
           (omega (arith, long, c.loop-at-test.false)) l.invariant.held;
     }

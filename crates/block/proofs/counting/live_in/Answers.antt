@@ -1,5 +1,4 @@
 use Rattle.std.proofs.Common.{length, sym, ap, ◌∙◌}
-use Rattle.block.specs.Samples.{chunk_samples}
 use Rattle.block.proofs.Counts.{all_live}
 use Rattle.block.proofs.counting.live_in.Goals as goal
 
@@ -7,6 +6,4 @@ pub returns-then-not-has_deletion_of : goal.returns-then-not-has_deletion_of
 returns-then-not-has_deletion_of c =
     let none = sym c.has_deletion_of.ensures ∙ c.if-not-has_deletion_of.true in
     c.len.ensures
-    ∙ ap length c.chunk_samples-samples.ensures
-    ∙ sym (ap length (all_live c.args.tombstones.now c.args.reference
-    (chunk_samples c.args.chunks.now c.args.chunk.now) none))
+    ∙ sym (ap length (all_live c.args.tombstones.now c.args.reference c.args.samples.now none))

@@ -3,10 +3,11 @@ use Rattle.std.specs.Prelude.{int_lt}
 use Rattle.std.proofs.lemmas.List.{take_rest}
 use Rattle.std.proofs.lemmas.List.Sorted.{IsPartitionPoint-from_clause}
 use Rattle.block.proofs.Meeting.{begins_parted, ends_parted, in_turn_take, met_is}
+use Rattle.block.proofs.Sourcing.{side_by_side}
 use Rattle.block.proofs.samples.meeting_chunks.Goals as goal
 
-pub returns : goal.returns
-returns c =
+pub returns-clause-met : goal.returns-clause-met
+returns-clause-met c =
     let cs = c.args.series.now in
     let from = c.args.times.from in
     let to = c.args.times.to in
@@ -23,3 +24,8 @@ returns c =
     take_rest (take j cs) i
     ∙ met_is from to cs i j c.partition_point-end.ensures.bound
     c.partition_point-start.ensures.bound begins ends
+
+pub returns-clause-place : goal.returns-clause-place
+returns-clause-place c =
+    side_by_side c.args.series.now c.partition_point-start.result c.partition_point-end.result
+    c.partition_point-end.ensures.bound c.partition_point-start.ensures.bound

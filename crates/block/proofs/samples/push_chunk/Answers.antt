@@ -8,7 +8,7 @@ returns-then-has_all c =
     let w = c.args.wanted.now in
     on_ok_weaker c.push_all.result
     (λ added. added ∙ ap (λ (ss : List (ℤ × ℤ)). c.args.found.now.items ++ ss)
-    (c.chunk_samples-samples.ensures
-    ∙ sym (whole_kept w.tombstones.now w.reference w.times.from w.times.to c.args.chunks.now
-    c.args.chunk c.requires (sym c.has_all.ensures ∙ c.if-has_all.true))))
+    (sym (whole_kept w.tombstones.now w.reference w.times.from w.times.to
+    (λ any. c.args.samples.now) c.args.chunk c.requires
+    (sym c.has_all.ensures ∙ c.if-has_all.true))))
     c.push_all.ensures

@@ -7,4 +7,5 @@ ghosts-serve_kept g a = record {
   opening = a.kept.snapshot;
   before = a.kept.journal.events.items;
   asked = λ event seat place. Unit {0};
+  kept = λ entries. Unit {0};
 }

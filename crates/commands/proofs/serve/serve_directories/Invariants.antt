@@ -9,4 +9,5 @@ ghosts-serve_blocks g a = record {
   opening = opening_of (map part_in a.blocks.items);
   before = [];
   asked = λ event seat place. Unit {0};
+  kept = λ entries. Unit {0};
 }

@@ -27,8 +27,8 @@ returns-clause-err g c =
     subst (λ (b : Bool). MatchBool b (StillBegins reads path held) (HasChanged reads path held))
     c.if-not-branch.false c.in_ok-still_begins.ensures in
     of_journal reads folder bytes c.in-Err.fault
-    (subst (λ (p : List ℕ). AreFirstBytes reads p most bytes) c.requires c.in_ok-bytes.ensures.ok)
+    (subst (λ (p : List ℕ). AreFirstBytes reads p most bytes) c.requires.path c.in_ok-bytes.ensures.ok)
     (subst (λ (bs : List ℕ). IsFaultOf reads folder bs c.in-Err.fault) c.deref.ensures.value
     c.in-Err.ensures.err)
-    (subst (λ (p : List ℕ). StillBegins reads p bytes) c.requires
+    (subst (λ (p : List ℕ). StillBegins reads p bytes) c.requires.path
     (subst (StillBegins reads path) c.deref-2.ensures.value same))

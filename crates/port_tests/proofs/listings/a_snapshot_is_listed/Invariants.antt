@@ -4,4 +4,4 @@ use Rattle.port_tests.proofs.listings.a_snapshot_is_listed.Given as goal
 
 -- the store that was just opened
 abbrev pub ghosts-replies : goal.ghosts-replies
-ghosts-replies g a = record { book = a.store.seen.book; opening = opening_of []; before = []; asked = λ event seat place. Unit {0} }
+ghosts-replies g a = record { book = a.store.seen.book; opening = opening_of []; before = []; asked = λ event seat place. Unit {0}; kept = λ entries. Unit {0} }

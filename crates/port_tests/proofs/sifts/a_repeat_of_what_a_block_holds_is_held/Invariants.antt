@@ -4,4 +4,4 @@ use Rattle.port_tests.proofs.sifts.a_repeat_of_what_a_block_holds_is_held.Given 
 
 -- the store that was just opened
 abbrev pub ghosts-replies : goal.ghosts-replies
-ghosts-replies g a = record { book = a.store.seen.book; opening = opening_of []; before = []; asked = λ event seat place. Unit {0} }
+ghosts-replies g a = record { book = a.store.seen.book; opening = opening_of []; before = []; asked = λ event seat place. Unit {0}; kept = λ entries. Unit {0} }

@@ -7,7 +7,7 @@ use Rattle.snapshots.proofs.Growing.{admits}
 use Rattle.snapshots.proofs.store.passes_of.Goals as goal
 
 pub reader-requires : goal.reader-requires
-reader-requires g c = admits g.J.Naming.book g.J.Naming.opening g.J.Naming.asked
+reader-requires g c = admits g.J.Naming.book g.J.Naming.opening g.J.Naming.asked g.J.Naming.kept
 
 pub loop-i-preserved : goal.loop-i-preserved
 loop-i-preserved g c =

@@ -1,8 +1,13 @@
-use Rattle.std.proofs.Common.{◌-◌, [], length, subst, sym}
+use Rattle.std.proofs.Common.{◌-◌, [], ap, length, refl, subst, sym}
 use Rattle.event_journal.specs.Holding.{contents_with}
 use Rattle.head.specs.Heads.{world_of}
+use Rattle.head_record.proofs.Worlds.{in_front}
+use Rattle.head_record.specs.Saved.{Saved}
 use Rattle.head_record.specs.Spelling.{head_texts}
+use Rattle.journal.proofs.Keeping.{itself}
 use Rattle.journal.specs.Group.{IsJournalText}
+use Rattle.journal.specs.Records.{file_of}
+use Rattle.store_folder.proofs.Says.{files_apart, says_on}
 use Rattle.store_folder.specs.Writing.{places_from}
 use Rattle.store_backup.proofs.Targets.{begins_so, finds_so, next_of, only_written}
 use Rattle.store_backup.proofs.begun.begin_with.Goals as goal
@@ -77,3 +82,40 @@ returns-clause-begins g c =
     (subst (IsJournalText (contents_with (head_texts head) [])) (sym c.deref.ensures.value)
     c.in-Ok-head_journal.ensures.text)
     c.in-Err-begin_journal.ensures.any_moment c.in-Err-begin_journal.ensures.others
+
+-- what its head and its blocks say
+
+pub returns-in-Ok-begin_journal-clause-says : goal.returns-in-Ok-begin_journal-clause-says
+returns-in-Ok-begin_journal-clause-says g c =
+    let f = g.F.Folder in
+    let values = c.args.values in
+    let s = c.args.snapshot.now in
+    let head = c.in-Ok.head in
+    let written = places_from 1 (length s.blocks - 0) in
+    let contents = contents_with (head_texts head) [] in
+    let mid = c.write_saved.new.folder in
+    let new = c.in-Ok-begin_journal.begun in
+    let keeps = c.in-Ok-begin_journal.ensures.keeps contents
+    (subst (IsJournalText contents) (sym c.deref.ensures.value) c.in-Ok-head_journal.ensures.text) in (
+      written,
+      record {
+        file = file_of contents;
+        saved = head;
+        has = keeps.file;
+        journal = record {
+          head = c.in-Ok-head_journal.ensures.saved;
+          stands = record {
+            before = in_front head;
+            contents = [];
+            names = [];
+            spell = refl;
+            recovers = itself contents keeps.each;
+          };
+        };
+        means = ap (λ (h : Saved). h.values) c.in-Ok.ensures.saved;
+        names = ap (λ (h : Saved). h.places) c.in-Ok.ensures.saved;
+        says = says_on f.shows f.kept values written mid new
+            (λ files among there. c.in-Ok-begin_journal.ensures.files files
+            (files_apart written files among) there) c.in-Ok.ensures.says;
+      },
+    )

@@ -2,6 +2,7 @@ use Rattle.std.proofs.Common.{rules, subst}
 use Rattle.block_folder.specs.declared.values.Values.{Values}
 use Rattle.head.specs.Heads.{world_of}
 use Rattle.store_joiner.specs.Finds.{FindsNow}
+use Rattle.store_joiner.specs.Stores.{SaysMeaning}
 use Rattle.store_backup.specs.Copies.{Begins}
 use Rattle.store_backup.proofs.Targets.{as_many}
 use Rattle.store_backup.proofs.copying.copy_found.Goals as goal
@@ -22,4 +23,8 @@ returns-in-Ok-begin_with-clause-copied g c =
       begins = subst (λ (values : Values). Begins f.shows f.kept f.moment f.left_since
           (record { world = world_of s; values = values }) c.args.target new) c.values.ensures
           c.in-Ok-begin_with.ensures.begins;
+      places = c.in-Ok-begin_with.ensures.says.0;
+      says = subst (λ (values : Values). SaysMeaning f.shows f.kept values
+          c.in-Ok-begin_with.ensures.says.0 new) c.values.ensures
+          c.in-Ok-begin_with.ensures.says.1;
     }

@@ -1,12 +1,13 @@
 use Rattle.std.proofs.Common.{◌≡◌, List, None, Some, true, false, inl, inr, ⊎_elim, ◌∙◌}
 use Rattle.std.proofs.lemmas.Result.{IfErr-weaker, IfOk-weaker}
 use Rattle.data_folder.specs.JournalFile.{journal_name}
+use Rattle.data_folder.proofs.Moments.{untouched_on}
 use Rattle.head.specs.Heads.{BlockPart}
 use Rattle.head.specs.Worlds.{Event}
 use Rattle.head_record.specs.Saved.{Saved}
 use Rattle.store_backup.specs.declared.error.CopyFault.TheVariants.{Blocks, Taken}
 use Rattle.store_backup.specs.Reading.{IsRead}
-use Rattle.store_backup.proofs.Sources.{not_taken, of_target}
+use Rattle.store_backup.proofs.Sources.{not_changed, not_taken, of_target}
 use Rattle.store_backup.proofs.Targets.{copied_later, later_or_not, only_read}
 use Rattle.store_backup.proofs.copying.copy_store.Goals as goal
 
@@ -95,3 +96,19 @@ returns-in-Err-clause-refused g c =
 
 pub returns-in-Err-clause-told : goal.returns-in-Err-clause-told
 returns-in-Err-clause-told g c = of_target c.in-Err.fault c.in-Err.ensures.refused
+
+-- the source has changed
+
+pub returns-in-Ok-clause-changed : goal.returns-in-Ok-clause-changed
+returns-in-Ok-clause-changed g c =
+    let f = g.G.Folder in
+    IfErr-weaker c.copy_into.result _ _
+    (λ e h is. (
+      (h is).0,
+      untouched_on f.shows f.kept f.moment f.left_since g.met.G.Folder.earlier c.args.target
+          c.check_target.new.target e.1 c.check_target.ensures.untouched (h is).1,
+    )) c.copy_into.ensures.changed
+
+pub returns-in-Err-clause-changed : goal.returns-in-Err-clause-changed
+returns-in-Err-clause-changed g c =
+    not_changed c.in-Err.fault c.in-Err.ensures.refused

@@ -6,10 +6,10 @@ use Rattle.head.specs.Blocks.{part_in}
 use Rattle.store_folder.specs.Origins.{beginning}
 use Rattle.store_folder.specs.States.{origin_of}
 use Rattle.store_joiner.specs.Adds.{with_beneath}
-use Rattle.store_joiner.specs.Stores.{IsAddedTo}
+use Rattle.store_joiner.specs.Stores.{IsAddedTo, IsSame}
 use Rattle.store_joiner.proofs.Changing.{counts_first, finds_first, first_changed, first_rests}
-use Rattle.store_joiner.proofs.Changing.{none_left, origin_again}
-use Rattle.store_joiner.proofs.Stores.{if_ok, match_so}
+use Rattle.store_joiner.proofs.Changing.{first_same, none_left, origin_again}
+use Rattle.store_joiner.proofs.Stores.{if_err, if_ok, match_so, now_in}
 use Rattle.store_joiner.proofs.adding.add_first.Goals as goal
 
 pub returns-in-Ok-clause-any_moment : goal.returns-in-Ok-clause-any_moment
@@ -46,6 +46,26 @@ returns-in-Ok-clause-finds g c tells =
     ))
     (c.add_found.ensures.finds tells)
 
+pub returns-in-Ok-clause-stays : goal.returns-in-Ok-clause-stays
+returns-in-Ok-clause-stays g c tells =
+    let f = g.F.Folder in
+    let x = c.in-Ok.found in
+    let head = x.store.journal.head in
+    let parts = map part_in x.store.blocks.items in
+    let is = origin_again (beginning Whole) head parts (c.in-Ok.ensures.after tells) in
+    if_err c.add_found.result _ _
+    (λ e stays unless. first_same f.moment f.left_since e.1 (origin_of head parts)
+    x.store.journal.events.items is c.in-Ok.ensures.saved (stays unless))
+    (c.add_found.ensures.stays tells)
+
+pub returns-in-Err-clause-stays : goal.returns-in-Err-clause-stays
+returns-in-Err-clause-stays g c tells unless =
+    let f = g.F.Folder in
+    let met = g.met.F.Folder in
+    let old = c.args.folder in
+    now_in f.shows f.kept f.sound f.moment f.left_since met.only_now met.earlier old c.in-Err.fault.1 _
+    (first_rests f.moment f.left_since old c.in-Err.fault.1 IsSame c.in-Err.ensures.any_moment)
+
 pub returns-in-Ok-clause-blocks : goal.returns-in-Ok-clause-blocks
 returns-in-Ok-clause-blocks g c has = absurd (c.in-Ok.ensures.blocks has)
 
@@ -68,6 +88,16 @@ returns-then-not-is_same-clause-any_moment g c tells =
     (IsAddedTo c.args.opening.now.blocks c.args.opening.now.floor)
     (none_left f.shows f.kept f.moment f.left_since g.met.F.Folder.only_now old old c.requires.none.0
     c.requires.none.1 (untouched f.shows f.kept f.moment f.left_since old))
+
+pub returns-then-not-is_same-clause-stays : goal.returns-then-not-is_same-clause-stays
+returns-then-not-is_same-clause-stays g c tells unless =
+    let f = g.F.Folder in
+    let met = g.met.F.Folder in
+    let old = c.args.folder in
+    now_in f.shows f.kept f.sound f.moment f.left_since met.only_now met.earlier old old _
+    (first_rests f.moment f.left_since old old IsSame
+    (none_left f.shows f.kept f.moment f.left_since met.only_now old old c.requires.none.0
+    c.requires.none.1 (untouched f.shows f.kept f.moment f.left_since old)))
 
 pub returns-then-not-is_same-clause-blocks : goal.returns-then-not-is_same-clause-blocks
 returns-then-not-is_same-clause-blocks g c has =

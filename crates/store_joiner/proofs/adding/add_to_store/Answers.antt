@@ -9,7 +9,7 @@ use Rattle.store_folder.specs.States.{origin_of}
 use Rattle.store_folder.specs.declared.error.StartError.{StartError}
 use Rattle.store_folder.specs.declared.reading.FoundStore.{FoundStore}
 use Rattle.store_joiner.specs.Stores.{IsAddedTo, StandsOrFinds, StaysNow}
-use Rattle.store_joiner.proofs.Stores.{as_found, has_for, if_err, match_so, stays, stays_now}
+use Rattle.store_joiner.proofs.Stores.{as_found, has_for, if_err, match_so, now_in, stays, stays_now}
 use Rattle.store_joiner.proofs.Stores.{then_stays, untouched_finds}
 use Rattle.std.proofs.Common.{◌≡◌, ◌+◌, [], None, ap, inl, inr, length, map, refl, rules, sym, ◌∙◌}
 use Rattle.head.specs.Blocks.{part_in}
@@ -22,10 +22,11 @@ use Rattle.data_folder.proofs.Foreign.{foreign_beside, foreign_then}
 use Rattle.head_record.specs.Saved.{Saved}
 use Rattle.store_joiner.proofs.Stores.{if_both, of_ok}
 use Rattle.store_joiner.proofs.Changing.{changes_found, first_rests, none_left, not_none}
-use Rattle.store_joiner.proofs.Changing.{plain_changed, plain_found, plain_rests, some_of}
+use Rattle.store_joiner.proofs.Changing.{plain_changed, plain_denied, plain_found, plain_rests}
+use Rattle.store_joiner.proofs.Changing.{plain_same, some_of}
 use Rattle.head.specs.Worlds.{World}
 use Rattle.data_folder.proofs.Moments.{joined, untouched_on}
-use Rattle.store_joiner.specs.Stores.{NoneOrFinds}
+use Rattle.store_joiner.specs.Stores.{IsSame, NoneOrFinds}
 use Rattle.store_joiner.proofs.adding.add_to_store.Goals as goal
 
 abbrev found : Option FoundStore → Result (Option FoundStore) StartError
@@ -170,6 +171,45 @@ returns-in-Err-clause-plain g c tells file has plain =
     (IsAddedTo c.args.opening.now.blocks c.args.opening.now.floor)
     (c.open_store.ensures.any_moment tells file has)
 
+pub returns-in-Some-clause-plain_stays : goal.returns-in-Some-clause-plain_stays
+returns-in-Some-clause-plain_stays g c tells file has plain =
+    let f = g.F.Folder in
+    let mid = c.open_store.new.folder in
+    let s = c.in-Some.store in
+    let is : IsFoundStore f.shows f.kept s.journal (map part_in s.blocks.items) mid =
+    search rules in
+    let found = some_of c.in-Ok.opened s _ c.in-Some.is
+    (c.in-Ok.ensures.plain tells file has.shown plain) in
+    let store = plain_found f.shows f.kept mid s is found.1 in
+    if_err c.add_found.result _ _
+    (λ e stays unless. plain_same f.moment f.left_since e.1 file s found.0 store (stays unless))
+    (c.add_found.ensures.stays tells)
+
+pub returns-in-Err-clause-plain_stays : goal.returns-in-Err-clause-plain_stays
+returns-in-Err-clause-plain_stays g c tells file has plain unless =
+    let f = g.F.Folder in
+    let met = g.met.F.Folder in
+    let old = c.args.folder in
+    let new = c.open_store.new.folder in
+    now_in f.shows f.kept f.sound f.moment f.left_since met.only_now met.earlier old new _
+    (plain_rests f.moment f.left_since old new file IsSame
+    (c.open_store.ensures.any_moment tells file has))
+
+pub returns-in-Some-clause-plain_safe : goal.returns-in-Some-clause-plain_safe
+returns-in-Some-clause-plain_safe g c tells file shown plain =
+    let s = c.in-Some.store in
+    let found = some_of c.in-Ok.opened s _ c.in-Some.is
+    (c.in-Ok.ensures.plain tells file shown plain) in
+    if_err c.add_found.result _ _ (λ e stays. inr (inl (s.journal.events.items, found.0)))
+    c.add_found.ensures.later
+
+pub returns-in-Err-clause-plain_safe : goal.returns-in-Err-clause-plain_safe
+returns-in-Err-clause-plain_safe g c tells file shown plain =
+    let f = g.F.Folder in
+    plain_denied f.shows f.kept f.moment f.left_since file c.args.folder c.open_store.new.folder
+    c.in-Err.error _ (c.in-Err.ensures.plain_refused tells file shown plain)
+    c.in-Err.ensures.unchanged c.open_store.ensures.others
+
 pub returns-in-Some-clause-plain_finds : goal.returns-in-Some-clause-plain_finds
 returns-in-Some-clause-plain_finds g c tells file shown plain =
     let f = g.F.Folder in
@@ -234,6 +274,27 @@ returns-in-Err-clause-first g c tells shown durable =
     (IsAddedTo c.args.opening.now.blocks c.args.opening.now.floor)
     (none_left f.shows f.kept f.moment f.left_since g.met.F.Folder.only_now c.args.folder c.open_store.new.folder
     shown durable (c.open_store.ensures.whole tells None shown refl))
+
+pub returns-in-Some-clause-first_stays : goal.returns-in-Some-clause-first_stays
+returns-in-Some-clause-first_stays g c tells shown durable =
+    let f = g.F.Folder in
+    let mid = c.open_store.new.folder in
+    let s = c.in-Some.store in
+    let is : IsFoundStore f.shows f.kept s.journal (map part_in s.blocks.items) mid =
+    search rules in
+    absurd (not_none f.shows f.kept f.moment f.left_since tells c.args.folder mid is.file shown
+    (c.open_store.ensures.whole tells None shown refl) is.has)
+
+pub returns-in-Err-clause-first_stays : goal.returns-in-Err-clause-first_stays
+returns-in-Err-clause-first_stays g c tells shown durable unless =
+    let f = g.F.Folder in
+    let met = g.met.F.Folder in
+    let old = c.args.folder in
+    let new = c.open_store.new.folder in
+    now_in f.shows f.kept f.sound f.moment f.left_since met.only_now met.earlier old new _
+    (first_rests f.moment f.left_since old new IsSame
+    (none_left f.shows f.kept f.moment f.left_since met.only_now old new shown durable
+    (c.open_store.ensures.whole tells None shown refl)))
 
 pub returns-in-Err-clause-blocks : goal.returns-in-Err-clause-blocks
 returns-in-Err-clause-blocks g c tells shown has = c.open_store.ensures.whole tells None shown refl

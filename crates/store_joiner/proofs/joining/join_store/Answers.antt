@@ -9,7 +9,7 @@ use Rattle.store_folder.specs.States.{origin_of}
 use Rattle.store_folder.specs.declared.error.StartError.{StartError}
 use Rattle.store_folder.specs.declared.reading.FoundStore.{FoundStore}
 use Rattle.store_joiner.specs.Stores.{IsJoinedTo, StandsOrFinds, StaysNow}
-use Rattle.store_joiner.proofs.Stores.{as_found, has_for, if_err, match_so, stays, stays_now}
+use Rattle.store_joiner.proofs.Stores.{as_found, has_for, if_err, match_so, now_in, stays, stays_now}
 use Rattle.store_joiner.proofs.Stores.{then_stays, untouched_finds}
 use Rattle.std.proofs.Common.{◌≡◌, [], inl, inr, map, rules}
 use Rattle.head.specs.Blocks.{part_in}
@@ -20,8 +20,9 @@ use Rattle.store_joiner.specs.Finds.{FindsNow, other_of}
 use Rattle.store_joiner.specs.Joins.{with_blocks}
 use Rattle.data_folder.proofs.Foreign.{foreign_beside, foreign_then}
 use Rattle.store_joiner.proofs.Stores.{if_ok}
-use Rattle.store_joiner.proofs.Changing.{changes_found, plain_changed, plain_found, plain_rests}
-use Rattle.store_joiner.proofs.Changing.{some_of}
+use Rattle.store_joiner.proofs.Changing.{changes_found, plain_changed, plain_denied, plain_found}
+use Rattle.store_joiner.proofs.Changing.{plain_rests, plain_same, some_of}
+use Rattle.store_joiner.specs.Stores.{IsSame}
 use Rattle.head.specs.Worlds.{World}
 use Rattle.store_joiner.proofs.joining.join_store.Goals as goal
 
@@ -163,6 +164,45 @@ returns-in-Err-clause-plain g c tells file has plain =
     plain_rests f.moment f.left_since c.args.folder c.open_store.new.folder file
     IsJoinedTo
     (c.open_store.ensures.any_moment tells file has)
+
+pub returns-in-Some-clause-plain_stays : goal.returns-in-Some-clause-plain_stays
+returns-in-Some-clause-plain_stays g c tells file has plain =
+    let f = g.F.Folder in
+    let mid = c.open_store.new.folder in
+    let s = c.in-Some.store in
+    let is : IsFoundStore f.shows f.kept s.journal (map part_in s.blocks.items) mid =
+    search rules in
+    let found = some_of c.in-Ok.opened s _ c.in-Some.is
+    (c.in-Ok.ensures.plain tells file has.shown plain) in
+    let store = plain_found f.shows f.kept mid s is found.1 in
+    if_err c.join_found.result _ _
+    (λ e stays unless. plain_same f.moment f.left_since e.1 file s found.0 store (stays unless))
+    (c.join_found.ensures.stays tells)
+
+pub returns-in-Err-clause-plain_stays : goal.returns-in-Err-clause-plain_stays
+returns-in-Err-clause-plain_stays g c tells file has plain unless =
+    let f = g.F.Folder in
+    let met = g.met.F.Folder in
+    let old = c.args.folder in
+    let new = c.open_store.new.folder in
+    now_in f.shows f.kept f.sound f.moment f.left_since met.only_now met.earlier old new _
+    (plain_rests f.moment f.left_since old new file IsSame
+    (c.open_store.ensures.any_moment tells file has))
+
+pub returns-in-Some-clause-plain_safe : goal.returns-in-Some-clause-plain_safe
+returns-in-Some-clause-plain_safe g c tells file shown plain =
+    let s = c.in-Some.store in
+    let found = some_of c.in-Ok.opened s _ c.in-Some.is
+    (c.in-Ok.ensures.plain tells file shown plain) in
+    if_err c.join_found.result _ _ (λ e stays. inr (inl (s.journal.events.items, found.0)))
+    c.join_found.ensures.later
+
+pub returns-in-Err-clause-plain_safe : goal.returns-in-Err-clause-plain_safe
+returns-in-Err-clause-plain_safe g c tells file shown plain =
+    let f = g.F.Folder in
+    plain_denied f.shows f.kept f.moment f.left_since file c.args.folder c.open_store.new.folder
+    c.in-Err.error _ (c.in-Err.ensures.plain_refused tells file shown plain)
+    c.in-Err.ensures.unchanged c.open_store.ensures.others
 
 pub returns-in-Some-clause-plain_finds : goal.returns-in-Some-clause-plain_finds
 returns-in-Some-clause-plain_finds g c tells file shown plain =

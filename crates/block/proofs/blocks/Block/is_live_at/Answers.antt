@@ -1,5 +1,5 @@
 use Rattle.std.proofs.Common.{◌∙◌}
-use Rattle.block.proofs.Showing.{are_held, are_in_turn, live_is}
+use Rattle.block.proofs.Showing.{are_held, are_in_turn, are_kept, live_is}
 use Rattle.block.proofs.blocks.Block.is_live_at.Goals as goal
 
 pub is_any_wanted-requires : goal.is_any_wanted-requires
@@ -8,6 +8,8 @@ is_any_wanted-requires c = record {
       c.args.i c.chunks_at.result.now c.chunks_at.ensures;
   in_turn = are_in_turn c.deref-files.result.now c.self.inside c.deref-files.ensures
       c.self.invariant c.args.i c.chunks_at.result.now c.chunks_at.ensures;
+  kept = are_kept c.deref-files.result.now c.self.inside c.deref-files.ensures c.self.invariant
+      c.args.i c.index.result.now c.chunks_at.result.now c.index.ensures c.chunks_at.ensures;
 }
 
 pub returns : goal.returns

@@ -2,6 +2,7 @@ use Rattle.std.proofs.Common.{subst}
 use Rattle.std.specs.Arc.{arc_value}
 use Rattle.labels.specs.Parts.{IsPart}
 use Rattle.block.specs.Blocks.{Shown}
+use Rattle.block.specs.Kept.{source_in}
 use Rattle.block.specs.CarriedPairs.{AreCarriedPairs}
 use Rattle.block.proofs.Parts.{is_part}
 use Rattle.block.proofs.Showing.{named_in}
@@ -14,8 +15,8 @@ invariant_of-result c =
     record {
       is_part =
           subst (λ (s : Shown). IsPart s.part) c.self.view_is
-          (is_part b.range f.chunks f.index b.tombstones c.self.invariant);
+          (is_part b.range (source_in f) f.index b.tombstones c.self.invariant.sound);
       named =
           subst (λ (s : Shown). AreCarriedPairs s.part s.pairs) c.self.view_is
-          (named_in f.chunks b.tombstones f.index c.self.invariant.consistent);
+          (named_in (source_in f) b.tombstones f.index c.self.invariant.sound.consistent);
     }

@@ -18,9 +18,9 @@ has_sample_in-requires c =
     let sorted = subst (λ (h : HeadSeries). T (is_sorted int_cmp h.samples)) (sym c.self.view_is) c.requires in
     let xs = c.chunks-chunks.result.now in
     let last = c.self.inside.tail.items in
-    sorted_here (λ x. arc_value x) xs last c.partition_point-place.result c.index-chunks-place.result c.samples.result.now
+    sorted_here (λ x. arc_value x) xs last c.partition_point-place.result c.index-chunks-place.result c.deref.result.now
     (subst (λ ys. T (is_sorted int_cmp (joined_chunks ys last))) (sym c.chunks-chunks.ensures) sorted)
-    c.if-place-chunks.true c.index-chunks-place.is (c.samples.ensures ∙ c.deref.ensures)
+    c.if-place-chunks.true c.index-chunks-place.is c.deref.ensures
 
 pub has_sample_in-requires-2 : goal.has_sample_in-requires-2
 has_sample_in-requires-2 c =
@@ -38,8 +38,8 @@ returns-then-place-chunks c =
     let point = IsPartitionPoint-from_clause (λ x. ends_before c.args.from (arc_value x)) xs c.partition_point-place.result c.partition_point-place.ensures.partitioned (parted_each (λ x. arc_value x) xs last c.args.from here full) (λ a r f' k. search rules) in
     let x : to_z w64 (of_z w64 c.args.from) ≡ c.args.from = search rules in
     let y : to_z w64 (of_z w64 c.args.to) ≡ c.args.to = search rules in
-    sampled_times c.args.from (to_z w64 (of_z w64 c.args.from)) c.args.to (to_z w64 (of_z w64 c.args.to)) c.samples.result.now c.has_sample_in.result x y c.has_sample_in.ensures
-    ∙ decides_here (λ x. arc_value x) xs last c.args.from c.args.to c.partition_point-place.result c.index-chunks-place.result c.samples.result.now here c.if-place-chunks.true c.index-chunks-place.is (c.samples.ensures ∙ c.deref.ensures) point
+    sampled_times c.args.from (to_z w64 (of_z w64 c.args.from)) c.args.to (to_z w64 (of_z w64 c.args.to)) c.deref.result.now c.has_sample_in.result x y c.has_sample_in.ensures
+    ∙ decides_here (λ x. arc_value x) xs last c.args.from c.args.to c.partition_point-place.result c.index-chunks-place.result c.deref.result.now here c.if-place-chunks.true c.index-chunks-place.is c.deref.ensures point
     ∙ ap (λ ys. has_sample c.args.from c.args.to (joined_chunks ys last)) c.chunks-chunks.ensures
     ∙ ap (λ (h : HeadSeries). has_sample c.args.from c.args.to h.samples) c.self.view_is
 

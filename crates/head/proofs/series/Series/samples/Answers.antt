@@ -14,6 +14,6 @@ returns c =
     (λ i. map (λ a. arc_value a) (take_all c.loop-chunk.chunk-index xs (omega arith) i)) ∙ c.chunks-chunk-items.ensures in
     let before = c.loop-chunk.invariant ∙ (λ i. joined_chunks (all i) [])
     ∙ append-nil (flat_map (λ (samples : List (ℤ × ℤ)). samples) c.self.inside.sealed) in
-    c.in_ok-extend_from_slice-2.ensures.items
+    c.in_ok-extend_from_slice.ensures.items
     ∙ (λ i. before i ++ c.as_slice.ensures.value i)
     ∙ ap (λ (h : HeadSeries). h.samples) c.self.view_is

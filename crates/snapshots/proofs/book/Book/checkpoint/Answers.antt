@@ -28,6 +28,7 @@ invariant_of-self g c = (
       c.self.invariant.0.2),
   c.self.invariant.2,
   c.self.invariant.3,
+  c.self.invariant.4,
 )
 
 pub returns-clause-held : goal.returns-clause-held

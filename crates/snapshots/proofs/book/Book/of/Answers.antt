@@ -11,4 +11,5 @@ invariant_of-result g c = (
       (sym (ap (kept_of g.J.Naming.before) c.requires.empty ∙ append-nil g.J.Naming.before)) c.requires.kept,
   c.requires.world,
   c.requires.may,
+  c.requires.rule,
 )

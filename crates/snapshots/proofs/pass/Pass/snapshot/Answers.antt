@@ -3,7 +3,7 @@ use Rattle.snapshots.proofs.pass.Pass.snapshot.Goals as goal
 use Rattle.snapshots.proofs.pass.Pass.snapshot.Goals.{in-Some-taken, in-None}
 
 pub enter_as-requires : goal.enter_as-requires
-enter_as-requires g c = enters _ _ _ _ _
+enter_as-requires g c = enters _ _ _ _ _ _
 
 pub returns-after-taken-clause-told : goal.returns-after-taken-clause-told
 returns-after-taken-clause-told g c = elim c.match-taken.branch [

@@ -1,12 +1,13 @@
-use Rattle.std.proofs.Common.{List, ap, inl, map, subst, sym, ◌∙◌}
+use Rattle.std.proofs.Common.{List, ap, inl, length, map, subst, sym, take, ◌++◌, ◌-◌, ◌∙◌}
 use Rattle.block.specs.Blocks.{Shown}
 use Rattle.data_folder.proofs.Foreign.{foreign_rests, foreign_then}
 use Rattle.data_folder.specs.Sweeping.{AreAmong}
 use Rattle.head.specs.Blocks.{part_in}
 use Rattle.head_record.specs.Saved.{Place}
 use Rattle.store_folder.specs.KeeperLaws.{as_store}
+use Rattle.store_folder.specs.Saving.{AreBelow, IsAbove}
 use Rattle.store_folder.specs.Sweeps.{names_at}
-use Rattle.store_folder.specs.Writing.{EachSays}
+use Rattle.store_folder.specs.Writing.{EachSays, places_from}
 use Rattle.store_folder.proofs.Fronts.{failed_like, may_save, open_like, saved_like}
 use Rattle.store_folder.proofs.Rolls.{finds_on, stays_so}
 use Rattle.store_folder.proofs.Says.{says_on}
@@ -253,3 +254,21 @@ returns-in-Err-clause-says g c says =
     (c.save.ensures.blocks files
     (subst (λ (ps : List Place). AreAmong (names_at ps) files) (sym c.deref-3.ensures.value) among)
     there)) says
+
+-- the numbers of the folders
+
+pub returns-in-Ok-save-clause-numbers : goal.returns-in-Ok-save-clause-numbers
+returns-in-Ok-save-clause-numbers g c =
+    let same = c.same_blocks-same.result in
+    let next = c.next_number-next.result in
+    let more = places_from next (length c.args.snapshot.now.blocks - same) in (
+      same,
+      next,
+      c.next_number-next.ensures.some,
+      subst (λ (ps : List Place). IsAbove next ps) c.deref-2.ensures.value
+          c.next_number-next.ensures.above,
+      λ n one below. c.next_number-next.ensures.least n one
+          (subst (λ (ps : List Place). AreBelow n ps) (sym c.deref-2.ensures.value) below),
+      c.in-Ok-save.ensures.numbers
+          ∙ ap (λ (ps : List Place). take same ps ++ more) c.deref-3.ensures.value,
+    )

@@ -4,4 +4,4 @@ use Rattle.store_tests.proofs.changes.refused_memory.changes_refused_memory_chan
 
 -- the store that was just made
 abbrev pub ghosts-count_in : goal.ghosts-count_in
-ghosts-count_in g a = record { book = a.store.seen.book; opening = opening_of []; before = []; asked = λ event seat place. Unit {0} }
+ghosts-count_in g a = record { book = a.store.seen.book; opening = opening_of []; before = []; asked = λ event seat place. Unit {0}; kept = λ entries. Unit {0} }
