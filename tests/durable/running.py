@@ -16,7 +16,7 @@ WORDS = ("--journal-mb", "1")
 
 
 def large(clock, n=4000):
-    """A batch whose record has some 50,000 bytes."""
+    """A batch whose record has some 40,000 bytes."""
     labels = {"__name__": "running", "n": str(clock // 5000 % 3), "suite": "durable"}
     return Batch([(labels, [(clock + k, 2**62 - clock - k) for k in range(n)])])
 
@@ -37,7 +37,7 @@ def session():
     """A journal grows by more than one MB; a cut, and an eighth of that; a deletion of what the block has,
     and once more."""
     clock = 0
-    for _ in range(24):
+    for _ in range(28):
         yield large(clock)
         clock += 5000
     yield "rolled the journal: 0 blocks"
