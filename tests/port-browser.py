@@ -199,6 +199,8 @@ def asks_as_a_person(browser, at, folder):
 
 def main():
     folder = pathlib.Path(sys.argv[1]) if sys.argv[1:] else None
+    if folder:
+        folder.mkdir(exist_ok=True)
     when, port = int(time.time() * 1000) - 60_000, lib.free_port()
     at = f"http://127.0.0.1:{port}"
     with tempfile.TemporaryDirectory(prefix="browser-", ignore_cleanup_errors=True) as room:
