@@ -1039,25 +1039,34 @@ def busy_server(querier, program, blocktool, work, replies, seed):
 
 # ---- a large store
 
-# runs a program, and tells its seconds and its peak memory in kB; this process is too large to be asked
+# runs a program, and tells its seconds, those of processors, and its peak memory in kB; this process is too
+# large to be asked
 MEASURED = """
 import os, sys, time
 began = time.monotonic()
 child = os.posix_spawn(sys.argv[1], sys.argv[1:], os.environ)
 _, status, used = os.wait4(child, 0)
-print(os.waitstatus_to_exitcode(status), time.monotonic() - began, used.ru_maxrss, file=sys.stderr)
+took = time.monotonic() - began
+print(os.waitstatus_to_exitcode(status), took, used.ru_utime + used.ru_stime, used.ru_maxrss, file=sys.stderr)
 """
 
 
 def measured(words, file):
-    """The lines of a program over a file, its seconds, and its peak memory in MB."""
+    """The lines of a program over a file, its seconds, those of processors, and its peak memory in MB."""
     with open(file, "rb") as text:
         done = subprocess.run(
             [sys.executable, "-c", MEASURED, *words], stdin=text, capture_output=True, text=True, check=True
         )
-    status, seconds, memory = done.stderr.split()[-3:]
+    status, seconds, worked, memory = done.stderr.split()[-4:]
     holds(f"{words}: {done}", status == "0")
-    return done.stdout.splitlines(), float(seconds), int(memory) / 1e3
+    return done.stdout.splitlines(), float(seconds), float(worked), int(memory) / 1e3
+
+
+def worked_so_far(pid):
+    """The seconds of processors that a process took until now."""
+    with open(f"/proc/{pid}/stat") as stat:
+        fields = stat.read().rsplit(")", 1)[1].split()
+    return sum(map(int, fields[11:13])) / os.sysconf("SC_CLK_TCK")
 
 
 def large_labels(n):
@@ -1088,24 +1097,27 @@ def speed(querier, program, work):
     for n in range(10):
         first = 15_000 * (55 + n)
         holds("a deletion", keeper.delete(f'{{job="job-{10 * n:02}"}}', first, first + 150_000))
-    starts = []
+    starts, works = [], []
     for _ in range(3):
         keeper.server.end()
         began = time.monotonic()
         keeper.start()
         starts.append(time.monotonic() - began)
+        works.append(worked_so_far(keeper.server.process.pid))
     print(f"speed: {keeper.server.told_err[:2]}")
-    print(f"  a start: {min(starts):.2f} s, of {', '.join(f'{one:.2f}' for one in starts)}")
+    print(f"  a start: {min(starts):.2f} s, of {', '.join(f'{one:.2f}' for one in starts)};", end=" ")
+    print(f"{min(works):.2f} s of processors")
     for selector in ['metric_3{instance="host-00020"}', '{job="job-20"}', "metric_3"]:
         with open(f"{work}/reply", "w") as file:
             json.dump(keeper.select(selector), file, separators=(",", ":"))
         line = [program, "--store", keeper.folder, "--selector", selector]
         found = [measured(line, f"{work}/reply") for _ in range(3)]
-        least = min(seconds for _, seconds, _ in found)
+        least, worked = min(one[1] for one in found), min(one[2] for one in found)
         size = os.path.getsize(f"{work}/reply") / 1e6
-        memory = max(memory for _, _, memory in found)
+        memory = max(one[3] for one in found)
         print(f"  an audit of {selector}, {size:.2f} MB: {least:.2f} s,", end=" ")
-        print(f"{least / min(starts):.2f} of a start, {memory:.0f} MB; {found[0][0][-1]}")
+        print(f"{least / min(starts):.2f} of a start; {worked:.2f} s of processors,", end=" ")
+        print(f"{worked / min(works):.2f} of a start; {memory:.0f} MB; {found[0][0][-1]}", flush=True)
     keeper.server.end()
 
 
