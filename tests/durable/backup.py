@@ -137,6 +137,11 @@ class Client(threading.Thread):
                 self.strange.append((event.line()[:60], reply))
             self.known = len(self.sent)
 
+    def waits_for(self, count):
+        """Waits until so many events are acknowledged, or no more come."""
+        while self.known < count and self.is_alive():
+            time.sleep(0.01)
+
     def end(self):
         self.over.set()
         self.join()
@@ -152,7 +157,8 @@ def beside(them, looks, count):
     client.start()
     copies, restless = [], 0
     for number in range(count):
-        time.sleep(0.1)
+        # so many events lie between copies that cuts come, and rolls after them, however slow the machine is
+        client.waits_for(40 * (number + 1))
         at = f"{out}.{number}"
         begin = client.known
         ended = them.copy(folder, at)
