@@ -23,7 +23,7 @@ use Rattle.store_folder.specs.declared.error.ReadError.TheVariants as read
 use Rattle.store_folder.specs.declared.error.StartError.{StartError}
 use Rattle.store_folder.specs.declared.error.StartError.TheVariants as errors
 use Rattle.store_folder.specs.Plain.{DeniesAdmitting, DeniesEvents, DeniesPlain, DeniesText}
-use Rattle.store_folder.specs.Plain.{HasEither, begins_plain}
+use Rattle.store_folder.specs.Plain.{HasEither, StandsAlone, begins_plain}
 use Rattle.store_folder.specs.Starting.{nothing_saved}
 
 -- what the whole records of a file without a head stand for
@@ -39,23 +39,30 @@ plain_stands file contents events names r s = record {
   recovers = r;
 }
 
+-- contents of which there are some spell some events
+pub some_events : (contents : List (List ℕ)) (events : List Event) (names : List Label)
+    → (contents ≡ [] → ⊥) → Spell contents events names → events ≡ [] → ⊥
+some_events [] events names some s none = some refl
+some_events (c ∷ cs) events names some s none =
+    subst (λ (es : List Event). Spell (c ∷ cs) es names) none s
+
 pub plain_found : (file : List ℕ) (contents : List (List ℕ)) (events : List Event)
     (names : List Label) (len : ℕ) → Recovers file contents → Spell contents events names
-    → len ≡ length (file_of contents)
-    → (stands : Stands [] file events) × (len ≡ length (file_of stands.contents))
-    × (names ≡ stands.names)
+    → (events ≡ [] → ⊥) → len ≡ length (file_of contents)
+    → (stands : StandsAlone file events) × (len ≡ length (file_of stands.0.contents))
+    × (names ≡ stands.0.names)
 unfolding plain_stands
-plain_found file contents events names len r s is =
-    (plain_stands file contents events names r s, is, refl)
+plain_found file contents events names len r s some is =
+    ((plain_stands file contents events names r s, some), is, refl)
 
 pub plain_headed : (file : List ℕ) (contents : List (List ℕ)) (events : List Event)
     (names : List Label) (text : List ℕ) → Recovers file contents → Spell contents events names
-    → IsJournalText (head_texts nothing_saved ++ contents) text
-    → (stands : Stands [] file events) × (names ≡ stands.names)
-    × IsJournalText (head_texts nothing_saved ++ stands.contents) text
+    → (events ≡ [] → ⊥) → IsJournalText (head_texts nothing_saved ++ contents) text
+    → (stands : StandsAlone file events) × (names ≡ stands.0.names)
+    × IsJournalText (head_texts nothing_saved ++ stands.0.contents) text
 unfolding plain_stands
-plain_headed file contents events names text r s is =
-    (plain_stands file contents events names r s, refl, is)
+plain_headed file contents events names text r s some is =
+    ((plain_stands file contents events names r s, some), refl, is)
 
 -- contents that are refused as events are those of the file
 pub events_denied : (file : List ℕ) (contents : List (List ℕ)) (e : ReadError)
@@ -83,23 +90,23 @@ plain_denied file contents events names e r s d =
 -- a text of the contents that stand for the events, after the head
 pub record IsHeaded (file text : List ℕ) (events : List Event) (names : List Label)
     : Type 0 where
-  pub stands : Stands [] file events
-  pub named : names ≡ stands.names
-  pub is : IsJournalText (head_texts nothing_saved ++ stands.contents) text
+  pub stands : StandsAlone file events
+  pub named : names ≡ stands.0.names
+  pub is : IsJournalText (head_texts nothing_saved ++ stands.0.contents) text
 
 -- the text of the events after the head
 pub is_journal_of : (file text : List ℕ) (events : List Event) (names : List Label)
     → IsHeaded file text events names → IsSaved nothing_saved
     → IsJournalOf text nothing_saved events
 is_journal_of file text events names h saved =
-    let all = head_texts nothing_saved ++ h.stands.contents in
+    let all = head_texts nothing_saved ++ h.stands.0.contents in
     record {
       head = saved;
       stands = record {
         before = in_front nothing_saved;
-        contents = h.stands.contents;
-        names = h.stands.names;
-        spell = h.stands.spell;
+        contents = h.stands.0.contents;
+        names = h.stands.0.names;
+        spell = h.stands.0.spell;
         recovers = subst (λ (bytes : List ℕ). Recovers bytes all) (sym h.is.whole)
             (itself all h.is.each);
       };
@@ -138,16 +145,16 @@ module _ {F : Type 0} (moment : F → ℕ) (left_since : F → ℕ → Left → 
       → LeavesOnly moment left_since old new (IsOneOfTwo file text)
       → LeavesOnly moment left_since old new (HasEither file)
   either_left old new file text events names plain h leaves =
-      let all = head_texts nothing_saved ++ h.stands.contents in
+      let all = head_texts nothing_saved ++ h.stands.0.contents in
       weaker moment left_since old new (IsOneOfTwo file text) (HasEither file)
       (λ left p. ⊎_elim (λ e. inl e) (λ e. inr (
         events,
         plain,
         h.stands,
         record {
-          contents = h.stands.contents;
-          names = h.stands.names;
-          spell = h.stands.spell;
+          contents = h.stands.0.contents;
+          names = h.stands.0.names;
+          spell = h.stands.0.spell;
           journal = (
             text,
             e,

@@ -32,6 +32,12 @@ is_event_kind (Some kind) = nat_le 1 kind && nat_le kind 3
 abbrev pub begins_plain : List ℕ → Bool
 begins_plain file = is_event_kind (slice_get file 13)
 
+-- The file stands for these events alone, of which there are some: they are its whole records,
+-- before a torn end. A file that has no whole record, as one whose only record is damaged, is no
+-- journal of events alone, though it may begin as one.
+abbrev pub StandsAlone : List ℕ → List Event → Type 0
+StandsAlone file events = Stands [] file events × (events ≡ [] → ⊥)
+
 -- contents are refused as events so: there is none, or one of them is no event
 abbrev pub DeniesEvents : List (List ℕ) → ReadError → Type 0
 DeniesEvents contents (read.Journal e) = ⊥
@@ -73,7 +79,7 @@ DeniesText file (errors.Event refused) =
 abbrev pub HasEither : List ℕ → Left → Type 0
 HasEither file left =
     (left journal_name ≡ Some file)
-    ⊎ ((events : List Event) × (begins_plain file ≡ true) × Stands [] file events
+    ⊎ ((events : List Event) × (begins_plain file ≡ true) × StandsAlone file events
     × HasKept (head_texts nothing_saved) events left)
 
 -- A folder is not opened as a store so: it is not read as one, or its journal may be one of events

@@ -5,15 +5,18 @@ ghost use Rattle.std.specs.Prelude.{◌-◌, ◌++◌, Err, IfErr, IfOk, OnErr, 
 ghost use Rattle.data_folder.specs.Sweeping.{KeepsForeign};
 ghost use Rattle.event_journal.specs.Holding.{contents_with};
 ghost use Rattle.head.specs.Blocks.{part_in};
-ghost use Rattle.head.specs.Heads.{world_of};
+ghost use Rattle.head.specs.Heads.{BlockPart, world_of};
+ghost use Rattle.head.specs.Resuming.{MayStand};
 ghost use Rattle.head.specs.Worlds.{Event as Change, replayed};
 ghost use Rattle.head_record.specs.Saved.{save};
 ghost use Rattle.head_record.specs.Spelling.{head_texts};
 ghost use Rattle.journal.specs.Records.{file_of};
 ghost use Rattle.store_folder.specs.Holding.{HoldsOrLost};
+ghost use Rattle.store_folder.specs.Rolls.{HasHeadAlone};
 ghost use Rattle.store_folder.specs.Saving.{AreBelow, IsAbove};
 ghost use Rattle.store_folder.specs.Starting.{StartFinds};
-ghost use Rattle.store_folder.specs.Writing.{EachSays, places_from};
+ghost use Rattle.store_folder.specs.States.{started};
+ghost use Rattle.store_folder.specs.Writing.{AreLike, EachSays, places_from};
 
 use crate::error::{RollFault, WriteFault};
 use crate::keeping::StoreKeeper;
@@ -115,6 +118,12 @@ impl<N: Beginning, F: Folder + Drop> StoreKeeper<N, F> {
         ensures len { OnOk result (self.new.store.events.journal.len ≡ length (file_of
             (contents_with (head_texts (save N.first.values snapshot.now self.new.places.items))
             []))) }
+        ensures file { OnOk result (HasHeadAlone F.shows F.kept
+            (save N.first.values snapshot.now self.new.places.items)
+            self.new.store.events.journal.medium.folder) }
+        // A start makes a snapshot of it and of blocks like these.
+        ensures stands { OnOk result ((made : List BlockPart) → AreLike snapshot.now.blocks made
+            → MayStand (started (save N.first.values snapshot.now self.new.places.items) made)) }
         ensures counted { IfOk result (λ count. count ≡ length snapshot.now.blocks) }
         // After a crash at any moment of the call, a start finds the world of these events.
         ensures any_moment { (events : List Change)

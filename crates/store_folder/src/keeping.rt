@@ -47,18 +47,21 @@ impl<N: Beginning, F: Folder + Drop> Keeper for StoreKeeper<N, F> {
     ghost use Rattle.std.specs.Prelude.{length, map};
     ghost use Rattle.event_journal.specs.Holding.{contents_with};
     ghost use Rattle.head.specs.Blocks.{part_in};
-    ghost use Rattle.head.specs.Heads.{world_of};
+    ghost use Rattle.head.specs.Heads.{BlockPart, world_of};
+    ghost use Rattle.head.specs.Resuming.{MayStand};
     ghost use Rattle.head.specs.Worlds.{Event as Change};
     ghost use Rattle.head_record.specs.Saved.{save};
     ghost use Rattle.head_record.specs.Spelling.{head_texts};
     ghost use Rattle.journal.specs.Records.{file_of};
     ghost use Rattle.keeper.specs.Finding.{AreAll, AreAllAndSome, IsOfAll, LeavesEvents};
     ghost use Rattle.keeper.specs.Together.{SpellTogether};
+    ghost use Rattle.store_folder.specs.Rolls.{HasHeadAlone};
     ghost use Rattle.store_folder.specs.Terms.{are_met};
     ghost use Rattle.event_journal.specs.KeeperLaws.{not_idle};
     ghost use Rattle.store_folder.specs.KeeperLaws.{as_store, finds_no_other, finds_world};
     ghost use Rattle.store_folder.specs.KeeperLaws.{now_kept, settled_kept};
-    ghost use Rattle.store_folder.specs.States.{StartsWith};
+    ghost use Rattle.store_folder.specs.States.{StartsWith, started};
+    ghost use Rattle.store_folder.specs.Writing.{AreLike};
 
     ghost first = { N.first.world };
 
@@ -223,6 +226,13 @@ impl<N: Beginning, F: Folder + Drop> Keeper for StoreKeeper<N, F> {
         ensures len { IfOk result (λ saved. OnSome saved (self.new.store.events.journal.len
             ≡ length (file_of (contents_with
             (head_texts (save N.first.values snapshot.now self.new.places.items)) [])))) }
+        ensures file { IfOk result (λ saved. OnSome saved (HasHeadAlone F.shows F.kept
+            (save N.first.values snapshot.now self.new.places.items)
+            self.new.store.events.journal.medium.folder)) }
+        // A start makes a snapshot of it and of blocks like these.
+        ensures stands { IfOk result (λ saved. OnSome saved ((made : List BlockPart)
+            → AreLike snapshot.now.blocks made
+            → MayStand (started (save N.first.values snapshot.now self.new.places.items) made))) }
         ensures counted { IfOk result (λ saved. IfSome saved (λ count.
             count ≡ length snapshot.now.blocks)) }
         // Its terms note it: the next time depends on what the journal grows from then on.

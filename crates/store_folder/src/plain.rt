@@ -3,7 +3,6 @@
 ghost use Rattle.std.specs.Prelude.{◌≡◌, ◌⊎◌, ◌-◌, ◌++◌, [], length, map, true, IfOk, IfErr, OnOk};
 ghost use Rattle.data_folder.specs.Folders.{HasFile, KeepsOthers, LeavesOnly};
 ghost use Rattle.data_folder.specs.JournalFile.{journal_name, next_name};
-ghost use Rattle.event_journal.specs.Holding.{Stands};
 ghost use Rattle.event_journal.specs.Naming.{Spell};
 ghost use Rattle.event_text.specs.declared.error.TextError.TheVariants.{Kind};
 ghost use Rattle.head.specs.Blocks.{part_in};
@@ -14,7 +13,7 @@ ghost use Rattle.journal.specs.Records.{file_of};
 ghost use Rattle.journal.specs.declared.error.JournalError.TheVariants.{Memory as NoRecord};
 ghost use Rattle.store_folder.specs.Finding.{IsFoundStore};
 ghost use Rattle.store_folder.specs.Plain.{DeniesAdmitting, DeniesEvents, DeniesPlain, DeniesText};
-ghost use Rattle.store_folder.specs.Plain.{HasEither, begins_plain};
+ghost use Rattle.store_folder.specs.Plain.{HasEither, StandsAlone, begins_plain};
 ghost use Rattle.store_folder.specs.declared.error.ReadError.TheVariants.{Head, Journal as Records};
 ghost use Rattle.store_folder.specs.declared.error.StartError.TheVariants.{Journal};
 ghost use Rattle.store_folder.specs.Starting.{nothing_saved};
@@ -61,6 +60,7 @@ fn plain_events(
     requires { names.old ≡ [] }
     ensures found { IfOk result (λ events.
         Spell (contents_in contents.now) events.items names.new) }
+    ensures some { IfOk result (λ events. events.items ≡ [] → ⊥) }
     ensures refused { IfErr result (λ e. DeniesEvents (contents_in contents.now) e) }
 {
     if contents.is_empty() {
@@ -76,8 +76,8 @@ fn plain_events(
 /// The head is given as that of a store that has nothing.
 pub fn read_plain(alloc: Global, file: &[u8]) -> Result<FoundJournal, ReadError>
     // What is answered is what the file stands for, and how many bytes of it.
-    ensures found { IfOk result (λ j. (stands : Stands [] file.now j.events.items)
-        × (j.len ≡ length (file_of stands.contents)) × (j.names ≡ stands.names)) }
+    ensures found { IfOk result (λ j. (stands : StandsAlone file.now j.events.items)
+        × (j.len ≡ length (file_of stands.0.contents)) × (j.names ≡ stands.0.names)) }
     ensures head { IfOk result (λ j. j.head ≡ nothing_saved) }
     ensures torn { IfOk result (λ j. j.torn ≡ length file.now - j.len) }
     // A refusal tells which check failed first, and where.
@@ -151,9 +151,9 @@ fn plain_text(
     file: &[u8],
 ) -> Result<(Vec<u8>, Vec<Event>), StartError>
     requires { names.old ≡ [] }
-    ensures found { IfOk result (λ x. (stands : Stands [] file.now x.1.items)
-        × (names.new ≡ stands.names)
-        × IsJournalText (head_texts nothing_saved ++ stands.contents) x.0.items) }
+    ensures found { IfOk result (λ x. (stands : StandsAlone file.now x.1.items)
+        × (names.new ≡ stands.0.names)
+        × IsJournalText (head_texts nothing_saved ++ stands.0.contents) x.0.items) }
     ensures saved { OnOk result (IsSaved nothing_saved) }
     ensures refused { IfErr result (λ e. DeniesText file.now e) }
 {
@@ -187,7 +187,7 @@ pub(crate) fn adopt<F: Folder>(
     requires plain { begins_plain file.now ≡ true }
     ensures found { IfOk result (λ s.
         IsFoundStore F.shows F.kept s.journal (map part_in s.blocks.items) folder.new) }
-    ensures events { IfOk result (λ s. Stands [] file.now s.journal.events.items) }
+    ensures events { IfOk result (λ s. StandsAlone file.now s.journal.events.items) }
     ensures head { IfOk result (λ s. s.journal.head ≡ nothing_saved) }
     ensures sound { OnOk result (F.sound folder.new ≡ true) }
     ensures refused { IfErr result (λ e. ((e ≡ StartError.Medium) × (F.failed folder.new ≡ true))

@@ -5,7 +5,6 @@ ghost use Rattle.std.specs.Prelude.{IfSome, OnOk};
 ghost use Rattle.std.specs.Prelude.{false, map, true};
 ghost use Rattle.data_folder.specs.Folders.{HasFile, KeepsOthers, LeavesOnly, Untouched};
 ghost use Rattle.data_folder.specs.JournalFile.{journal_name, next_name};
-ghost use Rattle.event_journal.specs.Holding.{Stands};
 ghost use Rattle.head.specs.Blocks.{part_in};
 ghost use Rattle.head.specs.Heads.{BlockPart};
 ghost use Rattle.head.specs.Worlds.{Event as Change};
@@ -15,8 +14,8 @@ ghost use Rattle.store_folder.specs.Faults.{DeniesStore, GivesFound, GivesStore,
 ghost use Rattle.store_folder.specs.Finding.{IsFoundStore};
 ghost use Rattle.store_folder.specs.Holding.{AreAt};
 ghost use Rattle.store_folder.specs.Journals.{IsFoundJournal, IsJournalOf};
-ghost use Rattle.store_folder.specs.Plain.{DeniesFolder, DeniesText, HasEither, begins_plain};
-ghost use Rattle.store_folder.specs.Plain.{may_be_plain};
+ghost use Rattle.store_folder.specs.Plain.{DeniesFolder, DeniesText, HasEither, StandsAlone};
+ghost use Rattle.store_folder.specs.Plain.{begins_plain, may_be_plain};
 ghost use Rattle.store_folder.specs.Refusals.{IsRefusal};
 ghost use Rattle.store_folder.specs.Starting.{nothing_saved};
 ghost use Rattle.store_folder.specs.declared.error.StartCause.TheVariants.{Refused};
@@ -156,7 +155,7 @@ fn open_file<F: Folder>(
     ensures found { IfOk result (λ s.
         IsFoundStore F.shows F.kept s.journal (map part_in s.blocks.items) folder.new) }
     ensures plain { IfOk result (λ s. begins_plain file.now ≡ true
-        → Stands [] file.now s.journal.events.items × (s.journal.head ≡ nothing_saved)) }
+        → StandsAlone file.now s.journal.events.items × (s.journal.head ≡ nothing_saved)) }
     ensures sound { OnOk result (F.sound folder.new ≡ true) }
     ensures only { TellsFiles F.shows → (saved : Saved) (parts : List BlockPart)
         (events : List Change) → begins_plain file.now ≡ false
@@ -206,7 +205,7 @@ pub fn open_store<F: Folder>(
     ensures plain { TellsFiles F.shows → (file : List ℕ)
         → F.shows folder.old journal_name (Some file) → begins_plain file ≡ true
         → IfOk result (λ found. IfSome found (λ s.
-        Stands [] file s.journal.events.items × (s.journal.head ≡ nothing_saved))) }
+        StandsAlone file s.journal.events.items × (s.journal.head ≡ nothing_saved))) }
     // A refusal tells which check failed first; also where clauses tell nothing of the folder, what
     // is refused is some folder that has to be.
     ensures refused { IfErr result (λ e. DeniesFolder F.shows F.kept F.failed folder.new e) }

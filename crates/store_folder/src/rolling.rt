@@ -11,7 +11,7 @@ ghost use Rattle.head_record.specs.Saved.{Place};
 ghost use Rattle.head_record.specs.Spelling.{head_texts};
 ghost use Rattle.journal.specs.Records.{file_of};
 ghost use Rattle.store_folder.specs.Holding.{HoldsAt, HoldsStore};
-ghost use Rattle.store_folder.specs.Rolls.{MayRoll};
+ghost use Rattle.store_folder.specs.Rolls.{HasHeadAlone, MayRoll};
 ghost use Rattle.store_folder.specs.Starting.{StartFinds};
 
 use crate::error::RollFault;
@@ -69,6 +69,8 @@ impl<N: Beginning, F: Folder + Drop> StoreJournal<N, F> {
         // Then it has the head and nothing more.
         ensures len { OnOk result (self.new.events.journal.len
             ≡ length (file_of (contents_with (head_texts head.now) []))) }
+        ensures file { OnOk result (HasHeadAlone F.shows F.kept head.now
+            self.new.events.journal.medium.folder) }
         ensures goes_on { IfErr result (λ e. (e ≡ RollFault.Folder RollError.Lost → ⊥)
             → self.old.events.journal.closed ≡ false → self.new.events.journal.closed ≡ false) }
         // It is closed for no cause but that writing failed.

@@ -6,13 +6,16 @@ ghost use Rattle.data_folder.specs.States.{AreThere, Named};
 ghost use Rattle.data_folder.specs.Sweeping.{AreAmong, KeepsForeign, KeepsStore};
 ghost use Rattle.event_journal.specs.Holding.{contents_with};
 ghost use Rattle.head.specs.Heads.{BlockPart};
+ghost use Rattle.head.specs.Resuming.{MayStand};
 ghost use Rattle.head.specs.Worlds.{Event as Change};
 ghost use Rattle.head_record.specs.Saved.{save};
 ghost use Rattle.head_record.specs.Spelling.{head_texts};
 ghost use Rattle.journal.specs.Records.{file_of};
 ghost use Rattle.store_folder.specs.Holding.{AreAt, HoldsAt, HoldsStore};
+ghost use Rattle.store_folder.specs.Rolls.{HasHeadAlone};
 ghost use Rattle.store_folder.specs.Saving.{MaySave};
 ghost use Rattle.store_folder.specs.Starting.{StartFinds};
+ghost use Rattle.store_folder.specs.States.{started};
 ghost use Rattle.store_folder.specs.Sweeps.{names_at};
 ghost use Rattle.store_folder.specs.Writing.{AreLike, AreRewritten, EachSays, places_from};
 
@@ -61,6 +64,10 @@ pub fn write_saved<F: Folder>(
         × AreRewritten (drop same snapshot.now.blocks) parts
         × AreAt F.shows F.kept (places_from next (length snapshot.now.blocks - same)) parts
         folder.new) }
+    // A start makes a snapshot of what is saved and of blocks like these, and refuses none: the
+    // floor is a time, the blocks end by it, and the series of the head are sound and not too many.
+    ensures stands { IfOk result (λ head. (made : List BlockPart)
+        → AreLike snapshot.now.blocks made → MayStand (started head made)) }
     // The `meta.json` of each block that is written says what the values mean.
     ensures says { OnOk result (EachSays F.shows F.kept values
         (places_from next (length snapshot.now.blocks - same)) folder.new) }
@@ -149,6 +156,13 @@ impl<N: Beginning, F: Folder + Drop> StoreJournal<N, F> {
         ensures len { IfOk result (λ places. self.new.events.journal.len
             ≡ length (file_of (contents_with
             (head_texts (save N.first.values snapshot.now places.items)) []))) }
+        ensures file { IfOk result (λ places. HasHeadAlone F.shows F.kept
+            (save N.first.values snapshot.now places.items)
+            self.new.events.journal.medium.folder) }
+        // A start makes a snapshot of it and of blocks like these.
+        ensures stands { IfOk result (λ places. (made : List BlockPart)
+            → AreLike snapshot.now.blocks made
+            → MayStand (started (save N.first.values snapshot.now places.items) made)) }
         ensures goes_on { IfErr result (λ e. (e ≡ RollFault.Folder RollError.Lost → ⊥)
             → self.old.events.journal.closed ≡ false → self.new.events.journal.closed ≡ false) }
         // It is closed for no cause but that writing failed.

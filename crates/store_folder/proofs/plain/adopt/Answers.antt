@@ -18,7 +18,7 @@ pub returns-in-Ok-change_journal-clause-any_moment :
 returns-in-Ok-change_journal-clause-any_moment g c =
     let f = g.F.Folder in
     let p = c.in-Ok.ensures.found in
-    let all = head_texts nothing_saved ++ p.0.contents in
+    let all = head_texts nothing_saved ++ p.0.0.contents in
     either_left f.moment f.left_since c.args.folder.now c.change_journal.new.folder c.args.file.now
     c.deref.result.now c.in-Ok.plain.1.items c.plain_text.new.names c.requires.plain
     (record {
@@ -33,7 +33,7 @@ pub returns-in-Err-change_journal-clause-any_moment :
 returns-in-Err-change_journal-clause-any_moment g c =
     let f = g.F.Folder in
     let p = c.in-Ok.ensures.found in
-    let all = head_texts nothing_saved ++ p.0.contents in
+    let all = head_texts nothing_saved ++ p.0.0.contents in
     either_left f.moment f.left_since c.args.folder.now c.change_journal.new.folder c.args.file.now
     c.deref.result.now c.in-Ok.plain.1.items c.plain_text.new.names c.requires.plain
     (record {

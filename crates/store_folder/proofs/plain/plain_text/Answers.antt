@@ -16,7 +16,7 @@ returns-in-Ok-text_with_head-clause-found c =
     c.in-Ok-text_with_head.text.items c.in-Ok.ensures.found
     (subst (λ (vs : List (Vec ℕ Global)). Spell (contents_in vs) events names)
     c.deref.ensures.value c.in-Ok-plain_events.ensures.found)
-    c.in-Ok-text_with_head.ensures.text
+    c.in-Ok-plain_events.ensures.some c.in-Ok-text_with_head.ensures.text
 
 pub returns-in-Err-plain_events-clause-refused : goal.returns-in-Err-plain_events-clause-refused
 returns-in-Err-plain_events-clause-refused c =

@@ -14,7 +14,8 @@ returns-in-Ok-plain_events-clause-found c =
     plain_found c.args.file.now (contents_in r.contents.items) events names r.len
     c.in-Ok.ensures.found
     (subst (λ (vs : List (Vec ℕ Global)). Spell (contents_in vs) events names)
-    c.deref.ensures.value c.in-Ok-plain_events.ensures.found) c.in-Ok.ensures.len
+    c.deref.ensures.value c.in-Ok-plain_events.ensures.found)
+    c.in-Ok-plain_events.ensures.some c.in-Ok.ensures.len
 
 pub returns-in-Err-plain_events-clause-refused : goal.returns-in-Err-plain_events-clause-refused
 returns-in-Err-plain_events-clause-refused c =

@@ -2,9 +2,8 @@ use Rattle.std.proofs.Common.{◌≡◌, ⊎_elim, inl, inr, refl, ℕ, false, L
 use Rattle.data_folder.specs.Folders.{HasFile, LeavesOnly}
 use Rattle.data_folder.specs.JournalFile.{journal_name, next_name}
 use Rattle.data_folder.proofs.Moments.{joined, untouched_on}
-use Rattle.event_journal.specs.Holding.{Stands}
 use Rattle.store_folder.specs.Journals.{IsJournalOf}
-use Rattle.store_folder.specs.Plain.{DeniesText, HasEither, begins_plain}
+use Rattle.store_folder.specs.Plain.{DeniesText, HasEither, StandsAlone, begins_plain}
 use Rattle.store_folder.proofs.Files.{blocks_kept}
 use Rattle.store_folder.proofs.Openings.{journal_left, others_after, others_stay, plain_found}
 use Rattle.store_folder.proofs.Openings.{same_file}
@@ -45,7 +44,7 @@ returns-in-Ok-open_file-clause-plain g c tells file shown plain =
     (tells read journal_name (Some c.in-Some.file.items) (Some file) there.shown
     (c.read.ensures.all.same journal_name (Some file) shown)) in
     let found = c.in-Ok-open_file.ensures.plain (ap begins_plain same ∙ plain) in
-    (subst (λ (bytes : List ℕ). Stands [] bytes c.in-Ok-open_file.store.journal.events.items) same found.0, found.1)
+    (subst (λ (bytes : List ℕ). StandsAlone bytes c.in-Ok-open_file.store.journal.events.items) same found.0, found.1)
 
 pub returns-in-Ok-open_file-clause-whole : goal.returns-in-Ok-open_file-clause-whole
 returns-in-Ok-open_file-clause-whole g c tells x shown other =
