@@ -2,6 +2,7 @@ pub mod Contents
 pub mod Faults
 pub mod Files
 pub mod Fronts
+pub mod HeadsAlone
 pub mod Kept
 pub mod Numbers
 pub mod OpenedBlocks
@@ -11,6 +12,7 @@ pub mod Refusals
 pub mod Rolls
 pub mod Saves
 pub mod Says
+pub mod Standing
 pub mod Starts
 pub mod Swept
 pub mod Told

@@ -1,6 +1,7 @@
 -- A journal of events alone that is given a head.
 use Rattle.std.proofs.Common.{◌≡◌, ◌⊎◌, inl, inr, ⊎_elim, ℕ, true, List, [], ◌++◌, Some, ap, sym}
-use Rattle.std.proofs.Common.{subst, arith, length, Option, subst₂, Vec, ◌∙◌, refl}
+use Rattle.std.proofs.Common.{subst, arith, length, Option, subst₂, Vec, ◌∙◌, refl, false, ◌∷◌}
+use Rattle.std.specs.Prelude.{◌==◌}
 use Rattle.std.specs.declared.alloc.Global.{Global}
 use Rattle.data_folder.specs.Folders.{HasFile, Left, LeavesOnly}
 use Rattle.data_folder.specs.JournalFile.{journal_name}
@@ -12,6 +13,7 @@ use Rattle.head.specs.Worlds.{Event}
 use Rattle.head_record.specs.Saved.{Saved}
 use Rattle.head_record.specs.Spelling.{head_texts, IsSaved}
 use Rattle.head_record.proofs.Worlds.{in_front}
+use Rattle.journal.specs.Contents.{contents_in}
 use Rattle.journal.specs.Group.{IsJournalText}
 use Rattle.journal.specs.Records.{file_of, Recovers}
 use Rattle.name_table.specs.Names.{Label}
@@ -38,6 +40,11 @@ plain_stands file contents events names r s = record {
   spell = s;
   recovers = r;
 }
+
+pub some_contents : (vs : List (Vec ℕ Global)) → (length vs == 0) ≡ false → contents_in vs ≡ []
+    → ⊥
+some_contents [] some none = absurd (let a : true ≡ false = some in cc)
+some_contents (v ∷ vs) some none = absurd cc
 
 -- contents of which there are some spell some events
 pub some_events : (contents : List (List ℕ)) (events : List Event) (names : List Label)

@@ -60,7 +60,7 @@ made_like same blocks parts news front back =
     (like_joined (take same blocks) (take same parts) (drop same blocks) news front
     (each_like (drop same blocks) news back))
 
-length_like : (a b : List BlockPart) → AreLike a b → length a ≡ length b
+pub length_like : (a b : List BlockPart) → AreLike a b → length a ≡ length b
 length_like [] [] l = refl
 length_like [] (y ∷ b) l = absurd l
 length_like (x ∷ a) [] l = absurd l

@@ -3,12 +3,13 @@ use Rattle.block.specs.Blocks.{Shown}
 use Rattle.data_folder.proofs.Foreign.{foreign_rests, foreign_then}
 use Rattle.data_folder.specs.Sweeping.{AreAmong}
 use Rattle.head.specs.Blocks.{part_in}
-use Rattle.head_record.specs.Saved.{Place}
+use Rattle.head_record.specs.Saved.{Place, save}
 use Rattle.store_folder.specs.KeeperLaws.{as_store}
 use Rattle.store_folder.specs.Saving.{AreBelow, IsAbove}
 use Rattle.store_folder.specs.Sweeps.{names_at}
 use Rattle.store_folder.specs.Writing.{EachSays, places_from}
 use Rattle.store_folder.proofs.Fronts.{failed_like, may_save, open_like, saved_like}
+use Rattle.store_folder.proofs.HeadsAlone.{head_stays}
 use Rattle.store_folder.proofs.Rolls.{finds_on, stays_so}
 use Rattle.store_folder.proofs.Says.{says_on}
 use Rattle.store_folder.proofs.keeping.StoreKeeper.roll.Goals as goal
@@ -254,6 +255,21 @@ returns-in-Err-clause-says g c says =
     (c.save.ensures.blocks files
     (subst (λ (ps : List Place). AreAmong (names_at ps) files) (sym c.deref-3.ensures.value) among)
     there)) says
+
+-- the journal, and that a start takes it
+
+pub returns-in-Ok-save-clause-file : goal.returns-in-Ok-save-clause-file
+returns-in-Ok-save-clause-file g c =
+    let f = g.F.Folder in
+    let places = c.in-Ok-save.places.items in
+    head_stays f.shows f.kept f.sound f.moment f.left_since
+    (names_at c.deref-in-Ok-save.result.now)
+    (save g.N.Beginning.first.values c.args.snapshot.now places)
+    c.save.new.self.events.journal.medium.folder c.sweep_blocks.new.self.events.journal.medium.folder
+    c.sweep_blocks.ensures.kept c.in-Ok-save.ensures.file
+
+pub returns-in-Ok-save-clause-stands : goal.returns-in-Ok-save-clause-stands
+returns-in-Ok-save-clause-stands g c = c.in-Ok-save.ensures.stands
 
 -- the numbers of the folders
 

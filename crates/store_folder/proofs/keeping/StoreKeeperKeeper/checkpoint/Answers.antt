@@ -78,5 +78,11 @@ returns-in-Err-clause-foreign g c = c.in-Err.ensures.foreign
 pub returns-in-Ok-clause-len : goal.returns-in-Ok-clause-len
 returns-in-Ok-clause-len g c = c.in-Ok.ensures.len
 
+pub returns-in-Ok-clause-file : goal.returns-in-Ok-clause-file
+returns-in-Ok-clause-file g c = c.in-Ok.ensures.file
+
+pub returns-in-Ok-clause-stands : goal.returns-in-Ok-clause-stands
+returns-in-Ok-clause-stands g c = c.in-Ok.ensures.stands
+
 pub returns-in-Ok-clause-counted : goal.returns-in-Ok-clause-counted
 returns-in-Ok-clause-counted g c = c.in-Ok.ensures.counted

@@ -5,6 +5,7 @@ use Rattle.event_journal.specs.Holding.{contents_with}
 use Rattle.head_record.specs.Spelling.{head_texts}
 use Rattle.journal.specs.Group.{IsJournalText}
 use Rattle.store_folder.specs.KeeperLaws.{open_head}
+use Rattle.store_folder.proofs.HeadsAlone.{head_alone}
 use Rattle.store_folder.proofs.Rolls.{apart_both, files_of_both, goes_on, keeps_now, not_rolled}
 use Rattle.store_folder.proofs.Rolls.{roll_finds}
 use Rattle.store_folder.proofs.Rolls.{rolled, same_head, stays_so, there_both}
@@ -50,6 +51,16 @@ returns-in-Ok-roll-clause-len g c =
     c.in-Ok-roll.ensures.ok new
     (subst (IsJournalText new) (sym c.deref.ensures.value) c.in-Ok.ensures.text) in
     k.counted
+
+pub returns-in-Ok-roll-clause-file : goal.returns-in-Ok-roll-clause-file
+returns-in-Ok-roll-clause-file g c =
+    let f = g.F.Folder in
+    let made = c.roll.new.journal in
+    let new = contents_with (head_texts c.args.head.now) [] in
+    head_alone f.shows f.kept f.sound c.args.head.now made.medium.folder made.len
+    c.in-Ok.ensures.saved
+    (c.in-Ok-roll.ensures.ok new
+    (subst (IsJournalText new) (sym c.deref.ensures.value) c.in-Ok.ensures.text))
 
 pub returns-clause-goes_on : goal.returns-clause-goes_on
 returns-clause-goes_on g c unless opened =

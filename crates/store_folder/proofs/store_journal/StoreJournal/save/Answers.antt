@@ -9,8 +9,10 @@ use Rattle.journal.specs.Records.{file_of}
 use Rattle.store_folder.specs.Holding.{HoldsAt}
 use Rattle.store_folder.specs.Writing.{EachSays, places_from}
 use Rattle.store_folder.proofs.Saves.{enough, like_made, may_roll, still_held, writing_finds}
+use Rattle.store_folder.proofs.HeadsAlone.{same_alone}
 use Rattle.store_folder.proofs.Rolls.{finds_on}
 use Rattle.store_folder.proofs.Says.{says_on, says_saved, there_beside}
+use Rattle.store_folder.proofs.Standing.{same_stand}
 use Rattle.store_folder.proofs.store_journal.StoreJournal.save.Goals as goal
 
 pub write_saved-requires-clause-blocks : goal.write_saved-requires-clause-blocks
@@ -285,6 +287,32 @@ returns-in-Ok-roll-clause-len g c =
     ∙ ap (λ (v : Values). save v s c.in-Ok-from_slice.places.items) c.values-values.ensures) in
     c.in-Ok-roll.ensures.len
     ∙ ap (λ (h : Saved). length (file_of (contents_with (head_texts h) []))) same
+
+pub returns-in-Ok-roll-clause-file : goal.returns-in-Ok-roll-clause-file
+returns-in-Ok-roll-clause-file g c =
+    let f = g.F.Folder in
+    let s = c.args.snapshot.now in
+    let named = c.in-Ok-from_slice.ensures.items ∙ c.places.ensures in
+    let same =
+    c.in-Ok.ensures.saved
+    ∙ (ap (save c.values-values.result s)
+    (sym (named ∙ ap (λ (h : Saved). h.places) c.in-Ok.ensures.saved))
+    ∙ ap (λ (v : Values). save v s c.in-Ok-from_slice.places.items) c.values-values.ensures) in
+    same_alone f.shows f.kept c.in-Ok.head
+    (save g.N.Beginning.first.values s c.in-Ok-from_slice.places.items)
+    c.roll.new.self.events.journal.medium.folder same c.in-Ok-roll.ensures.file
+
+pub returns-in-Ok-roll-clause-stands : goal.returns-in-Ok-roll-clause-stands
+returns-in-Ok-roll-clause-stands g c =
+    let s = c.args.snapshot.now in
+    let named = c.in-Ok-from_slice.ensures.items ∙ c.places.ensures in
+    let same =
+    c.in-Ok.ensures.saved
+    ∙ (ap (save c.values-values.result s)
+    (sym (named ∙ ap (λ (h : Saved). h.places) c.in-Ok.ensures.saved))
+    ∙ ap (λ (v : Values). save v s c.in-Ok-from_slice.places.items) c.values-values.ensures) in
+    same_stand s.blocks c.in-Ok.head
+    (save g.N.Beginning.first.values s c.in-Ok-from_slice.places.items) same c.in-Ok.ensures.stands
 
 -- what is none of the store's
 
