@@ -64,25 +64,14 @@ may_stand values s places made sound few like = record {
   few = few;
 }
 
-abbrev with_parts : Values → ℤ → List Place → List HeadSeries → Saved
-with_parts values floor places series = record {
-  values = values;
-  floor = floor;
-  places = places;
-  head = series;
-}
-
-pub saved_stands : (values : Values) (s : SnapshotParts) (floor : ℤ) (places : List Place)
-    (series : List HeadSeries) (saved : Saved) → saved ≡ with_parts values floor places series
-    → floor ≡ s.floor → series ≡ s.head → IsSoundSnapshot s → length series ≤ max_series
+pub saved_stands : (values : Values) (s : SnapshotParts) (places : List Place)
+    (series : List HeadSeries) (saved : Saved) → saved ≡ save values s places
+    → series ≡ s.head → IsSoundSnapshot s → length series ≤ max_series
     → (made : List BlockPart) → AreLike s.blocks made → MayStand (started saved made)
-saved_stands values s floor places series saved is is_floor is_head sound few made like =
-    let so : saved ≡ save values s places =
-    is ∙ (ap (λ (x : ℤ). with_parts values x places series) is_floor
-    ∙ ap (λ (hs : List HeadSeries). with_parts values s.floor places hs) is_head) in
+saved_stands values s places series saved is is_head sound few made like =
     let short : length s.head ≤ max_series =
     subst (λ (hs : List HeadSeries). length hs ≤ max_series) is_head few in
-    subst (λ (x : Saved). MayStand (started x made)) (sym so)
+    subst (λ (x : Saved). MayStand (started x made)) (sym is)
     (may_stand values s places made sound short like)
 
 -- of the same head

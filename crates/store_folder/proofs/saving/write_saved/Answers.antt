@@ -1,5 +1,6 @@
-use Rattle.std.proofs.Common.{◌∙◌}
+use Rattle.std.proofs.Common.{◌≡◌, ◌∙◌, rules}
 use Rattle.data_folder.proofs.Sweeps.{nothing_removed}
+use Rattle.head_record.specs.Saved.{save}
 use Rattle.store_folder.specs.Sweeps.{names_at}
 use Rattle.store_folder.proofs.Standing.{saved_stands}
 use Rattle.store_folder.proofs.saving.write_saved.Goals as goal
@@ -12,7 +13,9 @@ returns-in_default-clause-stays g c =
 
 pub returns-clause-stands : goal.returns-clause-stands
 returns-clause-stands g c made like =
-    saved_stands c.args.values c.args.snapshot.now c.floor.result c.in-Ok-places_of.places.items
-    c.in-Ok-saved.series.items c.new.result c.new.ensures c.floor.ensures.floor
+    let s = c.args.snapshot.now in
+    let places = c.in-Ok-places_of.places.items in
+    let is : c.new.result ≡ save c.args.values s places = search rules in
+    saved_stands c.args.values s places c.in-Ok-saved.series.items c.new.result is
     (c.in-Ok-saved.ensures.all ∙ c.head.ensures.series) c.floor.ensures.sound
     c.in-Ok-saved.ensures.few made like
