@@ -1,14 +1,14 @@
 -- A store that goes on, and one that begins.
 use Rattle.std.proofs.Common.{◌≡◌, ℕ, zero, suc, ◌≤◌, Bool, true, false, List, [], ◌++◌, Option}
 use Rattle.std.proofs.Common.{None, Some, length, take, Result, Ok, Err, refl, sym, ap, subst, subst₂, ◌∙◌}
-use Rattle.std.proofs.Common.{inl, inr, ⊎_elim, ℤ, Vec}
+use Rattle.std.proofs.Common.{◌≢◌, arith, inl, inr, ⊎_elim, ℤ, Vec}
 use Rattle.std.specs.declared.alloc.Global.{Global}
 use Rattle.std.specs.Prelude.{IfOk, IfErr}
 use Rattle.std.proofs.lemmas.List.{append-nil}
 use Rattle.block_folder.specs.declared.values.Values.{Values}
 use Rattle.data_folder.specs.declared.journal_file.JournalFile.{JournalFile}
 use Rattle.data_folder.specs.Folders.{Left, LeavesOnly, MayLeaveOf}
-use Rattle.data_folder.specs.JournalFile.{journal_name, JournalLeft}
+use Rattle.data_folder.specs.JournalFile.{bytes_in, journal_name, JournalLeft}
 use Rattle.data_folder.specs.JournalLaws.{StaysBeside, left_now}
 use Rattle.data_folder.specs.Rolls as rolls
 use Rattle.data_folder.specs.States.{IsNoneOrNew}
@@ -34,13 +34,13 @@ use Rattle.store_folder.specs.declared.error.StartError.{StartError}
 use Rattle.store_folder.specs.declared.journals.FoundJournal.{FoundJournal}
 use Rattle.store_folder.specs.Finding.{IsFoundStore}
 use Rattle.store_folder.specs.Holding.{HoldsAfterHead, HoldsAt, HoldsLike, StandsForThese}
-use Rattle.store_folder.specs.KeeperLaws.{stands_for}
+use Rattle.store_folder.specs.KeeperLaws.{has_journal, stands_for}
 use Rattle.store_folder.specs.Origins.{Origin, beginning}
 use Rattle.store_folder.specs.Starting.{DeniesStart, GoesOn, IsNoneOrNothing}
 use Rattle.store_folder.specs.Starting.{IsRefusedEvent}
 use Rattle.store_folder.specs.Starting.{StartFinds}
 use Rattle.store_folder.specs.Starting.{nothing_with}
-use Rattle.store_folder.specs.States.{HasWorld, IsAfter, StandsFor, origin_of, started}
+use Rattle.store_folder.specs.States.{HasWorld, IsAfter, IsState, StandsFor, origin_of, started}
 use Rattle.store_folder.specs.StoreLaws.{blocks_left, blocks_stay, whole_left}
 use Rattle.store_folder.specs.Writing.{AreLike}
 use Rattle.store_folder.proofs.Kept.{store_leaves}
@@ -218,6 +218,65 @@ module _ {F : Type 0} (shows : F → List ℕ → Option (List ℕ) → Type 0)
       old new (λ (left : List ℕ). Stands (head_texts j.head) left events)
       (λ (left : List ℕ). StandsAndSome (head_texts j.head) events [] left)
       (λ left s. stands_so (head_texts j.head) events left s) moments))
+
+  -- the head and the events that were found are left
+  state_now : (f : F) (j : FoundJournal) (parts : List BlockPart) (left : Left)
+      → IsFoundStore shows kept j parts f → left_since f (moment f) left
+      → IsState j.head parts j.events.items left
+  state_now f j parts left h had = record {
+    head = h.journal.is.head;
+    kept = record {
+      contents = h.journal.is.stands.contents;
+      names = h.journal.is.stands.names;
+      spell = h.journal.is.stands.spell;
+      journal = (
+        h.file,
+        whole_left h.file (left journal_name)
+            (only_now f journal_name (Some h.file) (length h.file) left h.has.shown h.has.durable
+            had),
+        h.journal.is.stands.recovers,
+      );
+    };
+    blocks = blocks_left shows kept j.head.places parts f left h.blocks
+        (λ n x k away shown durable. only_now f n x k left shown durable had);
+  }
+
+  pub state_stays : (f : F) (j : FoundJournal) (parts : List BlockPart)
+      → IsFoundStore shows kept j parts f
+      → LeavesOnly moment left_since f f (IsState j.head parts j.events.items)
+  state_stays f j parts h =
+      folder.started moment left_since f (IsState j.head parts j.events.items)
+      (λ left had. state_now f j parts left h had)
+
+  pub resume_leaves : (old new : JournalFile F) (j : FoundJournal) (parts : List BlockPart)
+      → IsFoundStore shows kept j parts old.folder
+      → StaysBeside shows kept moment left_since old.folder new.folder
+      → media.LeavesOnly (λ (x : JournalFile F). moment x.folder)
+      (λ (x : JournalFile F) (t : ℕ) (bytes : List ℕ). JournalLeft left_since x.folder t bytes)
+      old new (λ (left : List ℕ). Stands (head_texts j.head) left j.events.items)
+      → LeavesOnly moment left_since old.folder new.folder (IsState j.head parts j.events.items)
+  resume_leaves old new j parts h beside moments =
+      record {
+        later = beside.later;
+        each = λ left since. state_since left since
+            (λ n x k away shown durable. ⊎_elim
+            (λ past. only_now old.folder n x k left shown durable past)
+            (λ now. now.1 n x k away shown durable)
+            (beside.before (moment old.folder) left (omega arith) since));
+        before = λ t left le had. ⊎_elim (λ past. inl past)
+            (λ now. inr (state_since left now.0 now.1)) (beside.before t left le had);
+      }
+    where
+      state_since : (left : Left) → left_since new.folder (moment old.folder) left
+          → ((n : List ℕ) (x : Option (List ℕ)) (k : ℕ) → n ≢ journal_name
+          → shows old.folder n x → kept old.folder n k → MayLeaveOf k x (left n))
+          → IsState j.head parts j.events.items left
+      state_since left since may = record {
+        head = h.journal.is.head;
+        kept = has_journal left (head_texts j.head) j.events.items
+            (moments.each (bytes_in (left journal_name)) (left, since, refl));
+        blocks = blocks_left shows kept j.head.places parts old.folder left h.blocks may;
+      }
 
 -- a store that begins
 

@@ -1,6 +1,6 @@
 -- Journals of events alone.
 use Rattle.std.specs.Prelude.{◌≡◌, ◌⊎◌, ℕ, Bool, true, false, ◌&&◌, nat_le, List, [], Option, None}
-use Rattle.std.specs.Prelude.{Some, slice_get}
+use Rattle.std.specs.Prelude.{Ok, Some, slice_get}
 use Rattle.data_folder.specs.Folders.{HasFile, Left}
 use Rattle.data_folder.specs.JournalFile.{journal_name}
 use Rattle.event_journal.specs.Holding.{Stands}
@@ -9,7 +9,7 @@ use Rattle.event_text.specs.declared.error.TextError.TheVariants.{Kind}
 use Rattle.head.specs.Blocks.{opening_of}
 use Rattle.head.specs.Heads.{world_of}
 use Rattle.head.specs.Replaying as replaying
-use Rattle.head.specs.Worlds.{Event}
+use Rattle.head.specs.Worlds.{Event, World, replayed}
 use Rattle.head_record.specs.Spelling.{head_texts}
 use Rattle.journal.specs.Records.{Recovers}
 use Rattle.journal.specs.declared.error.JournalError.TheVariants.{Memory as NoRecord}
@@ -63,6 +63,10 @@ DeniesAdmitting events (errors.Block unread) = ⊥
 DeniesAdmitting events (errors.Head e) = ⊥
 DeniesAdmitting events (errors.Event refused) =
     replaying.RefusesAt (world_of (opening_of [])) events refused.at refused.error
+
+-- a store that has nothing accepts these events
+abbrev pub AreAdmitted : List Event → Type 0
+AreAdmitted events = (w : World) × (replayed (world_of (opening_of [])) events ≡ Ok w)
 
 -- there is no text of such a file with a head so
 abbrev pub DeniesText : List ℕ → StartError → Type 0

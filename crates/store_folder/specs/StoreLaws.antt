@@ -226,7 +226,7 @@ one_world left v w one two =
     ∙ found_here first w one.1.0 one.1.1 [] one.1.2 left refl one.1.3 two)
 
 -- what is left has one head
-one_saved : (a b : Saved) (parts others : List BlockPart) (early late : List Event) (left : Left)
+pub one_saved : (a b : Saved) (parts others : List BlockPart) (early late : List Event) (left : Left)
     → AreBytes left → IsState a parts early left → IsState b others late left → b ≡ a
 one_saved a b parts others early late left fits one two =
     let bytes = one.kept.journal.0 in

@@ -124,6 +124,8 @@ impl<N: Beginning, F: Folder + Drop> StoreKeeper<N, F> {
         // A start makes a snapshot of it and of blocks like these.
         ensures stands { OnOk result ((made : List BlockPart) → AreLike snapshot.now.blocks made
             → MayStand (started (save N.first.values snapshot.now self.new.places.items) made)) }
+        // It then has the snapshot's blocks in memory.
+        ensures blocks { OnOk result (map part_in self.new.blocks.items ≡ snapshot.now.blocks) }
         ensures counted { IfOk result (λ count. count ≡ length snapshot.now.blocks) }
         // After a crash at any moment of the call, a start finds the world of these events.
         ensures any_moment { (events : List Change)

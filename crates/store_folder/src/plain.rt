@@ -13,7 +13,7 @@ ghost use Rattle.journal.specs.Records.{file_of};
 ghost use Rattle.journal.specs.declared.error.JournalError.TheVariants.{Memory as NoRecord};
 ghost use Rattle.store_folder.specs.Finding.{IsFoundStore};
 ghost use Rattle.store_folder.specs.Plain.{DeniesAdmitting, DeniesEvents, DeniesPlain, DeniesText};
-ghost use Rattle.store_folder.specs.Plain.{HasEither, StandsAlone, begins_plain};
+ghost use Rattle.store_folder.specs.Plain.{AreAdmitted, HasEither, StandsAlone, begins_plain};
 ghost use Rattle.store_folder.specs.declared.error.ReadError.TheVariants.{Head, Journal as Records};
 ghost use Rattle.store_folder.specs.declared.error.StartError.TheVariants.{Journal};
 ghost use Rattle.store_folder.specs.Starting.{nothing_saved};
@@ -131,7 +131,8 @@ fn text_with_head(alloc: Global, contents: Vec<Vec<u8>>) -> Result<Vec<u8>, Star
 
 /// That these events are accepted by a store that has nothing.
 fn admit(alloc: Global, events: &[Event]) -> Result<(), StartError>
-    ensures { IfErr result (λ e. DeniesAdmitting events.now e) }
+    ensures admitted { OnOk result (AreAdmitted events.now) }
+    ensures refused { IfErr result (λ e. DeniesAdmitting events.now e) }
 {
     let nothing = match Snapshot::opening(alloc, Vec::new(alloc)) {
         Ok(nothing) => nothing,
@@ -154,6 +155,7 @@ fn plain_text(
     ensures found { IfOk result (λ x. (stands : StandsAlone file.now x.1.items)
         × (names.new ≡ stands.0.names)
         × IsJournalText (head_texts nothing_saved ++ stands.0.contents) x.0.items) }
+    ensures admitted { IfOk result (λ x. AreAdmitted x.1.items) }
     ensures saved { OnOk result (IsSaved nothing_saved) }
     ensures refused { IfErr result (λ e. DeniesText file.now e) }
 {
@@ -189,6 +191,7 @@ pub(crate) fn adopt<F: Folder>(
         IsFoundStore F.shows F.kept s.journal (map part_in s.blocks.items) folder.new) }
     ensures events { IfOk result (λ s. StandsAlone file.now s.journal.events.items) }
     ensures head { IfOk result (λ s. s.journal.head ≡ nothing_saved) }
+    ensures admitted { IfOk result (λ s. AreAdmitted s.journal.events.items) }
     ensures sound { OnOk result (F.sound folder.new ≡ true) }
     ensures refused { IfErr result (λ e. ((e ≡ StartError.Medium) × (F.failed folder.new ≡ true))
         ⊎ ((folder.new ≡ folder.old) × DeniesText file.now e)) }

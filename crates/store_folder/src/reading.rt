@@ -14,7 +14,8 @@ ghost use Rattle.store_folder.specs.Faults.{DeniesStore, GivesFound, GivesStore,
 ghost use Rattle.store_folder.specs.Finding.{IsFoundStore};
 ghost use Rattle.store_folder.specs.Holding.{AreAt};
 ghost use Rattle.store_folder.specs.Journals.{IsFoundJournal, IsJournalOf};
-ghost use Rattle.store_folder.specs.Plain.{DeniesFolder, DeniesText, HasEither, StandsAlone};
+ghost use Rattle.store_folder.specs.Plain.{AreAdmitted, DeniesFolder, DeniesText, HasEither};
+ghost use Rattle.store_folder.specs.Plain.{StandsAlone};
 ghost use Rattle.store_folder.specs.Plain.{begins_plain, may_be_plain};
 ghost use Rattle.store_folder.specs.Refusals.{IsRefusal};
 ghost use Rattle.store_folder.specs.Starting.{nothing_saved};
@@ -156,6 +157,8 @@ fn open_file<F: Folder>(
         IsFoundStore F.shows F.kept s.journal (map part_in s.blocks.items) folder.new) }
     ensures plain { IfOk result (λ s. begins_plain file.now ≡ true
         → StandsAlone file.now s.journal.events.items × (s.journal.head ≡ nothing_saved)) }
+    ensures admitted { IfOk result (λ s. begins_plain file.now ≡ true
+        → AreAdmitted s.journal.events.items) }
     ensures sound { OnOk result (F.sound folder.new ≡ true) }
     ensures only { TellsFiles F.shows → (saved : Saved) (parts : List BlockPart)
         (events : List Change) → begins_plain file.now ≡ false
@@ -206,6 +209,10 @@ pub fn open_store<F: Folder>(
         → F.shows folder.old journal_name (Some file) → begins_plain file ≡ true
         → IfOk result (λ found. IfSome found (λ s.
         StandsAlone file s.journal.events.items × (s.journal.head ≡ nothing_saved))) }
+    // A store that has nothing accepts them.
+    ensures admitted { TellsFiles F.shows → (file : List ℕ)
+        → F.shows folder.old journal_name (Some file) → begins_plain file ≡ true
+        → IfOk result (λ found. IfSome found (λ s. AreAdmitted s.journal.events.items)) }
     // A refusal tells which check failed first; also where clauses tell nothing of the folder, what
     // is refused is some folder that has to be.
     ensures refused { IfErr result (λ e. DeniesFolder F.shows F.kept F.failed folder.new e) }

@@ -10,13 +10,13 @@ ghost use Rattle.head.specs.Worlds.{replayed};
 ghost use Rattle.journal.specs.declared.error.JournalError.TheVariants.{Memory as NoRecord};
 ghost use Rattle.store_folder.specs.Codes.{cause_of};
 ghost use Rattle.store_folder.specs.Finding.{IsFoundStore};
-ghost use Rattle.store_folder.specs.Holding.{HoldsAt, HoldsStore};
+ghost use Rattle.store_folder.specs.Holding.{HoldsAfterHead, HoldsAt, HoldsStore};
 ghost use Rattle.store_folder.specs.Starting.{DeniesStart, GoesOn};
 ghost use Rattle.store_folder.specs.Starting.{IsNoneOrNothing, IsNoRefusal, IsRefusedEvent};
 ghost use Rattle.store_folder.specs.Starting.{StartFinds, nothing_saved, nothing_with};
 ghost use Rattle.store_folder.specs.Refusals.{IsRefusal};
 ghost use Rattle.store_folder.specs.Origins.{beginning};
-ghost use Rattle.store_folder.specs.States.{HasWorld, origin_of};
+ghost use Rattle.store_folder.specs.States.{HasWorld, IsState, origin_of};
 ghost use Rattle.store_folder.specs.Terms.{begun_len};
 ghost use Rattle.store_folder.specs.declared.error.ReadError.TheVariants.{Journal as Records};
 ghost use Rattle.store_folder.specs.declared.error.StartCause.TheVariants.{Refused};
@@ -179,6 +179,14 @@ impl<N: Beginning, F: Folder + Drop> StoreJournal<N, F> {
             → HoldsAt F.shows F.kept F.sound F.moment F.left_since N.first
             k.events.journal.medium k.events.journal.len k.events.journal.closed
             journal.now.events.items journal.now.head.places parts) }
+        // The head is the one that was found.
+        ensures head { IfOk result (λ k. (parts : List BlockPart)
+            → IsFoundStore F.shows F.kept journal.now parts folder
+            → N.first ≡ origin_of journal.now.head parts
+            → (h : HoldsAfterHead F.shows F.kept F.sound F.moment F.left_since N.first
+            k.events.journal.medium k.events.journal.len k.events.journal.closed
+            journal.now.events.items) × (h.saved ≡ journal.now.head) × (h.parts ≡ parts)
+            × (h.late ≡ journal.now.events.items)) }
         ensures open { IfOk result (λ k. k.events.journal.closed ≡ false) }
         ensures any_moment { (parts : List BlockPart)
             → IsFoundStore F.shows F.kept journal.now parts folder
@@ -187,6 +195,13 @@ impl<N: Beginning, F: Folder + Drop> StoreJournal<N, F> {
             journal.now.events.items)
             (λ e. StartFinds F.moment F.left_since folder e.1 N.first
             journal.now.events.items) }
+        // It leaves the head and the events that were found.
+        ensures leaves { (parts : List BlockPart)
+            → IsFoundStore F.shows F.kept journal.now parts folder → MatchResult result
+            (λ k. LeavesOnly F.moment F.left_since folder k.events.journal.medium.folder
+            (IsState journal.now.head parts journal.now.events.items))
+            (λ e. LeavesOnly F.moment F.left_since folder e.1
+            (IsState journal.now.head parts journal.now.events.items)) }
         // All other files stay.
         ensures others { MatchResult result
             (λ k. KeepsOthers F.shows F.kept next_name journal_name folder
@@ -292,6 +307,9 @@ pub fn resume_store<N: Beginning, F: Folder + Drop>(
         N.first x.keeper.store.events.journal.medium x.keeper.store.events.journal.len
         x.keeper.store.events.journal.closed x.journal.events.items x.keeper.places.items
         (map part_in x.keeper.blocks.items) x.snapshot) }
+    // The keeper's blocks lie where the head says.
+    ensures places { IfOk result (λ x.
+        x.keeper.places.items ≡ found.journal.head.places) }
     ensures terms { IfOk result (λ x. x.keeper.terms ≡ record {
       most = most;
       len = begun_len found.journal.events.items found.journal.len;
@@ -309,6 +327,13 @@ pub fn resume_store<N: Beginning, F: Folder + Drop>(
         (λ x. StartFinds F.moment F.left_since folder
         x.keeper.store.events.journal.medium.folder N.first found.journal.events.items)
         (λ e. StartFinds F.moment F.left_since folder e.1 N.first found.journal.events.items) }
+    // It leaves the head and the events that were found.
+    ensures leaves { MatchResult result
+        (λ x. LeavesOnly F.moment F.left_since folder
+        x.keeper.store.events.journal.medium.folder (IsState found.journal.head
+        (map part_in found.blocks.items) found.journal.events.items))
+        (λ e. LeavesOnly F.moment F.left_since folder e.1 (IsState found.journal.head
+        (map part_in found.blocks.items) found.journal.events.items)) }
     // All other files stay.
     ensures others { MatchResult result
         (λ x. KeepsOthers F.shows F.kept next_name journal_name folder

@@ -70,3 +70,6 @@ returns-in-Ok-change_journal-clause-found g c =
 
 pub returns-in-Ok-change_journal-clause-events : goal.returns-in-Ok-change_journal-clause-events
 returns-in-Ok-change_journal-clause-events g c = c.in-Ok.ensures.found.0
+
+pub returns-in-Ok-change_journal-clause-admitted : goal.returns-in-Ok-change_journal-clause-admitted
+returns-in-Ok-change_journal-clause-admitted g c = c.in-Ok.ensures.admitted

@@ -3,7 +3,7 @@ use Rattle.std.specs.declared.alloc.Global.{Global}
 use Rattle.event_journal.specs.Naming.{Spell}
 use Rattle.head.specs.Worlds.{Event}
 use Rattle.journal.specs.Contents.{contents_in}
-use Rattle.store_folder.specs.Plain.{DeniesAdmitting, DeniesEvents}
+use Rattle.store_folder.specs.Plain.{AreAdmitted, DeniesAdmitting, DeniesEvents}
 use Rattle.store_folder.proofs.Plains.{events_denied, plain_denied, plain_headed}
 use Rattle.store_folder.proofs.plain.plain_text.Goals as goal
 
@@ -36,4 +36,9 @@ returns-in-Err-admit-clause-refused c =
     (subst (λ (vs : List (Vec ℕ Global)). Spell (contents_in vs) events names)
     c.deref.ensures.value c.in-Ok-plain_events.ensures.found)
     (subst (λ (es : List Event). DeniesAdmitting es e) c.deref-2.ensures.value
-    c.in-Err-admit.ensures)
+    c.in-Err-admit.ensures.refused)
+
+pub returns-in-Ok-text_with_head-clause-admitted : goal.returns-in-Ok-text_with_head-clause-admitted
+returns-in-Ok-text_with_head-clause-admitted c =
+    subst (λ (es : List Event). AreAdmitted es) c.deref-2.ensures.value
+    c.in-Ok-admit.ensures.admitted

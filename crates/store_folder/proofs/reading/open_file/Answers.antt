@@ -79,3 +79,16 @@ returns-then-begins_plain-clause-plain_refused g c plain =
 pub returns-else-begins_plain-clause-plain_refused : goal.returns-else-begins_plain-clause-plain_refused
 returns-else-begins_plain-clause-plain_refused g c plain =
     absurd (let a : true ≡ false = sym plain ∙ (sym c.begins_plain.ensures ∙ c.if-begins_plain.false) in cc)
+
+-- it is accepted
+
+pub returns-then-begins_plain-clause-admitted : goal.returns-then-begins_plain-clause-admitted
+returns-then-begins_plain-clause-admitted g c =
+    if_both c.adopt.result _ _ _ (λ s admitted head plain. admitted) c.adopt.ensures.admitted
+    c.adopt.ensures.head
+
+pub returns-else-begins_plain-clause-admitted : goal.returns-else-begins_plain-clause-admitted
+returns-else-begins_plain-clause-admitted g c =
+    if_both c.with_file.result _ _ _ (λ s found again plain.
+    absurd (let a : true ≡ false = sym plain ∙ (sym c.begins_plain.ensures ∙ c.if-begins_plain.false) in cc))
+    c.with_file.ensures.found c.with_file.ensures.found

@@ -221,3 +221,15 @@ returns-in-Some-clause-plain_refused g c tells file shown plain =
 
 pub returns-clause-plain_refused : goal.returns-clause-plain_refused
 returns-clause-plain_refused g c tells file shown plain = inl (refl, c.in-Err.ensures.failed)
+
+-- it is accepted
+pub returns-in-Ok-open_file-clause-admitted : goal.returns-in-Ok-open_file-clause-admitted
+returns-in-Ok-open_file-clause-admitted g c tells file shown plain =
+    let f = g.F.Folder in
+    let read = c.read.new.self in
+    let there : HasFile f.shows f.kept journal_name c.in-Some.file.items read = search rules in
+    let same : c.deref.result.now ≡ file =
+    c.deref.ensures.value ∙ same_file c.in-Some.file.items file
+    (tells read journal_name (Some c.in-Some.file.items) (Some file) there.shown
+    (c.read.ensures.all.same journal_name (Some file) shown)) in
+    c.in-Ok-open_file.ensures.admitted (ap begins_plain same ∙ plain)

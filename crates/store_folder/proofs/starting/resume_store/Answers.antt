@@ -9,7 +9,7 @@ use Rattle.head.specs.Worlds.{replayed}
 use Rattle.store_folder.specs.Origins.{Origin}
 use Rattle.store_folder.proofs.Refusals.{found_refused, no_refusal}
 use Rattle.store_folder.proofs.Fronts.{resumed_like}
-use Rattle.store_folder.proofs.Starts.{stays_found}
+use Rattle.store_folder.proofs.Starts.{state_stays, stays_found}
 use Rattle.store_folder.proofs.starting.resume_store.Goals as goal
 
 pub resume-requires-clause-found : goal.resume-requires-clause-found
@@ -40,6 +40,9 @@ pub returns-in-Ok-resume-clause-any_moment : goal.returns-in-Ok-resume-clause-an
 returns-in-Ok-resume-clause-any_moment g c =
     c.in-Ok-resume.ensures.any_moment (map part_in c.args.found.blocks.items) c.requires.found
     c.requires.first
+
+pub returns-in-Ok-resume-clause-places : goal.returns-in-Ok-resume-clause-places
+returns-in-Ok-resume-clause-places g c = c.in-Ok-from_slice.ensures.items ∙ c.places.ensures
 
 pub returns-in-Err-clause-refused : goal.returns-in-Err-clause-refused
 returns-in-Err-clause-refused g c = inr c.in-Err.ensures.refused
@@ -113,3 +116,37 @@ pub returns-in_default-copied-clause-others : goal.returns-in_default-copied-cla
 returns-in_default-copied-clause-others g c =
     let f = g.F.Folder in
     nothing_changed f.shows f.kept next_name journal_name c.args.folder
+
+-- the head and the events that were found are left
+
+pub returns-in-Ok-resume-clause-leaves : goal.returns-in-Ok-resume-clause-leaves
+returns-in-Ok-resume-clause-leaves g c =
+    c.in-Ok-resume.ensures.leaves (map part_in c.args.found.blocks.items) c.requires.found
+
+pub returns-in-Err-resume-clause-leaves : goal.returns-in-Err-resume-clause-leaves
+returns-in-Err-resume-clause-leaves g c =
+    c.in-Err-resume.ensures.leaves (map part_in c.args.found.blocks.items) c.requires.found
+
+pub returns-in-Err-clause-leaves : goal.returns-in-Err-clause-leaves
+returns-in-Err-clause-leaves g c =
+    let f = g.F.Folder in
+    state_stays f.shows f.kept f.sound f.moment f.left_since g.met.F.Folder.only_now
+    c.args.folder c.args.found.journal (map part_in c.args.found.blocks.items) c.requires.found
+
+pub returns-in_default-clause-leaves : goal.returns-in_default-clause-leaves
+returns-in_default-clause-leaves g c =
+    let f = g.F.Folder in
+    state_stays f.shows f.kept f.sound f.moment f.left_since g.met.F.Folder.only_now
+    c.args.folder c.args.found.journal (map part_in c.args.found.blocks.items) c.requires.found
+
+pub returns-in_default-from_slice-clause-leaves : goal.returns-in_default-from_slice-clause-leaves
+returns-in_default-from_slice-clause-leaves g c =
+    let f = g.F.Folder in
+    state_stays f.shows f.kept f.sound f.moment f.left_since g.met.F.Folder.only_now
+    c.args.folder c.args.found.journal (map part_in c.args.found.blocks.items) c.requires.found
+
+pub returns-in_default-copied-clause-leaves : goal.returns-in_default-copied-clause-leaves
+returns-in_default-copied-clause-leaves g c =
+    let f = g.F.Folder in
+    state_stays f.shows f.kept f.sound f.moment f.left_since g.met.F.Folder.only_now
+    c.args.folder c.args.found.journal (map part_in c.args.found.blocks.items) c.requires.found

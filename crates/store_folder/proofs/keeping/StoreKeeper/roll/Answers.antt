@@ -106,6 +106,9 @@ returns-in-Ok-save-clause-held g c events held world =
     (map part_in c.in-Ok.blocks.items) swept placed.1 (sym c.deref-in-Ok-save.ensures.value)
     (c.in-Ok.ensures ∙ c.blocks-2.ensures))
 
+pub returns-in-Ok-save-clause-blocks : goal.returns-in-Ok-save-clause-blocks
+returns-in-Ok-save-clause-blocks g c = c.in-Ok.ensures ∙ c.blocks-2.ensures
+
 pub returns-in-Ok-save-clause-any_moment : goal.returns-in-Ok-save-clause-any_moment
 returns-in-Ok-save-clause-any_moment g c events held world opened =
     let f = g.F.Folder in
