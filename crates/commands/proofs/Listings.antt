@@ -11,14 +11,13 @@ use Rattle.std.specs.Int.{int_min, int_max}
 use Rattle.std.specs.List.{Contains, fold}
 use Rattle.std.specs.Prelude.{is_ok, true, false, if◌then◌else◌, IfOk, IsErrAnd, MatchResult}
 use Rattle.labels.specs.Labels.{Labels}
-use Rattle.event_journal.specs.Holding.{Stands}
 use Rattle.head.specs.Worlds.{Event}
 use Rattle.head_record.specs.Saved.{Saved}
 use Rattle.head_record.specs.Spelling.{head_texts}
 use Rattle.journal.specs.Records.{file_of}
 use Rattle.store_folder.specs.Codes.{read_cause}
 use Rattle.store_folder.specs.Journals.{DeniesJournal, IsJournalOf}
-use Rattle.store_folder.specs.Plain.{DeniesPlain, begins_plain}
+use Rattle.store_folder.specs.Plain.{DeniesPlain, StandsAlone, begins_plain}
 use Rattle.store_folder.specs.declared.error.ReadError.{ReadError as JournalFault}
 use Rattle.store_folder.specs.declared.error.StartCause.{StartCause}
 use Rattle.store_folder.specs.declared.error.StartCause.TheVariants as causes
@@ -237,7 +236,7 @@ summed_up file saved events len lines front text is counted each head made =
 
 -- the listing of a journal of events alone
 pub plain_summed_up : (file : List ℕ) (events : List Event) (len : ℕ) (lines text : List ℕ)
-    (stands : Stands [] file events) → len ≡ length (file_of stands.contents)
+    (stands : StandsAlone file events) → len ≡ length (file_of stands.0.contents)
     → AreLines 0 events lines → text ≡ lines ++ summary_line (length events) len (length file)
     → IsListing file text
 plain_summed_up file events len lines text stands counted each made =
@@ -247,7 +246,7 @@ plain_summed_up file events len lines text stands counted each made =
       record {
         lines = lines;
         each = each;
-        stands = stands;
+        stands = stands.0;
         is = made
             ∙ ap (λ (n : ℕ). lines ++ summary_line (length events) n (length file)) counted;
       },

@@ -17,7 +17,7 @@ use Rattle.head_record.specs.Spelling.{head_texts}
 use Rattle.journal.specs.Records.{file_of}
 use Rattle.event_journal.specs.Holding.{Stands}
 use Rattle.store_folder.specs.Journals.{DeniesJournal, IsJournalOf}
-use Rattle.store_folder.specs.Plain.{DeniesPlain, begins_plain}
+use Rattle.store_folder.specs.Plain.{DeniesPlain, StandsAlone, begins_plain}
 use Rattle.store_folder.specs.declared.error.StartError.TheVariants as start
 use Rattle.commands.specs.Keeping.{path_in}
 use Rattle.commands.specs.Reading.{Host, AreFirstBytes}
@@ -167,13 +167,14 @@ pub record AreEventLines (front : List (List ℕ)) (file text : List ℕ) (event
       ≡ lines ++ summary_line (length events) (length (file_of (front ++ stands.contents)))
       (length file)
 
--- the text lists what a file stands for: a head and the events after it, or events alone
+-- the text lists what a file stands for: a head and the events after it, or events alone, of which
+-- there are some
 abbrev pub IsListing : List ℕ → List ℕ → Type 0
 IsListing file text =
     ((saved : Saved) × (events : List Event) × IsJournalOf file saved events
     × ((rest : List ℕ) × AreEventLines (head_texts saved) file rest events
     × (text ≡ head_line saved ++ rest)))
-    ⊎ ((events : List Event) × Stands [] file events × AreEventLines [] file text events)
+    ⊎ ((events : List Event) × StandsAlone file events × AreEventLines [] file text events)
 
 -- what a file stands for was listed
 pub record IsListed (reads : Host) (path : List ℕ) (old new : Option (List ℕ)) : Type 0 where

@@ -9,7 +9,6 @@ use Rattle.data_folder.specs.declared.journal_file.JournalFile.{JournalFile}
 use Rattle.data_folder.specs.Folders.{HasFile, KeepsOthers, Left, LeavesOnly, MayLeaveOf, Untouched}
 use Rattle.data_folder.specs.JournalFile.{journal_name, next_name}
 use Rattle.data_folder.proofs.Moments.{joined, weaker}
-use Rattle.event_journal.specs.Holding.{Stands}
 use Rattle.head.specs.Blocks.{part_in}
 use Rattle.head.specs.Heads.{BlockPart, SnapshotParts, world_of}
 use Rattle.head.specs.Refusals.{Refusal}
@@ -23,7 +22,7 @@ use Rattle.store_folder.specs.Faults.{IsStoreOf, TellsFiles}
 use Rattle.store_folder.specs.Finding.{IsFoundStore}
 use Rattle.store_folder.specs.Holding.{AreAt}
 use Rattle.store_folder.specs.Origins.{Origin, beginning}
-use Rattle.store_folder.specs.Plain.{DeniesText, HasEither}
+use Rattle.store_folder.specs.Plain.{DeniesText, HasEither, StandsAlone}
 use Rattle.store_folder.specs.Starting.{GoesOn, IsNoneOrNothing, StartFinds, nothing_saved}
 use Rattle.store_folder.specs.States.{IsAfter, StandsFor, origin_of, started}
 use Rattle.store_joiner.specs.Finds.{FindsNow, other_of}
@@ -81,7 +80,7 @@ module _ {F : Type 0} (moment : F → ℕ) (left_since : F → ℕ → Left → 
 
   pub plain_changed : (old mid new : F) (file : List ℕ) (s : FoundStore)
       (P : World → World → Type 0) → LeavesOnly moment left_since old mid (HasEither file)
-      → Stands [] file s.journal.events.items
+      → StandsAlone file s.journal.events.items
       → IsStoreOf nothing_saved [] s.journal.events.items s
       → StaysOrFinds moment left_since mid new
       (origin_of s.journal.head (map part_in s.blocks.items)) s.journal.events.items P
@@ -96,7 +95,7 @@ module _ {F : Type 0} (moment : F → ℕ) (left_since : F → ℕ → Left → 
       nothing_saved [] events s is after))
 
   pub plain_same : (f : F) (file : List ℕ) (s : FoundStore)
-      → Stands [] file s.journal.events.items
+      → StandsAlone file s.journal.events.items
       → IsStoreOf nothing_saved [] s.journal.events.items s
       → StaysNow moment left_since f (origin_of s.journal.head (map part_in s.blocks.items))
       s.journal.events.items

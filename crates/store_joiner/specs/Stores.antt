@@ -4,15 +4,15 @@ use Rattle.block_folder.specs.declared.values.Values.{Values}
 use Rattle.block_folder.specs.declared.values.Values.TheVariants.{Whole}
 use Rattle.data_folder.specs.Folders.{HasFile, KeepsOthers, Left, LeavesOnly, Untouched}
 use Rattle.data_folder.specs.JournalFile.{journal_name, next_name}
-use Rattle.event_journal.specs.Holding.{Stands}
 use Rattle.head.specs.Heads.{BlockPart}
+use Rattle.head.specs.Resuming.{MayStand}
 use Rattle.head.specs.Worlds.{Event, World, replayed}
 use Rattle.head_record.specs.Saved.{Place, Saved}
 use Rattle.store_folder.specs.Holding.{AreAt}
 use Rattle.store_folder.specs.Journals.{IsJournalOf}
 use Rattle.store_folder.specs.Origins.{Origin, beginning}
-use Rattle.store_folder.specs.Plain.{HasEither}
-use Rattle.store_folder.specs.States.{IsAfter, StandsFor, origin_of}
+use Rattle.store_folder.specs.Plain.{AreAdmitted, HasEither, StandsAlone}
+use Rattle.store_folder.specs.States.{IsAfter, StandsFor, origin_of, started}
 use Rattle.store_folder.specs.Sweeps.{has_number}
 use Rattle.store_folder.specs.Writing.{EachSays}
 use Rattle.store_folder.specs.declared.error.StartError.TheVariants.{Medium}
@@ -84,17 +84,17 @@ MayChange shows kept moment left_since P old new =
 abbrev pub PlainOrFinds : List ℕ → (World → World → Type 0) → Left → Type 0
 PlainOrFinds file P left =
     HasEither file left
-    ⊎ ((events : List Event) × Stands [] file events
+    ⊎ ((events : List Event) × StandsAlone file events
     × StandsOrFinds (beginning Whole) events P left)
 
--- Nothing was changed; or this file stands for events alone; or the folder failed as the store was
+-- Nothing was changed; or this file stands for events alone, which are accepted; or the folder failed as the store was
 -- opened, and all files stay but the journal and one in the making.
 abbrev pub MayChangePlain : {F : Type 0} → (F → List ℕ → Option (List ℕ) → Type 0)
     → (F → List ℕ → ℕ → Type 0) → (F → ℕ) → (F → ℕ → Left → Type 0) → List ℕ → ChangeFault
     → F → F → Type 0
 MayChangePlain shows kept moment left_since file fault old new =
     Untouched shows kept moment left_since old new
-    ⊎ (((events : List Event) × Stands [] file events)
+    ⊎ (((events : List Event) × StandsAlone file events × AreAdmitted events)
     ⊎ ((fault ≡ faults.Open Medium) × KeepsOthers shows kept next_name journal_name old new))
 
 -- what is left has no journal, or is a store that has nothing
@@ -128,8 +128,9 @@ abbrev pub StaysNow : {F : Type 0} → (F → ℕ) → (F → ℕ → Left → T
 StaysNow moment left_since f first events =
     LeavesNow moment left_since f (StandsOrFinds first events IsSame)
 
--- in the folder lies, for good, a journal of a head alone, which names blocks at these places and
--- says this meaning of values; and so does the `meta.json` of each of them
+-- In the folder lies, for good, a journal of a head alone, which names blocks at these places and
+-- says this meaning of values; and so does the `meta.json` of each of them. The blocks lie there,
+-- and a start makes a snapshot of the head and of them.
 pub record SaysMeaning {F : Type 0} (shows : F → List ℕ → Option (List ℕ) → Type 0)
     (kept : F → List ℕ → ℕ → Type 0) (values : Values) (places : List Place) (f : F)
     : Type 0 where
@@ -140,6 +141,9 @@ pub record SaysMeaning {F : Type 0} (shows : F → List ℕ → Option (List ℕ
   pub means : saved.values ≡ values
   pub names : saved.places ≡ places
   pub says : EachSays shows kept values places f
+  pub parts : List BlockPart
+  pub blocks : AreAt shows kept saved.places parts f
+  pub stands : MayStand (started saved parts)
 
 -- so of some meaning
 abbrev pub SaysOne : {F : Type 0} → (F → List ℕ → Option (List ℕ) → Type 0)

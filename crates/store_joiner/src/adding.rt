@@ -7,7 +7,6 @@ ghost use Rattle.block_folder.specs.declared.values.Values.TheVariants.{Whole};
 ghost use Rattle.data_folder.specs.Folders.{HasFile, LeavesOnly, Untouched};
 ghost use Rattle.data_folder.specs.JournalFile.{journal_name};
 ghost use Rattle.data_folder.specs.Sweeping.{KeepsForeign};
-ghost use Rattle.event_journal.specs.Holding.{Stands};
 ghost use Rattle.head.specs.Blocks.{part_in};
 ghost use Rattle.head.specs.Heads.{BlockPart};
 ghost use Rattle.head.specs.Worlds.{Event as Change, World, replayed};
@@ -15,12 +14,13 @@ ghost use Rattle.head_record.specs.Saved.{Saved};
 ghost use Rattle.store_folder.specs.Faults.{TellsFiles};
 ghost use Rattle.store_folder.specs.Finding.{IsFoundStore};
 ghost use Rattle.store_folder.specs.Origins.{beginning};
-ghost use Rattle.store_folder.specs.Plain.{DeniesFolder, begins_plain};
+ghost use Rattle.store_folder.specs.Plain.{DeniesFolder, StandsAlone, begins_plain};
 ghost use Rattle.store_folder.specs.Starting.{IsNoneOrNothing};
 ghost use Rattle.store_folder.specs.States.{IsAfter, origin_of};
 ghost use Rattle.store_folder.specs.Sweeps.{ListsNumber};
 ghost use Rattle.store_joiner.specs.Adds.{with_beneath};
-ghost use Rattle.store_joiner.specs.Finds.{FindsEither, FindsNow, other_of};
+ghost use Rattle.store_folder.specs.Writing.{EachSays};
+ghost use Rattle.store_joiner.specs.Finds.{BlocksSay, FindsEither, FindsNow, other_of};
 ghost use Rattle.store_joiner.specs.Stores.{Changes, HasBlocks, HasStore, HasStoreFor, IsAddedTo};
 ghost use Rattle.store_joiner.specs.Stores.{IsLater, IsSame, LeavesNow, MayChange, MayChangePlain};
 ghost use Rattle.store_joiner.specs.Stores.{NoneOrFinds, NoneOrStands, PlainOrFinds, SaysOne};
@@ -72,6 +72,10 @@ fn add_saved<N: Beginning, F: Folder + Drop>(
     ensures stays { IfErr result (λ e.
         (e.0 ≡ ChangeFault.Roll (RollFault.Folder RollError.Lost) → ⊥)
         → FindsNow F.moment F.left_since e.1 N.first) }
+    ensures says_stays { EachSays F.shows F.kept found.store.journal.head.values
+        found.store.journal.head.places found.folder → IfErr result (λ e.
+        (e.0 ≡ ChangeFault.Roll (RollFault.Folder RollError.Lost) → ⊥)
+        → LeavesNow F.moment F.left_since e.1 BlocksSay) }
     ensures later { IfErr result (λ e. IsLater e.0) }
     ensures foreign { MatchResult result
         (λ x. KeepsForeign F.shows F.kept found.folder x.1)
@@ -134,6 +138,11 @@ fn add_found<F: Folder + Drop>(
         → StaysNow F.moment F.left_since e.1
         (origin_of found.store.journal.head (map part_in found.store.blocks.items))
         found.store.journal.events.items) }
+    ensures says_stays { TellsFiles F.shows → EachSays F.shows F.kept
+        found.store.journal.head.values found.store.journal.head.places found.folder
+        → IfErr result (λ e.
+        (e.0 ≡ ChangeFault.Roll (RollFault.Folder RollError.Lost) → ⊥)
+        → LeavesNow F.moment F.left_since e.1 BlocksSay) }
     ensures later { IfErr result (λ e. IsLater e.0) }
     ensures foreign { MatchResult result
         (λ x. KeepsForeign F.shows F.kept found.folder x.1)
@@ -311,6 +320,13 @@ pub fn add_to_store<F: Folder + Drop>(
     // The journal has a head alone, which says what the values mean, and so does the `meta.json` of
     // each block.
     ensures says { IfOk result (λ x. SaysOne F.shows F.kept x.1) }
+    // After an `Err`, if the blocks said so before, each says what the head says, whatever a crash
+    // leaves now, unless `Lost` is told.
+    ensures says_stays { TellsFiles F.shows → (saved : Saved) (parts : List BlockPart)
+        (events : List Change) → (s : HasStore F.shows F.kept saved parts events folder)
+        → begins_plain s.file ≡ false → EachSays F.shows F.kept saved.values saved.places folder
+        → IfErr result (λ e. (e.0 ≡ ChangeFault.Roll (RollFault.Folder RollError.Lost) → ⊥)
+        → LeavesNow F.moment F.left_since e.1 BlocksSay) }
     // After an `Err` it finds the store as it was, unless `Lost` is told.
     ensures stays { TellsFiles F.shows → (saved : Saved) (parts : List BlockPart)
         (events : List Change) → (s : HasStore F.shows F.kept saved parts events folder)
@@ -367,7 +383,7 @@ pub fn add_to_store<F: Folder + Drop>(
     // After `Ok` a start finds their world laid over the blocks.
     ensures plain_finds { TellsFiles F.shows → (file : List ℕ)
         → F.shows folder journal_name (Some file) → begins_plain file ≡ true
-        → IfOk result (λ x. (events : List Change) × (w : World) × Stands [] file events
+        → IfOk result (λ x. (events : List Change) × (w : World) × StandsAlone file events
         × (replayed (beginning Whole).world events ≡ Ok w)
         × (x.0 ≡ length opening.now.blocks + w.blocks) × (values ≡ Whole)
         × FindsNow F.moment F.left_since x.1 (other_of (beginning Whole)

@@ -6,18 +6,19 @@ ghost use Rattle.block_folder.specs.declared.values.Values.TheVariants.{Whole};
 ghost use Rattle.data_folder.specs.Folders.{HasFile, LeavesOnly, Untouched};
 ghost use Rattle.data_folder.specs.JournalFile.{journal_name};
 ghost use Rattle.data_folder.specs.Sweeping.{KeepsForeign};
-ghost use Rattle.event_journal.specs.Holding.{Stands};
 ghost use Rattle.head.specs.Blocks.{part_in};
 ghost use Rattle.head.specs.Heads.{BlockPart};
+ghost use Rattle.head.specs.Resuming.{MayStand};
 ghost use Rattle.head.specs.Worlds.{Event as Change, World, replayed};
 ghost use Rattle.head_record.specs.Saved.{Saved};
 ghost use Rattle.store_folder.specs.Faults.{TellsFiles};
 ghost use Rattle.store_folder.specs.Finding.{IsFoundStore};
 ghost use Rattle.store_folder.specs.Origins.{beginning};
-ghost use Rattle.store_folder.specs.Plain.{DeniesFolder, begins_plain, may_be_plain};
+ghost use Rattle.store_folder.specs.Plain.{DeniesFolder, StandsAlone, begins_plain, may_be_plain};
 ghost use Rattle.store_folder.specs.Starting.{StartFinds};
-ghost use Rattle.store_folder.specs.States.{origin_of};
-ghost use Rattle.store_joiner.specs.Finds.{Finds, FindsNow, other_of};
+ghost use Rattle.store_folder.specs.States.{origin_of, started};
+ghost use Rattle.store_folder.specs.Writing.{EachSays};
+ghost use Rattle.store_joiner.specs.Finds.{BlocksSay, Finds, FindsNow, other_of};
 ghost use Rattle.store_joiner.specs.Joins.{with_blocks};
 ghost use Rattle.store_joiner.specs.Stores.{Changes, HasStore, IsJoinedTo, IsLater, IsSame};
 ghost use Rattle.store_joiner.specs.Stores.{LeavesNow, MayChange, MayChangePlain, PlainOrFinds};
@@ -68,6 +69,14 @@ fn sweep<N: Beginning, F: Folder + Drop>(
         found.store.journal.events.items)
         (λ e. StartFinds F.moment F.left_since found.folder e.1 N.first
         found.store.journal.events.items) }
+    // If the journal has no events, and each block says what its head says, so it is then.
+    ensures says { found.store.journal.events.items ≡ [] → EachSays F.shows F.kept
+        found.store.journal.head.values found.store.journal.head.places found.folder
+        → MayStand (started found.store.journal.head (map part_in found.store.blocks.items))
+        → IfOk result (SaysOne F.shows F.kept) }
+    ensures says_stays { EachSays F.shows F.kept found.store.journal.head.values
+        found.store.journal.head.places found.folder
+        → IfErr result (λ e. LeavesNow F.moment F.left_since e.1 BlocksSay) }
     ensures later { IfErr result (λ e. IsLater e.0) }
     ensures foreign { MatchResult result
         (λ x. KeepsForeign F.shows F.kept found.folder x)
@@ -113,6 +122,14 @@ fn join_saved<N: Beginning, F: Folder + Drop>(
     ensures few { IfOk result (λ x. x.0.after ≤ x.0.before) }
     ensures says { IfOk result (λ x. (x.0.after ≡ x.0.before → ⊥)
         → SaysOne F.shows F.kept x.1) }
+    ensures says_still { EachSays F.shows F.kept found.store.journal.head.values
+        found.store.journal.head.places found.folder
+        → MayStand (started found.store.journal.head (map part_in found.store.blocks.items))
+        → IfOk result (λ x. SaysOne F.shows F.kept x.1) }
+    ensures says_stays { EachSays F.shows F.kept found.store.journal.head.values
+        found.store.journal.head.places found.folder → IfErr result (λ e.
+        (e.0 ≡ ChangeFault.Roll (RollFault.Folder RollError.Lost) → ⊥)
+        → LeavesNow F.moment F.left_since e.1 BlocksSay) }
     ensures stays { IfErr result (λ e.
         (e.0 ≡ ChangeFault.Roll (RollFault.Folder RollError.Lost) → ⊥)
         → FindsNow F.moment F.left_since e.1 N.first) }
@@ -167,11 +184,21 @@ fn join_found<F: Folder + Drop>(
     ensures few { IfOk result (λ x. x.0.after ≤ x.0.before) }
     ensures says { IfOk result (λ x. (x.0.after ≡ x.0.before → ⊥)
         → SaysOne F.shows F.kept x.1) }
+    ensures says_still { TellsFiles F.shows → EachSays F.shows F.kept
+        found.store.journal.head.values found.store.journal.head.places found.folder
+        → (found.store.journal.events.items ≡ [] → MayStand
+        (started found.store.journal.head (map part_in found.store.blocks.items)))
+        → IfOk result (λ x. SaysOne F.shows F.kept x.1) }
     ensures stays { TellsFiles F.shows → IfErr result (λ e.
         (e.0 ≡ ChangeFault.Roll (RollFault.Folder RollError.Lost) → ⊥)
         → StaysNow F.moment F.left_since e.1
         (origin_of found.store.journal.head (map part_in found.store.blocks.items))
         found.store.journal.events.items) }
+    ensures says_stays { TellsFiles F.shows → EachSays F.shows F.kept
+        found.store.journal.head.values found.store.journal.head.places found.folder
+        → IfErr result (λ e.
+        (e.0 ≡ ChangeFault.Roll (RollFault.Folder RollError.Lost) → ⊥)
+        → LeavesNow F.moment F.left_since e.1 BlocksSay) }
     ensures later { IfErr result (λ e. IsLater e.0) }
     ensures foreign { MatchResult result
         (λ x. KeepsForeign F.shows F.kept found.folder x.1)
@@ -214,6 +241,24 @@ pub fn join_store<F: Folder + Drop>(
     // so does the `meta.json` of each block.
     ensures says { IfOk result (λ x. (x.0.after ≡ x.0.before → ⊥)
         → SaysOne F.shows F.kept x.1) }
+    // If the blocks said so before, so it is after `Ok` also where none were joined; and a start
+    // makes a snapshot of the head and of them, if it did so before, or the journal had events. Of
+    // a journal of events alone, which names no blocks, it is always so.
+    ensures says_still { TellsFiles F.shows → (saved : Saved) (parts : List BlockPart)
+        (events : List Change) → (s : HasStore F.shows F.kept saved parts events folder)
+        → begins_plain s.file ≡ false → EachSays F.shows F.kept saved.values saved.places folder
+        → (events ≡ [] → MayStand (started saved parts))
+        → IfOk result (λ x. SaysOne F.shows F.kept x.1) }
+    ensures plain_says { TellsFiles F.shows → (file : List ℕ)
+        → F.shows folder journal_name (Some file) → begins_plain file ≡ true
+        → IfOk result (λ x. SaysOne F.shows F.kept x.1) }
+    // After an `Err`, if the blocks said so before, each says what the head says, whatever a crash
+    // leaves now, unless `Lost` is told.
+    ensures says_stays { TellsFiles F.shows → (saved : Saved) (parts : List BlockPart)
+        (events : List Change) → (s : HasStore F.shows F.kept saved parts events folder)
+        → begins_plain s.file ≡ false → EachSays F.shows F.kept saved.values saved.places folder
+        → IfErr result (λ e. (e.0 ≡ ChangeFault.Roll (RollFault.Folder RollError.Lost) → ⊥)
+        → LeavesNow F.moment F.left_since e.1 BlocksSay) }
     // After an `Err` it finds the store as it was, unless `Lost` is told.
     ensures stays { TellsFiles F.shows → (saved : Saved) (parts : List BlockPart)
         (events : List Change) → (s : HasStore F.shows F.kept saved parts events folder)
@@ -262,7 +307,7 @@ pub fn join_store<F: Folder + Drop>(
     // After `Ok` it finds their world, in the number of blocks that is told.
     ensures plain_finds { TellsFiles F.shows → (file : List ℕ)
         → F.shows folder journal_name (Some file) → begins_plain file ≡ true
-        → IfOk result (λ x. (events : List Change) × (w : World) × Stands [] file events
+        → IfOk result (λ x. (events : List Change) × (w : World) × StandsAlone file events
         × (replayed (beginning Whole).world events ≡ Ok w) × (x.0.before ≡ w.blocks)
         × FindsNow F.moment F.left_since x.1
         (other_of (beginning Whole) (with_blocks x.0.after w))) }

@@ -5,19 +5,22 @@ ghost use Rattle.data_folder.specs.Folders.{Untouched};
 ghost use Rattle.data_folder.specs.Sweeping.{KeepsForeign};
 ghost use Rattle.head.specs.Blocks.{part_in};
 ghost use Rattle.head.specs.Heads.{BlockPart};
+ghost use Rattle.head.specs.Resuming.{MayStand};
 ghost use Rattle.head.specs.Worlds.{Event as Change};
 ghost use Rattle.head_record.specs.Saved.{Saved};
 ghost use Rattle.store_folder.specs.Faults.{IsStoreOf, TellsFiles};
 ghost use Rattle.store_folder.specs.Finding.{IsFoundStore};
 ghost use Rattle.store_folder.specs.Starting.{StartFinds};
-ghost use Rattle.store_folder.specs.States.{IsAfter, origin_of};
-ghost use Rattle.store_joiner.specs.Stores.{HasStoreFor, HasStore, IsLater};
+ghost use Rattle.store_folder.specs.States.{IsAfter, origin_of, started};
+ghost use Rattle.store_folder.specs.Writing.{EachSays};
+ghost use Rattle.store_joiner.specs.Finds.{BlocksSay};
+ghost use Rattle.store_joiner.specs.Stores.{HasStoreFor, HasStore, IsLater, LeavesNow};
 
 use crate::error::ChangeFault;
-use data_folder::Folder;
+use data_folder::{Folder, RollError};
 use std::alloc::Global;
 use std::marker::Brand;
-use store_folder::{Beginning, FoundStore, StartedStore, read_store, resume_store};
+use store_folder::{Beginning, FoundStore, RollFault, StartedStore, read_store, resume_store};
 
 /// A folder, and the store that was found in it.
 #[derive(Drop)]
@@ -80,6 +83,18 @@ fn save_events<N: Beginning, F: Folder + Drop>(
         found.store.journal.events.items) }
     ensures has { IfOk result (λ folder. HasStoreFor F.shows F.kept N.first
         found.store.journal.events.items folder) }
+    // A start makes a snapshot of the new head and its blocks. If each block said what the head
+    // said, so it is with the new one.
+    ensures stands { IfOk result (λ folder. (saved : Saved) × (parts : List BlockPart)
+        × HasStore F.shows F.kept saved parts [] folder × MayStand (started saved parts)
+        × (EachSays F.shows F.kept found.store.journal.head.values
+        found.store.journal.head.places found.folder
+        → EachSays F.shows F.kept saved.values saved.places folder)) }
+    // So it is after an `Err`, whatever a crash leaves now, unless `Lost` is told.
+    ensures says_stays { EachSays F.shows F.kept found.store.journal.head.values
+        found.store.journal.head.places found.folder → IfErr result (λ e.
+        (e.0 ≡ ChangeFault.Roll (RollFault.Folder RollError.Lost) → ⊥)
+        → LeavesNow F.moment F.left_since e.1 BlocksSay) }
     ensures later { IfErr result (λ e. IsLater e.0) }
     ensures foreign { MatchResult result
         (λ x. KeepsForeign F.shows F.kept found.folder x)
@@ -131,6 +146,21 @@ pub(crate) fn save<F: Folder + Drop>(
         (origin_of found.store.journal.head (map part_in found.store.blocks.items))
         found.store.journal.events.items x.store.journal.head
         (map part_in x.store.blocks.items)) }
+    // If each block says what the head says, so it is then.
+    ensures says { TellsFiles F.shows → EachSays F.shows F.kept
+        found.store.journal.head.values found.store.journal.head.places found.folder
+        → IfOk result (λ x. EachSays F.shows F.kept x.store.journal.head.values
+        x.store.journal.head.places x.folder) }
+    // A start makes a snapshot of it, if it does so of what was found, or there were events.
+    ensures may { TellsFiles F.shows → (found.store.journal.events.items ≡ [] → MayStand
+        (started found.store.journal.head (map part_in found.store.blocks.items)))
+        → IfOk result (λ x. MayStand
+        (started x.store.journal.head (map part_in x.store.blocks.items))) }
+    // After an `Err` each block says so, whatever a crash leaves now, unless `Lost` is told.
+    ensures says_stays { EachSays F.shows F.kept found.store.journal.head.values
+        found.store.journal.head.places found.folder → IfErr result (λ e.
+        (e.0 ≡ ChangeFault.Roll (RollFault.Folder RollError.Lost) → ⊥)
+        → LeavesNow F.moment F.left_since e.1 BlocksSay) }
     ensures later { IfErr result (λ e. IsLater e.0) }
     ensures foreign { MatchResult result
         (λ x. KeepsForeign F.shows F.kept found.folder x.folder)

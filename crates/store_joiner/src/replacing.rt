@@ -6,8 +6,9 @@ ghost use Rattle.head.specs.Blocks.{part_in};
 ghost use Rattle.head.specs.Heads.{world_of};
 ghost use Rattle.store_folder.specs.Finding.{IsFoundStore};
 ghost use Rattle.store_folder.specs.States.{origin_of};
-ghost use Rattle.store_joiner.specs.Finds.{FindsEither, FindsNow, other_of};
-ghost use Rattle.store_joiner.specs.Stores.{IsLater, SaysOne};
+ghost use Rattle.store_folder.specs.Writing.{EachSays};
+ghost use Rattle.store_joiner.specs.Finds.{BlocksSay, FindsEither, FindsNow, other_of};
+ghost use Rattle.store_joiner.specs.Stores.{IsLater, LeavesNow, SaysOne};
 
 use crate::error::ChangeFault;
 use crate::opened::Found;
@@ -44,6 +45,10 @@ pub(crate) fn replace<N: Beginning, F: Folder + Drop>(
     ensures stays { IfErr result (λ e.
         (e.0 ≡ ChangeFault.Roll (RollFault.Folder RollError.Lost) → ⊥)
         → FindsNow F.moment F.left_since e.1 N.first) }
+    ensures says_stays { EachSays F.shows F.kept found.store.journal.head.values
+        found.store.journal.head.places found.folder → IfErr result (λ e.
+        (e.0 ≡ ChangeFault.Roll (RollFault.Folder RollError.Lost) → ⊥)
+        → LeavesNow F.moment F.left_since e.1 BlocksSay) }
     ensures later { IfErr result (λ e. IsLater e.0) }
     ensures foreign { MatchResult result
         (λ x. KeepsForeign F.shows F.kept found.folder x)

@@ -4,8 +4,9 @@ ghost use Rattle.std.specs.Prelude.{◌≡◌, List, [], false, length, IfErr, I
 ghost use Rattle.data_folder.specs.Sweeping.{KeepsForeign};
 ghost use Rattle.head.specs.Heads.{BlockPart, world_of};
 ghost use Rattle.store_folder.specs.Holding.{HoldsAt};
-ghost use Rattle.store_joiner.specs.Finds.{FindsEither, FindsNow, other_of};
-ghost use Rattle.store_joiner.specs.Stores.{SaysMeaning};
+ghost use Rattle.store_folder.specs.Writing.{EachSays};
+ghost use Rattle.store_joiner.specs.Finds.{BlocksSay, FindsEither, FindsNow, other_of};
+ghost use Rattle.store_joiner.specs.Stores.{LeavesNow, SaysMeaning};
 
 use data_folder::{Folder, RollError, roll};
 use head::Snapshot;
@@ -58,6 +59,12 @@ pub fn replace_store<N: Beginning, F: Folder + Drop>(
     // After an `Err` it finds it as it was, unless the journal was lost.
     ensures stays { IfErr result (λ e. (e.0 ≡ RollFault.Folder RollError.Lost → ⊥)
         → FindsNow F.moment F.left_since e.1 N.first) }
+    // If each block at the held places says what the values mean, then after an `Err` each block
+    // that the head names does, whatever a crash leaves now, unless the journal was lost.
+    ensures says_stays { EachSays F.shows F.kept N.first.values held.now
+        store.events.journal.medium.folder
+        → IfErr result (λ e. (e.0 ≡ RollFault.Folder RollError.Lost → ⊥)
+        → LeavesNow F.moment F.left_since e.1 BlocksSay) }
     // What is none of the store's stays.
     ensures foreign { MatchResult result
         (λ x. KeepsForeign F.shows F.kept store.events.journal.medium.folder x.folder)

@@ -1,7 +1,7 @@
 use Rattle.std.proofs.Common.{◌≡◌, [], List, ℕ, ◌++◌, ap, length, rules, ◌∙◌}
-use Rattle.event_journal.specs.Holding.{Stands}
 use Rattle.journal.specs.Records.{file_of}
 use Rattle.store_folder.specs.Journals.{IsFoundJournal}
+use Rattle.store_folder.specs.Plain.{StandsAlone}
 use Rattle.commands.specs.Listing.{head_line, summary_line}
 use Rattle.store_folder.specs.declared.journals.FoundJournal.{FoundJournal}
 use Rattle.commands.proofs.Listings.{plain_summed_up, read_so, summed_up}
@@ -25,10 +25,11 @@ pub returns-then-begins_plain-clause-ok : goal.returns-then-begins_plain-clause-
 returns-then-begins_plain-clause-ok c =
     let found = c.in_ok-found.found in
     let file = c.args.file.now in
-    let s : (stands : Stands [] file found.events.items)
-    × (found.len ≡ length (file_of stands.contents)) =
-    read_so (λ (j : FoundJournal). (stands : Stands [] file j.events.items)
-    × (j.len ≡ length (file_of stands.contents))) c.read_plain.result c.map_err.result found _
+    let s : (stands : StandsAlone file found.events.items)
+    × (found.len ≡ length (file_of stands.0.contents)) × (found.names ≡ stands.0.names) =
+    read_so (λ (j : FoundJournal). (stands : StandsAlone file j.events.items)
+    × (j.len ≡ length (file_of stands.0.contents)) × (j.names ≡ stands.0.names))
+    c.read_plain.result c.map_err.result found _
     c.map_err.ensures.cases c.in_ok-found.was c.read_plain.ensures.found in
     let events = c.in_ok-append_events.ensures in
     let rest = events.0 ++ summary_line (length found.events.items) found.len (length file) in

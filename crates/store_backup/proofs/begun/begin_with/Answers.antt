@@ -1,13 +1,16 @@
-use Rattle.std.proofs.Common.{◌-◌, [], ap, length, refl, subst, sym}
+use Rattle.std.proofs.Common.{◌-◌, List, [], ap, length, refl, subst, sym}
 use Rattle.event_journal.specs.Holding.{contents_with}
 use Rattle.head.specs.Heads.{world_of}
 use Rattle.head_record.proofs.Worlds.{in_front}
-use Rattle.head_record.specs.Saved.{Saved}
+use Rattle.head_record.specs.Saved.{Place, Saved}
 use Rattle.head_record.specs.Spelling.{head_texts}
 use Rattle.journal.proofs.Keeping.{itself}
 use Rattle.journal.specs.Group.{IsJournalText}
 use Rattle.journal.specs.Records.{file_of}
+use Rattle.store_folder.proofs.Rolls.{blocks_rolled}
+use Rattle.store_folder.proofs.Saves.{each_like}
 use Rattle.store_folder.proofs.Says.{files_apart, says_on}
+use Rattle.store_folder.specs.Holding.{AreAt}
 use Rattle.store_folder.specs.Writing.{places_from}
 use Rattle.store_backup.proofs.Targets.{begins_so, finds_so, next_of, only_written}
 use Rattle.store_backup.proofs.begun.begin_with.Goals as goal
@@ -95,6 +98,7 @@ returns-in-Ok-begin_journal-clause-says g c =
     let contents = contents_with (head_texts head) [] in
     let mid = c.write_saved.new.folder in
     let new = c.in-Ok-begin_journal.begun in
+    let there = c.in-Ok.ensures.there in
     let keeps = c.in-Ok-begin_journal.ensures.keeps contents
     (subst (IsJournalText contents) (sym c.deref.ensures.value) c.in-Ok-head_journal.ensures.text) in (
       written,
@@ -117,5 +121,11 @@ returns-in-Ok-begin_journal-clause-says g c =
         says = says_on f.shows f.kept values written mid new
             (λ files among there. c.in-Ok-begin_journal.ensures.files files
             (files_apart written files among) there) c.in-Ok.ensures.says;
+        parts = there.0;
+        blocks = subst (λ (ps : List Place). AreAt f.shows f.kept ps there.0 new)
+            (sym (ap (λ (h : Saved). h.places) c.in-Ok.ensures.saved))
+            (blocks_rolled f.shows f.kept written there.0 mid new
+            c.in-Ok-begin_journal.ensures.files there.2);
+        stands = c.in-Ok.ensures.stands there.0 (each_like s.blocks there.0 there.1);
       },
     )

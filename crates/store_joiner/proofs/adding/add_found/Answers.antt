@@ -8,6 +8,7 @@ use Rattle.store_joiner.proofs.Stores.{finds_then, if_both, if_err, match_so, me
 use Rattle.store_folder.proofs.Starts.{stays_found}
 use Rattle.store_joiner.proofs.Stores.{stays, stays_now, then_finds}
 use Rattle.data_folder.proofs.Foreign.{foreign_rests, foreign_then}
+use Rattle.store_joiner.proofs.Says.{found_says}
 use Rattle.store_joiner.proofs.adding.add_found.Goals as goal
 
 pub returns-in-Ok-clause-any_moment : goal.returns-in-Ok-clause-any_moment
@@ -95,3 +96,20 @@ pub returns-then-not-has_values-clause-foreign : goal.returns-then-not-has_value
 returns-then-not-has_values-clause-foreign g c =
     let f = g.F.Folder in
     foreign_rests f.shows f.kept c.args.found.folder
+
+-- what the meta.json of its blocks says
+
+pub returns-in-Ok-clause-says_stays : goal.returns-in-Ok-clause-says_stays
+returns-in-Ok-clause-says_stays g c tells says =
+    c.add_saved.ensures.says_stays (c.in-Ok.ensures.says tells says)
+
+pub returns-in-Err-clause-says_stays : goal.returns-in-Err-clause-says_stays
+returns-in-Err-clause-says_stays g c tells says unless = c.in-Err.ensures.says_stays says unless
+
+pub returns-then-not-has_values-clause-says_stays : goal.returns-then-not-has_values-clause-says_stays
+returns-then-not-has_values-clause-says_stays g c tells says unless =
+    let f = g.F.Folder in
+    let met = g.met.F.Folder in
+    let store = c.args.found.store in
+    found_says f.shows f.kept f.sound f.moment f.left_since met.only_now met.earlier c.args.found.folder
+    store.journal (map part_in store.blocks.items) c.requires.found says

@@ -9,6 +9,7 @@ use Rattle.store_joiner.specs.Finds.{other_of}
 use Rattle.store_joiner.proofs.Adds.{counted}
 use Rattle.store_joiner.proofs.Stores.{finds_all, found_as, now_first}
 use Rattle.data_folder.proofs.Foreign.{foreign_rests}
+use Rattle.store_joiner.proofs.Says.{found_says}
 use Rattle.store_joiner.proofs.adding.add_saved.Goals as goal
 
 -- no snapshot was made
@@ -60,3 +61,16 @@ returns-in-Ok-replace-clause-counted g c =
     let o = c.args.opening.now in
     counted o.blocks (map part_in s.blocks.items) o.floor g.N.Beginning.first s.journal.head
     c.in-Ok.next c.count_of-total.result c.count_of-total.ensures c.in-Ok.ensures.world c.requires.first
+
+-- what the meta.json of its blocks says
+
+pub returns-in-Err-clause-says_stays : goal.returns-in-Err-clause-says_stays
+returns-in-Err-clause-says_stays g c says unless =
+    let f = g.F.Folder in
+    let met = g.met.F.Folder in
+    let store = c.args.found.store in
+    found_says f.shows f.kept f.sound f.moment f.left_since met.only_now met.earlier c.args.found.folder
+    store.journal (map part_in store.blocks.items) c.requires.found says
+
+pub returns-clause-says_stays : goal.returns-clause-says_stays
+returns-clause-says_stays g c says unless = c.in-Err-replace.ensures.says_stays says unless

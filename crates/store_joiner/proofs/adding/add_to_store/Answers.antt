@@ -27,6 +27,8 @@ use Rattle.store_joiner.proofs.Changing.{plain_same, some_of}
 use Rattle.head.specs.Worlds.{World}
 use Rattle.data_folder.proofs.Moments.{joined, untouched_on}
 use Rattle.store_joiner.specs.Stores.{IsSame, NoneOrFinds}
+use Rattle.store_folder.specs.Writing.{EachSays}
+use Rattle.store_joiner.proofs.Says.{has_all, say_now, says_all}
 use Rattle.store_joiner.proofs.adding.add_to_store.Goals as goal
 
 abbrev found : Option FoundStore → Result (Option FoundStore) StartError
@@ -200,7 +202,10 @@ returns-in-Some-clause-plain_safe g c tells file shown plain =
     let s = c.in-Some.store in
     let found = some_of c.in-Ok.opened s _ c.in-Some.is
     (c.in-Ok.ensures.plain tells file shown plain) in
-    if_err c.add_found.result _ _ (λ e stays. inr (inl (s.journal.events.items, found.0)))
+    let admitted = some_of c.in-Ok.opened s _ c.in-Some.is
+    (c.in-Ok.ensures.admitted tells file shown plain) in
+    if_err c.add_found.result _ _
+    (λ e stays. inr (inl (s.journal.events.items, found.0, admitted)))
     c.add_found.ensures.later
 
 pub returns-in-Err-clause-plain_safe : goal.returns-in-Err-clause-plain_safe
@@ -372,3 +377,37 @@ pub returns-in-None-clause-first_finds : goal.returns-in-None-clause-first_finds
 returns-in-None-clause-first_finds g c tells shown =
     if_both c.add_first.result _ _ _ (λ x means finds. (finds.0, means, finds.1))
     (of_ok c.add_first.result _ c.add_first.ensures.meant) (c.add_first.ensures.finds tells)
+
+-- what the meta.json of its blocks says
+
+pub returns-in-Some-clause-says_stays : goal.returns-in-Some-clause-says_stays
+returns-in-Some-clause-says_stays g c tells saved parts events h plain says =
+    let f = g.F.Folder in
+    let old = c.args.folder in
+    let mid = c.open_store.new.folder in
+    let is : IsStoreOf saved parts events c.in-Some.store =
+    subst (λ (o : Option FoundStore). GivesStore (f.failed c.open_store.new.folder) saved parts
+    events (found o)) c.in-Some.is
+    (c.in-Ok.ensures.only tells h.file saved parts events h.has plain h.journal h.blocks) in
+    let before = c.open_store.ensures.whole tells (Some h.file) h.has.shown plain in
+    c.add_found.ensures.says_stays tells
+    (subst (λ (x : Saved). EachSays f.shows f.kept x.values x.places mid) (sym is.head)
+    (says_all f.shows f.kept saved.values saved.places old mid before.all says))
+
+pub returns-in-Err-clause-says_stays : goal.returns-in-Err-clause-says_stays
+returns-in-Err-clause-says_stays g c tells saved parts events h plain says unless =
+    let f = g.F.Folder in
+    let met = g.met.F.Folder in
+    let old = c.args.folder in
+    let new = c.open_store.new.folder in
+    let before = c.open_store.ensures.whole tells (Some h.file) h.has.shown plain in
+    say_now f.shows f.kept f.sound f.moment f.left_since met.only_now met.earlier saved parts events new
+    (has_all f.shows f.kept saved parts events old new before.all h)
+    (says_all f.shows f.kept saved.values saved.places old new before.all says)
+
+pub returns-in-None-clause-says_stays : goal.returns-in-None-clause-says_stays
+returns-in-None-clause-says_stays g c tells saved parts events h plain says =
+    let f = g.F.Folder in
+    absurd (subst (λ (o : Option FoundStore). GivesStore (f.failed c.open_store.new.folder) saved parts
+    events (found o)) c.in-None.is
+    (c.in-Ok.ensures.only tells h.file saved parts events h.has plain h.journal h.blocks))

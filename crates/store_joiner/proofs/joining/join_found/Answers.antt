@@ -63,3 +63,14 @@ returns-in-Ok-clause-foreign g c =
     c.in-Ok.ensures.foreign k)
     (λ e k. foreign_then f.shows f.kept c.args.found.folder c.in-Ok.saved.folder e.1
     c.in-Ok.ensures.foreign k) c.join_saved.ensures.foreign
+
+pub returns-in-Ok-clause-says_still : goal.returns-in-Ok-clause-says_still
+returns-in-Ok-clause-says_still g c tells says may =
+    c.join_saved.ensures.says_still (c.in-Ok.ensures.says tells says) (c.in-Ok.ensures.may tells may)
+
+pub returns-in-Ok-clause-says_stays : goal.returns-in-Ok-clause-says_stays
+returns-in-Ok-clause-says_stays g c tells says =
+    c.join_saved.ensures.says_stays (c.in-Ok.ensures.says tells says)
+
+pub returns-in-Err-clause-says_stays : goal.returns-in-Err-clause-says_stays
+returns-in-Err-clause-says_stays g c tells says unless = c.in-Err.ensures.says_stays says unless

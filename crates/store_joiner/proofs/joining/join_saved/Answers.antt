@@ -10,6 +10,7 @@ use Rattle.store_joiner.specs.Stores.{IsJoinedTo}
 use Rattle.store_joiner.proofs.Stores.{as_many, either_so, finds_all, found_as, found_blocks}
 use Rattle.store_joiner.proofs.Stores.{joined_to, now_first}
 use Rattle.data_folder.proofs.Foreign.{foreign_rests}
+use Rattle.store_joiner.proofs.Says.{found_says}
 use Rattle.store_joiner.proofs.joining.join_saved.Goals as goal
 
 -- no snapshot was made
@@ -138,3 +139,25 @@ returns-in-Ok-sweep-clause-says g c fewer =
 
 pub returns-in-Ok-replace-clause-says : goal.returns-in-Ok-replace-clause-says
 returns-in-Ok-replace-clause-says g c fewer = c.in-Ok-replace.ensures.says
+
+pub returns-in-Ok-sweep-clause-says_still : goal.returns-in-Ok-sweep-clause-says_still
+returns-in-Ok-sweep-clause-says_still g c says may =
+    c.in-Ok-sweep.ensures.says c.requires.saved says may
+
+pub returns-in-Ok-replace-clause-says_still : goal.returns-in-Ok-replace-clause-says_still
+returns-in-Ok-replace-clause-says_still g c says may = c.in-Ok-replace.ensures.says
+
+pub returns-in-Err-clause-says_stays : goal.returns-in-Err-clause-says_stays
+returns-in-Err-clause-says_stays g c says unless =
+    let f = g.F.Folder in
+    let met = g.met.F.Folder in
+    let store = c.args.found.store in
+    found_says f.shows f.kept f.sound f.moment f.left_since met.only_now met.earlier c.args.found.folder
+    store.journal (map part_in store.blocks.items) c.requires.found says
+
+pub returns-then-after-before-clause-says_stays : goal.returns-then-after-before-clause-says_stays
+returns-then-after-before-clause-says_stays g c says unless =
+    c.in-Err-sweep.ensures.says_stays says
+
+pub returns-clause-says_stays : goal.returns-clause-says_stays
+returns-clause-says_stays g c says unless = c.in-Err-replace.ensures.says_stays says unless

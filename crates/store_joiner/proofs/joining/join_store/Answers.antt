@@ -5,13 +5,13 @@ use Rattle.std.specs.Prelude.{List, Ok, Option, Result}
 use Rattle.store_folder.specs.Faults.{GivesStore, IsStoreOf}
 use Rattle.store_folder.specs.Origins.{Origin}
 use Rattle.store_folder.specs.Plain.{DeniesFolder}
-use Rattle.store_folder.specs.States.{origin_of}
+use Rattle.store_folder.specs.States.{origin_of, started}
 use Rattle.store_folder.specs.declared.error.StartError.{StartError}
 use Rattle.store_folder.specs.declared.reading.FoundStore.{FoundStore}
 use Rattle.store_joiner.specs.Stores.{IsJoinedTo, StandsOrFinds, StaysNow}
 use Rattle.store_joiner.proofs.Stores.{as_found, has_for, if_err, match_so, now_in, stays, stays_now}
 use Rattle.store_joiner.proofs.Stores.{then_stays, untouched_finds}
-use Rattle.std.proofs.Common.{◌≡◌, [], inl, inr, map, rules}
+use Rattle.std.proofs.Common.{◌≡◌, [], inl, inr, map, rules, subst₂, sym, ◌∙◌}
 use Rattle.head.specs.Blocks.{part_in}
 use Rattle.head.specs.Worlds.{replayed}
 use Rattle.store_folder.specs.Starting.{nothing_saved}
@@ -24,6 +24,11 @@ use Rattle.store_joiner.proofs.Changing.{changes_found, plain_changed, plain_den
 use Rattle.store_joiner.proofs.Changing.{plain_rests, plain_same, some_of}
 use Rattle.store_joiner.specs.Stores.{IsSame}
 use Rattle.head.specs.Worlds.{World}
+use Rattle.head_record.specs.Saved.{Saved}
+use Rattle.head.specs.Heads.{BlockPart}
+use Rattle.head.specs.Resuming.{MayStand}
+use Rattle.store_folder.specs.Writing.{EachSays}
+use Rattle.store_joiner.proofs.Says.{has_all, say_now, says_all}
 use Rattle.store_joiner.proofs.joining.join_store.Goals as goal
 
 abbrev found : Option FoundStore → Result (Option FoundStore) StartError
@@ -194,7 +199,10 @@ returns-in-Some-clause-plain_safe g c tells file shown plain =
     let s = c.in-Some.store in
     let found = some_of c.in-Ok.opened s _ c.in-Some.is
     (c.in-Ok.ensures.plain tells file shown plain) in
-    if_err c.join_found.result _ _ (λ e stays. inr (inl (s.journal.events.items, found.0)))
+    let admitted = some_of c.in-Ok.opened s _ c.in-Some.is
+    (c.in-Ok.ensures.admitted tells file shown plain) in
+    if_err c.join_found.result _ _
+    (λ e stays. inr (inl (s.journal.events.items, found.0, admitted)))
     c.join_found.ensures.later
 
 pub returns-in-Err-clause-plain_safe : goal.returns-in-Err-clause-plain_safe
@@ -235,3 +243,69 @@ returns-in-Some-clause-finds g c tells saved parts events h plain =
     × FindsNow f.moment f.left_since x.1 (other_of o (with_blocks x.0.after w)))
     saved parts events c.in-Some.store is finds)
     (c.join_found.ensures.finds tells)
+
+-- what the meta.json of its blocks says
+
+pub returns-in-Some-clause-says_still : goal.returns-in-Some-clause-says_still
+returns-in-Some-clause-says_still g c tells saved parts events h plain says may =
+    let f = g.F.Folder in
+    let old = c.args.folder in
+    let mid = c.open_store.new.folder in
+    let s = c.in-Some.store in
+    let is : IsStoreOf saved parts events s =
+    subst (λ (o : Option FoundStore). GivesStore (f.failed c.open_store.new.folder) saved parts
+    events (found o)) c.in-Some.is
+    (c.in-Ok.ensures.only tells h.file saved parts events h.has plain h.journal h.blocks) in
+    let before = c.open_store.ensures.whole tells (Some h.file) h.has.shown plain in
+    c.join_found.ensures.says_still tells
+    (subst (λ (x : Saved). EachSays f.shows f.kept x.values x.places mid) (sym is.head)
+    (says_all f.shows f.kept saved.values saved.places old mid before.all says))
+    (λ none. subst₂ (λ (x : Saved) (bs : List BlockPart). MayStand (started x bs)) (sym is.head)
+    (sym is.blocks) (may (sym is.events ∙ none)))
+
+pub returns-in-Some-clause-plain_says : goal.returns-in-Some-clause-plain_says
+returns-in-Some-clause-plain_says g c tells file shown plain =
+    let f = g.F.Folder in
+    let mid = c.open_store.new.folder in
+    let s = c.in-Some.store in
+    let alone = some_of c.in-Ok.opened s _ c.in-Some.is
+    (c.in-Ok.ensures.plain tells file shown plain) in
+    c.join_found.ensures.says_still tells
+    (subst (λ (x : Saved). EachSays f.shows f.kept x.values x.places mid) (sym alone.1) tt)
+    (λ none. absurd (alone.0.1 none))
+
+pub returns-in-Some-clause-says_stays : goal.returns-in-Some-clause-says_stays
+returns-in-Some-clause-says_stays g c tells saved parts events h plain says =
+    let f = g.F.Folder in
+    let old = c.args.folder in
+    let mid = c.open_store.new.folder in
+    let is : IsStoreOf saved parts events c.in-Some.store =
+    subst (λ (o : Option FoundStore). GivesStore (f.failed c.open_store.new.folder) saved parts
+    events (found o)) c.in-Some.is
+    (c.in-Ok.ensures.only tells h.file saved parts events h.has plain h.journal h.blocks) in
+    let before = c.open_store.ensures.whole tells (Some h.file) h.has.shown plain in
+    c.join_found.ensures.says_stays tells
+    (subst (λ (x : Saved). EachSays f.shows f.kept x.values x.places mid) (sym is.head)
+    (says_all f.shows f.kept saved.values saved.places old mid before.all says))
+
+pub returns-in-Err-clause-says_stays : goal.returns-in-Err-clause-says_stays
+returns-in-Err-clause-says_stays g c tells saved parts events h plain says unless =
+    let f = g.F.Folder in
+    let met = g.met.F.Folder in
+    let old = c.args.folder in
+    let new = c.open_store.new.folder in
+    let before = c.open_store.ensures.whole tells (Some h.file) h.has.shown plain in
+    say_now f.shows f.kept f.sound f.moment f.left_since met.only_now met.earlier saved parts events new
+    (has_all f.shows f.kept saved parts events old new before.all h)
+    (says_all f.shows f.kept saved.values saved.places old new before.all says)
+
+pub returns-in-None-clause-says_stays : goal.returns-in-None-clause-says_stays
+returns-in-None-clause-says_stays g c tells saved parts events h plain says unless =
+    let f = g.F.Folder in
+    let met = g.met.F.Folder in
+    let old = c.args.folder in
+    let new = c.open_store.new.folder in
+    let before = c.open_store.ensures.whole tells (Some h.file) h.has.shown plain in
+    say_now f.shows f.kept f.sound f.moment f.left_since met.only_now met.earlier saved parts events new
+    (has_all f.shows f.kept saved parts events old new before.all h)
+    (says_all f.shows f.kept saved.values saved.places old new before.all says)

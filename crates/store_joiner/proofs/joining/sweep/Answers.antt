@@ -4,7 +4,9 @@ use Rattle.store_folder.specs.Holding.{HoldsAt}
 use Rattle.store_folder.specs.Origins.{Origin}
 use Rattle.store_folder.proofs.Rolls.{finds_on}
 use Rattle.data_folder.proofs.Foreign.{foreign_beside, foreign_rests, foreign_then}
+use Rattle.store_folder.proofs.Says.{says_on, there_beside}
 use Rattle.store_folder.proofs.Starts.{stays_found}
+use Rattle.store_joiner.proofs.Says.{found_says, left_says, swept_says}
 use Rattle.store_joiner.proofs.joining.sweep.Goals as goal
 
 pub resume-requires-clause-values : goal.resume-requires-clause-values
@@ -71,3 +73,42 @@ returns-clause-foreign g c =
     (foreign_beside f.shows f.kept c.args.found.folder
     c.in-Ok-resume.journal.events.journal.medium.folder c.in-Ok-resume.ensures.others)
     c.sweep_blocks.ensures.foreign
+
+pub returns-clause-says : goal.returns-clause-says
+returns-clause-says g c none says may =
+    let f = g.F.Folder in
+    let met = g.met.F.Folder in
+    let store = c.args.found.store in
+    let parts = map part_in store.blocks.items in
+    let j = c.in-Ok-resume.journal.events.journal in
+    let held = c.in-Ok-resume.ensures.head parts c.requires.found c.requires.first in
+    let head = store.journal.head in
+    swept_says f.shows f.kept f.sound f.moment f.left_since met.only_now met.earlier
+    g.N.Beginning.first j.medium j.len j.closed store.journal.events.items head parts
+    c.places.result.now c.sweep_blocks.new.self.events.journal.medium.folder held.0 held.1 held.2
+    held.3 c.in-Ok-resume.ensures.open none c.places.ensures c.sweep_blocks.ensures.kept may
+    (says_on f.shows f.kept head.values head.places c.args.found.folder j.medium.folder
+    (λ files among there. there_beside f.shows f.kept head.places files c.args.found.folder
+    j.medium.folder c.in-Ok-resume.ensures.others among there) says)
+
+pub returns-in_default-clause-says_stays : goal.returns-in_default-clause-says_stays
+returns-in_default-clause-says_stays g c says =
+    let f = g.F.Folder in
+    let met = g.met.F.Folder in
+    let store = c.args.found.store in
+    found_says f.shows f.kept f.sound f.moment f.left_since met.only_now met.earlier c.args.found.folder
+    store.journal (map part_in store.blocks.items) c.requires.found says
+
+pub returns-in-Err-clause-says_stays : goal.returns-in-Err-clause-says_stays
+returns-in-Err-clause-says_stays g c says =
+    let f = g.F.Folder in
+    let met = g.met.F.Folder in
+    let store = c.args.found.store in
+    let head = store.journal.head in
+    let parts = map part_in store.blocks.items in
+    left_says f.shows f.kept f.sound f.moment f.left_since met.only_now met.earlier head parts
+    store.journal.events.items c.args.found.folder c.in-Err.folder
+    (c.in-Err.ensures.leaves parts c.requires.found)
+    (says_on f.shows f.kept head.values head.places c.args.found.folder c.in-Err.folder
+    (λ files among there. there_beside f.shows f.kept head.places files c.args.found.folder
+    c.in-Err.folder c.in-Err.ensures.others among there) says)

@@ -1,12 +1,18 @@
 use Rattle.std.proofs.Common.{map}
 use Rattle.head.specs.Blocks.{part_in}
-use Rattle.store_folder.specs.States.{origin_of}
+use Rattle.store_folder.specs.States.{origin_of, started}
 use Rattle.store_folder.proofs.Rolls.{finds_on}
 use Rattle.store_folder.proofs.Starts.{stays_found}
-use Rattle.std.proofs.Common.{refl}
-use Rattle.store_joiner.proofs.Stores.{if_both, match_so, untouched_finds}
+use Rattle.std.proofs.Common.{[], List, arith, refl, subst, subst₂, sym}
+use Rattle.std.proofs.lemmas.Grind.{common_steps}
+use Rattle.store_joiner.proofs.Stores.{if_both, if_ok, match_so, untouched_finds}
 use Rattle.store_joiner.proofs.Stores.{world_again}
 use Rattle.data_folder.proofs.Foreign.{foreign_all, foreign_rests, foreign_then}
+use Rattle.store_joiner.proofs.Says.{err_match, has_all, if_match, say_now, says_all}
+use Rattle.store_folder.specs.Writing.{EachSays}
+use Rattle.head_record.specs.Saved.{Saved}
+use Rattle.head.specs.Resuming.{MayStand}
+use Rattle.head.specs.Heads.{BlockPart}
 use Rattle.store_joiner.proofs.opened.save.Goals as goal
 
 pub returns-then-is_empty-clause-any_moment : goal.returns-then-is_empty-clause-any_moment
@@ -61,3 +67,44 @@ returns-in-Ok-clause-foreign g c =
     (λ e u. foreign_then f.shows f.kept c.args.found.folder c.in-Ok.folder e.1
     c.in-Ok.ensures.foreign (foreign_all f.shows f.kept c.in-Ok.folder e.1 u.all))
     c.read_again.ensures.untouched
+
+-- what the meta.json of its blocks says
+
+pub returns-then-is_empty-clause-says : goal.returns-then-is_empty-clause-says
+returns-then-is_empty-clause-says g c tells says = says
+
+pub returns-then-is_empty-clause-may : goal.returns-then-is_empty-clause-may
+returns-then-is_empty-clause-may g c tells may =
+    may (grind (arith, common_steps))
+
+pub returns-in-Ok-clause-says : goal.returns-in-Ok-clause-says
+returns-in-Ok-clause-says g c tells says =
+    let f = g.F.Folder in
+    let w = c.in-Ok.ensures.stands in
+    if_match c.read_again.result _ _ _ _
+    (λ x is u. subst (λ (head : Saved). EachSays f.shows f.kept head.values head.places x.folder)
+    (sym is.head)
+    (says_all f.shows f.kept w.0.values w.0.places c.in-Ok.folder x.folder u.all (w.4 says)))
+    (c.read_again.ensures.only tells w.0 w.1 [] w.2) c.read_again.ensures.untouched
+
+pub returns-in-Ok-clause-may : goal.returns-in-Ok-clause-may
+returns-in-Ok-clause-may g c tells may =
+    let w = c.in-Ok.ensures.stands in
+    if_ok c.read_again.result _ _
+    (λ x is. subst₂ (λ (head : Saved) (bs : List BlockPart). MayStand (started head bs))
+    (sym is.head) (sym is.blocks) w.3) (c.read_again.ensures.only tells w.0 w.1 [] w.2)
+
+pub returns-in-Ok-clause-says_stays : goal.returns-in-Ok-clause-says_stays
+returns-in-Ok-clause-says_stays g c says =
+    let f = g.F.Folder in
+    let met = g.met.F.Folder in
+    let w = c.in-Ok.ensures.stands in
+    let mid = c.in-Ok.folder in
+    err_match c.read_again.result _ _ _
+    (λ e u unless. say_now f.shows f.kept f.sound f.moment f.left_since met.only_now met.earlier w.0 w.1
+    [] e.1 (has_all f.shows f.kept w.0 w.1 [] mid e.1 u.all w.2)
+    (says_all f.shows f.kept w.0.values w.0.places mid e.1 u.all (w.4 says)))
+    c.read_again.ensures.untouched
+
+pub returns-in-Err-clause-says_stays : goal.returns-in-Err-clause-says_stays
+returns-in-Err-clause-says_stays g c says unless = c.in-Err.ensures.says_stays says unless

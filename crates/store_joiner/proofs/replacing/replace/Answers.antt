@@ -1,4 +1,4 @@
-use Rattle.std.proofs.Common.{◌≡◌, ◌⊎◌, ap, inl, map, refl, subst, sym}
+use Rattle.std.proofs.Common.{◌≡◌, ◌⊎◌, List, ap, inl, map, refl, subst, subst₂, sym}
 use Rattle.head.specs.Blocks.{part_in}
 use Rattle.head.specs.Heads.{world_of}
 use Rattle.store_folder.specs.Holding.{HoldsAt}
@@ -9,6 +9,11 @@ use Rattle.store_joiner.specs.declared.error.ChangeFault.TheVariants as faults
 use Rattle.store_joiner.proofs.Stores.{finds_all, now_first, replaced}
 use Rattle.data_folder.proofs.Foreign.{foreign_beside, foreign_rests, foreign_then}
 use Rattle.store_folder.proofs.Starts.{stays_found}
+use Rattle.store_joiner.proofs.Says.{found_says, left_says}
+use Rattle.store_folder.proofs.Says.{says_on, there_beside}
+use Rattle.store_folder.specs.Writing.{EachSays}
+use Rattle.head_record.specs.Saved.{Place}
+use Rattle.block_folder.specs.declared.values.Values.{Values}
 use Rattle.store_joiner.proofs.replacing.replace.Goals as goal
 
 abbrev rolled : RollFault → ChangeFault
@@ -143,3 +148,38 @@ returns-in-Ok-replace_store-clause-says g c = (
   c.in-Ok-replace_store.replaced.places.items,
   c.in-Ok-replace_store.ensures.says,
 )
+
+pub returns-in_default-clause-says_stays : goal.returns-in_default-clause-says_stays
+returns-in_default-clause-says_stays g c says unless =
+    let f = g.F.Folder in
+    let met = g.met.F.Folder in
+    let store = c.args.found.store in
+    found_says f.shows f.kept f.sound f.moment f.left_since met.only_now met.earlier c.args.found.folder
+    store.journal (map part_in store.blocks.items) c.requires.found says
+
+pub returns-in-Err-clause-says_stays : goal.returns-in-Err-clause-says_stays
+returns-in-Err-clause-says_stays g c says unless =
+    let f = g.F.Folder in
+    let met = g.met.F.Folder in
+    let store = c.args.found.store in
+    let head = store.journal.head in
+    let parts = map part_in store.blocks.items in
+    left_says f.shows f.kept f.sound f.moment f.left_since met.only_now met.earlier head parts
+    store.journal.events.items c.args.found.folder c.in-Err.folder
+    (c.in-Err.ensures.leaves parts c.requires.found)
+    (says_on f.shows f.kept head.values head.places c.args.found.folder c.in-Err.folder
+    (λ files among there. there_beside f.shows f.kept head.places files c.args.found.folder
+    c.in-Err.folder c.in-Err.ensures.others among there) says)
+
+pub returns-clause-says_stays : goal.returns-clause-says_stays
+returns-clause-says_stays g c says unless =
+    let f = g.F.Folder in
+    let head = c.args.found.store.journal.head in
+    let mid = c.in-Ok-resume.journal.events.journal.medium.folder in
+    c.in-Err-replace_store.ensures.says_stays
+    (subst₂ (λ (v : Values) (ps : List Place). EachSays f.shows f.kept v ps mid)
+    (sym (ap (λ (x : Origin). x.values) c.requires.first)) (sym c.places.ensures)
+    (says_on f.shows f.kept head.values head.places c.args.found.folder mid
+    (λ files among there. there_beside f.shows f.kept head.places files c.args.found.folder mid
+    c.in-Ok-resume.ensures.others among there) says))
+    (λ e. unless (ap (λ (x : RollFault). rolled x) e))

@@ -1,4 +1,5 @@
-use Rattle.std.proofs.Common.{◌≡◌, ◌++◌, ◌-◌, arith, List, [], ap, length, refl, subst, sym, take, false, ◌∙◌}
+use Rattle.std.proofs.Common.{◌≡◌, ◌++◌, ◌-◌, arith, List, [], ap, length, refl, subst, sym}
+use Rattle.std.proofs.Common.{take, false, ◌∙◌}
 use Rattle.event_journal.specs.Holding.{contents_with}
 use Rattle.head.specs.Heads.{world_of}
 use Rattle.head_record.specs.Saved.{Place, Saved}
@@ -12,13 +13,17 @@ use Rattle.data_folder.proofs.Moments.{joined}
 use Rattle.store_folder.specs.Sweeps.{names_at}
 use Rattle.block_folder.specs.declared.values.Values.{Values}
 use Rattle.store_folder.specs.Writing.{EachSays, places_from}
-use Rattle.store_folder.proofs.Rolls.{goes_on}
+use Rattle.store_folder.specs.Holding.{AreAt}
+use Rattle.store_folder.proofs.Rolls.{blocks_rolled, goes_on}
+use Rattle.store_folder.proofs.Saves.{each_like}
 use Rattle.store_folder.proofs.Says.{files_apart, says_on}
+use Rattle.store_folder.proofs.Swept.{blocks_kept}
 use Rattle.store_joiner.specs.Finds.{other_of}
 use Rattle.store_joiner.proofs.Joins.{as_before, begun_anew, counted, finds_first}
 use Rattle.store_joiner.proofs.Joins.{finds_other}
 use Rattle.store_joiner.proofs.Joins.{keeps_before, meanwhile, next_head, now_at, roll_either, still_at}
 use Rattle.data_folder.proofs.Foreign.{foreign_beside, foreign_kept, foreign_then}
+use Rattle.store_joiner.proofs.Says.{head_says}
 use Rattle.store_joiner.proofs.storing.replace_store.Goals as goal
 
 pub write_saved-requires-clause-sound : goal.write_saved-requires-clause-sound
@@ -325,6 +330,7 @@ returns-in-Ok-roll-clause-foreign g c =
 pub returns-in-Ok-roll-clause-says : goal.returns-in-Ok-roll-clause-says
 returns-in-Ok-roll-clause-says g c =
     let f = g.F.Folder in
+    let s = c.args.next.now in
     let values = g.N.Beginning.first.values in
     let n = length c.args.next.now.blocks - 0 in
     let written = places_from c.next_number.result n in
@@ -342,6 +348,7 @@ returns-in-Ok-roll-clause-says g c =
     (names_at ps) new last) (c.deref-in-Ok-roll.ensures.value ∙ named) c.sweep_apart.ensures.kept in
     let head = c.in-Ok.head in
     let contents = contents_with (head_texts head) [] in
+    let there = c.in-Ok.ensures.there in
     let keeps = c.sweep_apart.ensures.kept.journal contents c.roll.new.journal.len
     (c.in-Ok-roll.ensures.ok contents (subst (IsJournalText contents) (sym c.deref.ensures.value)
     c.in-Ok-head_journal.ensures.text)) in
@@ -364,4 +371,95 @@ returns-in-Ok-roll-clause-says g c =
       says = subst (λ (ps : List Place). EachSays f.shows f.kept values ps last) (sym named)
           (says_on f.shows f.kept values written new last
           (λ files among there. swept.files files among there) rolled);
+      parts = there.0;
+      blocks = subst (λ (ps : List Place). AreAt f.shows f.kept ps there.0 last)
+          (sym (ap (λ (h : Saved). h.places) c.in-Ok.ensures.saved))
+          (blocks_kept f.shows f.kept f.sound f.moment f.left_since written there.0 new last
+          (blocks_rolled f.shows f.kept written there.0 mid new c.in-Ok-roll.ensures.files there.2)
+          swept);
+      stands = c.in-Ok.ensures.stands there.0 (each_like s.blocks there.0 there.1);
     }
+
+-- after an `Err` too
+
+pub returns-in-Err-clause-says_stays : goal.returns-in-Err-clause-says_stays
+returns-in-Err-clause-says_stays g c says unless =
+    let f = g.F.Folder in
+    let met = g.met.F.Folder in
+    let first = g.N.Beginning.first in
+    let old = c.args.store.events.journal in
+    let held = c.requires.held in
+    let mid = c.write_saved.new.folder in
+    let at =
+    still_at f.shows f.kept f.sound f.moment f.left_since met.only_now met.earlier first old.medium
+    mid old.len old.closed c.args.held.now held.0 held.1 c.requires.open c.write_saved.ensures.stays in
+    head_says f.shows f.kept f.sound f.moment f.left_since met.only_now met.earlier first
+    (record (old.medium) { folder = mid }) old.len old.closed [] c.args.held.now at.0 at.1
+    c.requires.open
+    (says_on f.shows f.kept first.values c.args.held.now old.medium.folder mid
+    (λ files among there. c.write_saved.ensures.stays.files files among there) says)
+
+pub returns-in_default-clause-says_stays : goal.returns-in_default-clause-says_stays
+returns-in_default-clause-says_stays g c says unless =
+    let f = g.F.Folder in
+    let met = g.met.F.Folder in
+    let first = g.N.Beginning.first in
+    let old = c.args.store.events.journal in
+    let held = c.requires.held in
+    let mid = c.write_saved.new.folder in
+    let at =
+    still_at f.shows f.kept f.sound f.moment f.left_since met.only_now met.earlier first old.medium
+    mid old.len old.closed c.args.held.now held.0 held.1 c.requires.open c.write_saved.ensures.stays in
+    head_says f.shows f.kept f.sound f.moment f.left_since met.only_now met.earlier first
+    (record (old.medium) { folder = mid }) old.len old.closed [] c.args.held.now at.0 at.1
+    c.requires.open
+    (says_on f.shows f.kept first.values c.args.held.now old.medium.folder mid
+    (λ files among there. c.write_saved.ensures.stays.files files among there) says)
+
+pub returns-in-Err-head_journal-clause-says_stays : goal.returns-in-Err-head_journal-clause-says_stays
+returns-in-Err-head_journal-clause-says_stays g c says unless =
+    let f = g.F.Folder in
+    let met = g.met.F.Folder in
+    let first = g.N.Beginning.first in
+    let old = c.args.store.events.journal in
+    let held = c.requires.held in
+    let mid = c.write_saved.new.folder in
+    let at =
+    still_at f.shows f.kept f.sound f.moment f.left_since met.only_now met.earlier first old.medium
+    mid old.len old.closed c.args.held.now held.0 held.1 c.requires.open c.write_saved.ensures.stays in
+    head_says f.shows f.kept f.sound f.moment f.left_since met.only_now met.earlier first
+    (record (old.medium) { folder = mid }) old.len old.closed [] c.args.held.now at.0 at.1
+    c.requires.open
+    (says_on f.shows f.kept first.values c.args.held.now old.medium.folder mid
+    (λ files among there. c.write_saved.ensures.stays.files files among there) says)
+
+pub returns-clause-says_stays : goal.returns-clause-says_stays
+returns-clause-says_stays g c says unless =
+    let f = g.F.Folder in
+    let met = g.met.F.Folder in
+    let first = g.N.Beginning.first in
+    let old = c.args.store.events.journal in
+    let held = c.requires.held in
+    let places = c.args.held.now in
+    let mid = c.write_saved.new.folder in
+    let new = c.roll.new.journal in
+    let at =
+    still_at f.shows f.kept f.sound f.moment f.left_since met.only_now met.earlier first old.medium
+    mid old.len old.closed places held.0 held.1 c.requires.open c.write_saved.ensures.stays in
+    let opened =
+    goes_on c.roll.result c.in-Err-roll.error old.closed new.closed (f.failed new.medium.folder)
+    c.in-Err-roll.is c.roll.ensures.closed c.roll.ensures.not_written unless c.requires.open in
+    let then =
+    as_before f.shows f.kept f.sound f.moment f.left_since met.only_now met.earlier first mid
+    old.medium.names new.medium old.len new.len old.closed new.closed places held.0 at
+    c.requires.open c.in-Err-roll.ensures.names
+    (c.in-Err-roll.ensures.err (head_texts at.0.saved ++ at.0.journal.contents)
+    (keeps_before f.shows f.kept f.sound f.moment f.left_since met.only_now met.earlier first mid
+    old.medium.names old.len old.closed places held.0 at c.requires.open) opened)
+    c.in-Err-roll.ensures.files in
+    head_says f.shows f.kept f.sound f.moment f.left_since met.only_now met.earlier first new.medium
+    new.len new.closed [] places then.0 then.1 opened
+    (says_on f.shows f.kept first.values places mid new.medium.folder
+    (λ files among there. c.in-Err-roll.ensures.files files (files_apart places files among) there)
+    (says_on f.shows f.kept first.values places old.medium.folder mid
+    (λ files among there. c.write_saved.ensures.stays.files files among there) says))
