@@ -1,7 +1,7 @@
 -- That a start makes a snapshot of what is saved of one.
-use Rattle.std.proofs.Common.{◌≡◌, ◌≤◌, ℤ, true, false, List, [], ◌∷◌, None, ap, length, map, sym}
+use Rattle.std.proofs.Common.{◌≡◌, ◌≤◌, ℤ, true, List, [], ◌∷◌, None, ap, length, map, sym}
 use Rattle.std.proofs.Common.{subst, ◌∙◌, refl, arith}
-use Rattle.std.specs.Prelude.{int_le, int_lt}
+use Rattle.std.specs.Prelude.{int_le}
 use Rattle.std.specs.FinMap.Entries.{find}
 use Rattle.block_folder.specs.declared.values.Values.{Values}
 use Rattle.head.specs.Heads.{AreBelow, BlockPart, EndBy, HeadSeries, IsSoundSnapshot}
@@ -10,7 +10,7 @@ use Rattle.head.specs.Limits.{max_series}
 use Rattle.head.specs.Resuming.{MayStand}
 use Rattle.head_record.specs.Saved.{Place, Saved, save}
 use Rattle.labels.specs.Contents.{Content}
-use Rattle.labels.specs.Labels.{Labels, Point, point_cmp}
+use Rattle.labels.specs.Labels.{Point, point_cmp}
 use Rattle.labels.specs.Parts.{Part, laid_over, over, rows_in}
 use Rattle.labels.specs.Rows.{points_of}
 use Rattle.store_folder.specs.States.{started}
