@@ -524,7 +524,7 @@ def kept():
     yield Case("kept", answer, words, checks=[
         says(ALL_JUDGED, "ok", right, "not for how few its intervals are: block 0."), lines,
         lacks("Not judged", "did not judge")])
-    yield Case("text-kept", answer, [*words, "--text"], checks=[has(ALL_JUDGED, "block 0: valid, numbered")])
+    yield Case("text-kept", answer, [*words, "--text"], checks=[has(ALL_JUDGED, "few its intervals are: block 0.")])
     hidden = json.loads(answer)
     hidden["parts"][1].update(rows=[], intervals=[{"from": 1, "until": END, "verdict": "none"}])
     hidden["rows"] = []
