@@ -18,15 +18,16 @@ use Rattle.event_journal.specs.Holding.{contents_with}
 use Rattle.block.specs.Blocks.{Shown}
 use Rattle.head.specs.Blocks.{part_in}
 use Rattle.head.specs.Heads.{BlockPart, SnapshotParts, world_of}
+use Rattle.head.specs.Resuming.{MayStand}
 use Rattle.head.specs.Worlds.{Event, World}
 use Rattle.head_record.specs.Saved.{Place, Saved, save}
 use Rattle.head_record.specs.Spelling.{head_texts, IsSaved}
 use Rattle.journal.specs.Group.{IsJournalText}
 use Rattle.store_folder.specs.Holding.{AreAt}
-use Rattle.store_folder.specs.KeeperLaws.{finds_world, stands_for}
+use Rattle.store_folder.specs.KeeperLaws.{finds_world, state_stands}
 use Rattle.store_folder.specs.Origins.{Origin}
-use Rattle.store_folder.specs.States.{StandsFor}
-use Rattle.store_folder.specs.StoreLaws.{one_meaning}
+use Rattle.store_folder.specs.States.{IsState, StandsFor, started}
+use Rattle.store_folder.specs.StoreLaws.{may_start, one_meaning}
 use Rattle.store_folder.specs.Writing.{AreRewritten}
 use Rattle.store_folder.proofs.Rolls.{apart_both, files_at, lie_at, there_at}
 use Rattle.store_joiner.specs.Finds.{Finds, FindsNow}
@@ -180,16 +181,22 @@ module _ {F : Type 0} (shows : F → List ℕ → Option (List ℕ) → Type 0)
       (record { folder = f; names = [] }) s values saved places made refl is head anew at
 
   whole_finds : (first : Origin) (f : F) (saved : Saved) (made : List BlockPart) (left : Left)
-      (next : Next first f saved made)
+      (next : Next first f saved made) → MayStand (started saved made)
       → NoneOrWhole (files_at shows kept saved.places made f next.blocks)
       (contents_with (head_texts saved) []) left → NoneOrFinds first left
-  whole_finds first f saved made left next is =
+  whole_finds first f saved made left next may is =
       ⊎_elim (λ none. inl none)
-      (λ has. inr (finds_in first left
-      (stands_for first [] [] [] saved made left refl next.head
-      (record { world = ap (λ (w : World). Ok w) next.world; values = next.values })
-      (lie_at shows kept saved.places made f left next.blocks has.files)
-      (record { contents = []; names = []; spell = refl; journal = has.journal }))))
+      (λ has. (let state : IsState saved made [] left =
+      record {
+        head = next.head;
+        kept = record { contents = []; names = []; spell = refl; journal = has.journal };
+        blocks = lie_at shows kept saved.places made f left next.blocks has.files;
+      } in
+      inr (
+        finds_in first left (state_stands first [] [] [] saved made left refl
+            (record { world = ap (λ (w : World). Ok w) next.world; values = next.values }) state),
+        may_start saved made [] left state may,
+      )))
       is
 
   -- what a crash leaves while the journal is begun
@@ -201,15 +208,16 @@ module _ {F : Type 0} (shows : F → List ℕ → Option (List ℕ) → Type 0)
 
   pub begins_so : (first : Origin) (old mid new : F) (saved : Saved) (made : List BlockPart)
       (text : List ℕ) → KeepsStore shows kept sound moment left_since [] old mid
-      → Next first mid saved made → IsJournalText (contents_with (head_texts saved) []) text
+      → Next first mid saved made → MayStand (started saved made)
+      → IsJournalText (contents_with (head_texts saved) []) text
       → Leaves mid new text → KeepsOthers shows kept next_name journal_name mid new
       → Begins shows kept moment left_since first old new
-  begins_so first old mid new saved made text stays next whole leaves others =
+  begins_so first old mid new saved made text stays next may whole leaves others =
       let contents = contents_with (head_texts saved) [] in
       let files = files_at shows kept saved.places made mid next.blocks in
       begins_later shows kept sound moment left_since only_now first old mid new stays (record {
         any_moment = λ none durable. weaker moment left_since mid new (NoneOrWhole files contents)
-            (NoneOrFinds first) (λ left is. whole_finds first mid saved made left next is)
+            (NoneOrFinds first) (λ left is. whole_finds first mid saved made left next may is)
             (leaves contents files whole
             (apart_both shows kept [] saved.places [] made mid tt next.blocks)
             (there_at shows kept saved.places made mid next.blocks));

@@ -9,7 +9,7 @@ use Rattle.head.specs.Worlds.{Event, World, replayed}
 use Rattle.head_record.specs.Saved.{Place, Saved}
 use Rattle.store_folder.specs.Origins.{Origin}
 use Rattle.store_folder.specs.Starting.{DeniesStart}
-use Rattle.store_folder.specs.States.{origin_of}
+use Rattle.store_folder.specs.States.{MayStart, origin_of}
 use Rattle.store_folder.specs.declared.error.RollFault.{RollFault}
 use Rattle.store_folder.specs.declared.error.StartError.{StartError}
 use Rattle.store_joiner.specs.Finds.{Finds, FindsNow, other_of}
@@ -23,10 +23,12 @@ use Rattle.store_backup.specs.Reading.{IsRead}
 abbrev pub NoneOrWhole : List Named → List (List ℕ) → Left → Type 0
 NoneOrWhole files contents left = (left journal_name ≡ None) ⊎ HasFilesOf files contents left
 
--- what is left has no journal, or a start finds this world in it, in which the values mean this
+-- what is left has no journal; or a start finds this world in it, in which the values mean this,
+-- and makes a snapshot of it
 abbrev pub NoneOrFinds : Origin → Left → Type 0
 NoneOrFinds first left =
-    (left journal_name ≡ None) ⊎ Finds first.values (λ (v : World). v ≡ first.world) left
+    (left journal_name ≡ None)
+    ⊎ (Finds first.values (λ (v : World). v ≡ first.world) left × MayStart left)
 
 -- From old to new the store of this world was begun in a folder without a journal: a crash at any
 -- moment leaves none, or the store. What is none of the store's stays.

@@ -13,7 +13,7 @@ use Rattle.store_folder.specs.Origins.{Origin}
 use Rattle.store_folder.specs.Saving.{MaySave}
 use Rattle.store_folder.specs.Writing.{AreLike}
 
-like_all : (blocks : List BlockPart) → AreLike blocks blocks
+pub like_all : (blocks : List BlockPart) → AreLike blocks blocks
 like_all [] = tt
 like_all (b ∷ blocks) = (record { min = refl; max = refl; points = refl }, like_all blocks)
 
@@ -66,7 +66,7 @@ module _ {F : Type 0} (shows : F → List ℕ → Option (List ℕ) → Type 0)
   )
 
   -- a snapshot may be saved, of which these blocks are the first
-  pub may_save : (first : Origin) (m : JournalFile F) (len : ℕ) (closed : Bool)
+  abbrev pub may_save : (first : Origin) (m : JournalFile F) (len : ℕ) (closed : Bool)
       (events : List Event) (places held : List Place) (blocks shown others : List BlockPart)
       (s : SnapshotParts) (same : ℕ) (h : Like first m len closed events places blocks)
       → replayed first.world events ≡ Ok (world_of s) → held ≡ places → shown ≡ s.blocks

@@ -25,12 +25,12 @@ use Rattle.head_record.specs.Spelling.{head_texts, IsSaved}
 use Rattle.head_record.proofs.Worlds.{in_front}
 use Rattle.store_folder.specs.declared.error.RollFault.TheVariants as fault
 use Rattle.store_folder.specs.Blocks.{BlockFiles, named_files}
-use Rattle.store_folder.specs.Holding.{AreAt, HoldsAfterHead, HoldsAt, HoldsStore}
-use Rattle.store_folder.specs.KeeperLaws.{settled_found, stands_for}
+use Rattle.store_folder.specs.Holding.{AreAt, HoldsAfterHead, HoldsAt, HoldsStore, HoldsThese}
+use Rattle.store_folder.specs.KeeperLaws.{settled_found, settled_state, state_stands}
 use Rattle.store_folder.specs.Origins.{Origin}
 use Rattle.store_folder.specs.Rolls.{MayRoll}
 use Rattle.store_folder.specs.Starting.{StartFinds}
-use Rattle.store_folder.specs.States.{IsAfter, LieAt, StandsFor}
+use Rattle.store_folder.specs.States.{IsAfter, IsEither, IsState, LieAt, StandsFor}
 
 -- lists, one after another
 
@@ -143,6 +143,34 @@ module _ {F : Type 0} (shows : F → List ℕ → Option (List ℕ) → Type 0)
 
 module _ {F : Type 0} (shows : F → List ℕ → Option (List ℕ) → Type 0)
     (kept : F → List ℕ → ℕ → Type 0) (sound : F → Bool) (moment : F → ℕ)
+    (left_since : F → ℕ → Left → Type 0) where
+  abbrev These : Origin → JournalFile F → ℕ → Bool → List Event → Saved → List BlockPart
+      → List Event → Type 0
+  These first m len closed events saved parts late =
+      HoldsThese shows kept sound moment left_since first m len closed events saved parts late
+
+  -- where the blocks of the head lie
+  pub at_these : (first : Origin) (m : JournalFile F) (len : ℕ) (closed : Bool)
+      (events : List Event) (saved : Saved) (parts : List BlockPart) (late : List Event)
+      (places : List Place) → These first m len closed events saved parts late
+      → saved.places ≡ places
+      → HoldsAt shows kept sound moment left_since first m len closed events places parts
+  at_these first m len closed events saved parts late places t is =
+      (t.0, ap (λ (x : Saved). x.places) t.1 ∙ is, t.2)
+
+  -- what is so of the head, its blocks and the events after it
+  pub of_these : (P : Saved → List BlockPart → List Event → Type 0) (first : Origin)
+      (m : JournalFile F) (len : ℕ) (closed : Bool) (events : List Event) (saved : Saved)
+      (parts : List BlockPart) (late : List Event)
+      (t : These first m len closed events saved parts late)
+      → P t.0.saved t.0.parts t.0.late → P saved parts late
+  of_these P first m len closed events saved parts late t p =
+      subst (λ (es : List Event). P saved parts es) t.3
+      (subst (λ (bs : List BlockPart). P saved bs t.0.late) t.2
+      (subst (λ (x : Saved). P x t.0.parts t.0.late) t.1 p))
+
+module _ {F : Type 0} (shows : F → List ℕ → Option (List ℕ) → Type 0)
+    (kept : F → List ℕ → ℕ → Type 0) (sound : F → Bool) (moment : F → ℕ)
     (left_since : F → ℕ → Left → Type 0)
     (only_now : (f : F) (name : List ℕ) (x : Option (List ℕ)) (n : ℕ) (left : Left) → shows f name x
     → kept f name n → left_since f (moment f) left → MayLeaveOf n x (left name))
@@ -212,12 +240,12 @@ module _ {F : Type 0} (shows : F → List ℕ → Option (List ℕ) → Type 0)
       → KeepsHere (contents_with (head_texts saved) []) new new_len
       → ((files : List Named) → AllByRecursion IsApart files → AreThere shows kept files old.folder
       → AreThere shows kept files new.folder)
-      → HoldsAt shows kept sound moment left_since first new new_len closed events saved.places
-      parts
+      → HoldsThese shows kept sound moment left_since first new new_len closed events saved parts []
   rolled first old new len new_len was closed saved parts events m head named k stay = (
     after_head first new new_len closed saved parts events events [] [] []
         (sym (append-nil events)) head refl named (record { world = m.world; values = m.values }) k
         (blocks_rolled shows kept saved.places parts old.folder new.folder stay m.blocks),
+    refl,
     refl,
     refl,
   )
@@ -226,43 +254,62 @@ module _ {F : Type 0} (shows : F → List ℕ → Option (List ℕ) → Type 0)
 
   old_or_new : (first : Origin) (old : JournalFile F) (len : ℕ) (was : Bool) (saved : Saved)
       (parts : List BlockPart) (events : List Event) (left : Left)
-      (h : HoldsAll first old len was events)
-      (m : May first old len was events saved parts) → IsSaved saved
+      (h : HoldsAll first old len was events) (at : AreAt shows kept saved.places parts old.folder)
+      → IsSaved saved
       → IsOldOrNew
-      (files_of_both shows kept h.saved.places saved.places h.parts parts old.folder h.blocks m.blocks)
+      (files_of_both shows kept h.saved.places saved.places h.parts parts old.folder h.blocks at)
       (head_texts h.saved ++ h.journal.contents) (contents_with (head_texts saved) []) left
-      → StandsFor first events left
-  old_or_new first old len was saved parts events left h m head is =
+      → IsEither h.saved h.parts h.late saved parts left
+  old_or_new first old len was saved parts events left h at head is =
       let split =
       parted (λ (file : Named). left file.0 ≡ Some file.1)
       (files_at shows kept h.saved.places h.parts old.folder h.blocks)
-      (files_at shows kept saved.places parts old.folder m.blocks) is.files in
+      (files_at shows kept saved.places parts old.folder at) is.files in
       ⊎_elim
-      (λ had. stands_for first events h.early h.late h.saved h.parts left h.all h.head h.begins
-      (lie_at shows kept h.saved.places h.parts old.folder left h.blocks split.0)
-      (record {
-        contents = h.journal.contents;
-        names = h.journal.after;
-        spell = h.journal.spell;
-        journal = had;
+      (λ had. inl (record {
+        head = h.head;
+        kept = record {
+          contents = h.journal.contents;
+          names = h.journal.after;
+          spell = h.journal.spell;
+          journal = had;
+        };
+        blocks = lie_at shows kept h.saved.places h.parts old.folder left h.blocks split.0;
       }))
-      (λ has. stands_for first events events [] saved parts left (sym (append-nil events)) head
-      (record { world = m.world; values = m.values })
-      (lie_at shows kept saved.places parts old.folder left m.blocks split.1)
-      (record { contents = []; names = []; spell = refl; journal = has }))
+      (λ has. inr (record {
+        head = head;
+        kept = record { contents = []; names = []; spell = refl; journal = has };
+        blocks = lie_at shows kept saved.places parts old.folder left at split.1;
+      }))
       is.journal
 
+  pub roll_leaves : (first : Origin) (old : JournalFile F) (new : F) (len : ℕ) (was : Bool)
+      (saved : Saved) (parts : List BlockPart) (events : List Event)
+      (h : HoldsAll first old len was events) (at : AreAt shows kept saved.places parts old.folder)
+      → IsSaved saved
+      → LeavesOnly moment left_since old.folder new (IsOldOrNew
+      (files_of_both shows kept h.saved.places saved.places h.parts parts old.folder h.blocks at)
+      (head_texts h.saved ++ h.journal.contents) (contents_with (head_texts saved) []))
+      → LeavesOnly moment left_since old.folder new (IsEither h.saved h.parts h.late saved parts)
+  roll_leaves first old new len was saved parts events h at head leaves =
+      weaker moment left_since old.folder new _ (IsEither h.saved h.parts h.late saved parts)
+      (λ left is. old_or_new first old len was saved parts events left h at head is) leaves
+
+  -- so a start finds the same events
   pub roll_finds : (first : Origin) (old new : JournalFile F) (len : ℕ) (was : Bool)
       (saved : Saved) (parts : List BlockPart) (events : List Event)
       (h : HoldsAll first old len was events)
-      (m : May first old len was events saved parts) → IsSaved saved
-      → LeavesOnly moment left_since old.folder new.folder (IsOldOrNew
-      (files_of_both shows kept h.saved.places saved.places h.parts parts old.folder h.blocks m.blocks)
-      (head_texts h.saved ++ h.journal.contents) (contents_with (head_texts saved) []))
+      (m : May first old len was events saved parts)
+      → LeavesOnly moment left_since old.folder new.folder
+      (IsEither h.saved h.parts h.late saved parts)
       → StartFinds moment left_since old.folder new.folder first events
-  roll_finds first old new len was saved parts events h m head leaves =
-      weaker moment left_since old.folder new.folder _ (StandsFor first events)
-      (λ left is. old_or_new first old len was saved parts events left h m head is) leaves
+  roll_finds first old new len was saved parts events h m leaves =
+      weaker moment left_since old.folder new.folder (IsEither h.saved h.parts h.late saved parts)
+      (StandsFor first events)
+      (λ left is. ⊎_elim
+      (λ before. state_stands first events h.early h.late h.saved h.parts left h.all h.begins before)
+      (λ after. state_stands first events events [] saved parts left (sym (append-nil events))
+      (record { world = m.world; values = m.values }) after) is) leaves
 
   -- where nothing was done
   pub stays_so : (first : Origin) (m : JournalFile F) (len : ℕ) (closed : Bool)
@@ -274,7 +321,36 @@ module _ {F : Type 0} (shows : F → List ℕ → Option (List ℕ) → Type 0)
       (λ left had. settled_found shows kept sound moment left_since only_now first m len closed
       events left h opened had)
 
+  pub state_rests : (first : Origin) (m : JournalFile F) (len : ℕ) (closed : Bool)
+      (events : List Event) (h : HoldsAll first m len closed events) → closed ≡ false
+      → LeavesOnly moment left_since m.folder m.folder (IsState h.saved h.parts h.late)
+  state_rests first m len closed events h opened =
+      before_all moment left_since m.folder (IsState h.saved h.parts h.late)
+      (λ left had. settled_state shows kept sound moment left_since only_now first m len closed
+      events left h opened had)
+
   -- after an error, if the old journal goes on, its head is the one before
+  pub same_these : (first : Origin) (old new : JournalFile F) (len new_len : ℕ)
+      (was closed : Bool) (events : List Event) (saved : Saved) (parts : List BlockPart)
+      (late : List Event)
+      (t : HoldsThese shows kept sound moment left_since first old len was events saved parts late)
+      → was ≡ false → new.names ≡ old.names
+      → KeepsHere (head_texts t.0.saved ++ t.0.journal.contents) new new_len
+      → ((files : List Named) → AllByRecursion IsApart files → AreThere shows kept files old.folder
+      → AreThere shows kept files new.folder)
+      → HoldsThese shows kept sound moment left_since first new new_len closed events saved parts
+      late
+  same_these first old new len new_len was closed events saved parts late t opened same k stay =
+      let h : HoldsAll first old len was events = t.0 in (
+        after_head first new new_len closed h.saved h.parts events h.early h.late
+            h.journal.contents h.journal.after h.all h.head h.journal.spell
+            (same ∙ h.journal.named opened) h.begins k
+            (blocks_rolled shows kept h.saved.places h.parts old.folder new.folder stay h.blocks),
+        t.1,
+        t.2,
+        t.3,
+      )
+
   pub same_head : (first : Origin) (old new : JournalFile F) (len new_len : ℕ)
       (was closed : Bool) (events : List Event) (places : List Place) (parts : List BlockPart)
       (at : HoldsAt shows kept sound moment left_since first old len was events places parts)
@@ -284,14 +360,10 @@ module _ {F : Type 0} (shows : F → List ℕ → Option (List ℕ) → Type 0)
       → AreThere shows kept files new.folder)
       → HoldsAt shows kept sound moment left_since first new new_len closed events places parts
   same_head first old new len new_len was closed events places parts at opened same k stay =
-      let h : HoldsAll first old len was events = at.0 in (
-        after_head first new new_len closed h.saved h.parts events h.early h.late
-            h.journal.contents h.journal.after h.all h.head h.journal.spell
-            (same ∙ h.journal.named opened) h.begins k
-            (blocks_rolled shows kept h.saved.places h.parts old.folder new.folder stay h.blocks),
-        at.1,
-        at.2,
-      )
+      let h : HoldsAll first old len was events = at.0 in
+      let t = same_these first old new len new_len was closed events h.saved h.parts h.late
+      (h, refl, refl, refl) opened same k stay in
+      (t.0, ap (λ (x : Saved). x.places) t.1 ∙ at.1, t.2 ∙ at.2)
 
   -- after an error the old journal goes on, or it is closed
   pub not_rolled : (first : Origin) (old new : JournalFile F) (len new_len : ℕ)

@@ -1,27 +1,30 @@
 -- A snapshot that is saved.
-use Rattle.std.proofs.Common.{◌≡◌, ◌≤◌, inl, ℕ, zero, suc, Bool, true, false, List, []}
+use Rattle.std.proofs.Common.{◌≡◌, ◌≤◌, inl, inr, ⊎_elim, ℕ, zero, suc, Bool, true, false, List, []}
 use Rattle.std.proofs.Common.{◌∷◌, ◌++◌, Option, drop, take, length, refl, sym, ap, subst, ◌∙◌, arith}
 use Rattle.std.proofs.lemmas.List.{take-append-drop}
 use Rattle.block_folder.specs.declared.values.Values.{Values}
 use Rattle.block_rewriter.proofs.Full.{same_points}
 use Rattle.data_folder.specs.declared.journal_file.JournalFile.{JournalFile}
-use Rattle.data_folder.specs.Folders.{Left, MayLeaveOf}
+use Rattle.data_folder.specs.Folders.{Left, LeavesOnly, MayLeaveOf}
 use Rattle.data_folder.specs.Sweeping.{KeepsStore}
+use Rattle.data_folder.proofs.Moments.{joined as joined_calls, weaker}
 use Rattle.head.specs.Heads.{BlockPart, SnapshotParts}
+use Rattle.head.specs.Resuming.{MayStand}
 use Rattle.head.specs.Worlds.{Event}
 use Rattle.head_record.specs.Saved.{Place, Saved, save}
 use Rattle.labels.specs.Parts.{rows_in}
 use Rattle.labels.specs.Rows.{points_of}
-use Rattle.store_folder.specs.Holding.{AreAt, HoldsAt}
+use Rattle.store_folder.specs.Holding.{AreAt, HoldsAt, HoldsThese}
 use Rattle.store_folder.specs.Origins.{Origin}
 use Rattle.store_folder.specs.Rewriting.{HaveSame}
 use Rattle.store_folder.specs.RewritingLaws.{same_replay}
 use Rattle.store_folder.specs.Rolls.{MayRoll}
-use Rattle.store_folder.specs.Saving.{MaySave}
+use Rattle.store_folder.specs.Saving.{IsOldOrSaved, MaySave}
 use Rattle.store_folder.specs.Starting.{StartFinds}
+use Rattle.store_folder.specs.States.{IsEither, IsState, started}
 use Rattle.store_folder.specs.Sweeps.{names_at}
 use Rattle.store_folder.specs.Writing.{AreLike, AreRewritten, IsLike, IsRewritten}
-use Rattle.store_folder.proofs.Swept.{holds_swept, swept_finds}
+use Rattle.store_folder.proofs.Swept.{holds_swept, swept_finds, these_leave, these_swept}
 use Rattle.store_folder.proofs.Writes.{at_joined}
 
 -- blocks that are like others
@@ -141,6 +144,18 @@ module _ {F : Type 0} (shows : F → List ℕ → Option (List ℕ) → Type 0)
       (may.holds.0.journal.keeps opened).has.is_sound
 
   -- while blocks are written the head stays, and its blocks
+  pub still_these : (first : Origin) (old new : JournalFile F) (len : ℕ) (closed : Bool)
+      (events : List Event) (s : SnapshotParts) (held : List Place) (parts : List BlockPart)
+      (same : ℕ) (may : May first old len closed events s held parts same) → closed ≡ false
+      → new.names ≡ old.names → Stays (names_at held) old.folder new.folder
+      → HoldsThese shows kept sound moment left_since first new len closed events
+      may.holds.0.saved may.holds.0.parts may.holds.0.late
+  still_these first old new len closed events s held parts same may opened named stays =
+      let h = may.holds.0 in
+      these_swept shows kept sound moment left_since only_now earlier first old new len closed
+      events h.saved h.parts h.late (names_at held) (h, refl, refl, refl) opened named
+      (ap names_at (sym may.holds.1)) stays
+
   pub still_held : (first : Origin) (old new : JournalFile F) (len : ℕ) (closed : Bool)
       (events : List Event) (s : SnapshotParts) (held : List Place) (parts : List BlockPart)
       (same : ℕ) → May first old len closed events s held parts same → closed ≡ false
@@ -150,6 +165,19 @@ module _ {F : Type 0} (shows : F → List ℕ → Option (List ℕ) → Type 0)
       holds_swept shows kept sound moment left_since only_now earlier first old new len closed
       events held parts (names_at held) may.holds opened named refl stays
 
+  pub writing_leaves : (first : Origin) (old : JournalFile F) (new : F) (len : ℕ) (closed : Bool)
+      (events : List Event) (s : SnapshotParts) (held : List Place) (parts : List BlockPart)
+      (same : ℕ) (values : Values) (may : May first old len closed events s held parts same)
+      → closed ≡ false → Stays (names_at held) old.folder new
+      → LeavesOnly moment left_since old.folder new
+      (IsOldOrSaved may.holds.0.saved may.holds.0.parts may.holds.0.late values s)
+  writing_leaves first old new len closed events s held parts same values may opened stays =
+      let h = may.holds.0 in
+      weaker moment left_since old.folder new (IsState h.saved h.parts h.late)
+      (IsOldOrSaved h.saved h.parts h.late values s) (λ left state. inl state)
+      (these_leave shows kept sound moment left_since only_now earlier first old new len closed
+      events h.saved h.parts h.late held (h, refl, refl, refl) opened may.holds.1 stays)
+
   pub writing_finds : (first : Origin) (old new : JournalFile F) (len : ℕ) (closed : Bool)
       (events : List Event) (s : SnapshotParts) (held : List Place) (parts : List BlockPart)
       (same : ℕ) → May first old len closed events s held parts same → closed ≡ false
@@ -158,6 +186,36 @@ module _ {F : Type 0} (shows : F → List ℕ → Option (List ℕ) → Type 0)
   writing_finds first old new len closed events s held parts same may opened stays =
       swept_finds shows kept sound moment left_since only_now earlier first old new len closed
       events held parts (names_at held) may.holds opened refl stays
+
+  -- and then, while the journal begins with what is saved
+  pub saving_leaves : (first : Origin) (old : JournalFile F) (mid new : F) (len : ℕ) (closed : Bool)
+      (events : List Event) (s : SnapshotParts) (held : List Place) (parts : List BlockPart)
+      (same : ℕ) (values meant : Values) (places : List Place) (made : List BlockPart)
+      (saved : Saved) (may : May first old len closed events s held parts same)
+      → closed ≡ false → Stays (names_at held) old.folder mid
+      → AreLike s.blocks made → MayStand (started saved made) → meant ≡ values
+      → saved ≡ save meant s places
+      → LeavesOnly moment left_since mid new
+      (IsEither may.holds.0.saved may.holds.0.parts may.holds.0.late saved made)
+      → LeavesOnly moment left_since old.folder new
+      (IsOldOrSaved may.holds.0.saved may.holds.0.parts may.holds.0.late values s)
+  saving_leaves first old mid new len closed events s held parts same values meant places made saved
+      may opened stays like stands means is leaves =
+      let h = may.holds.0 in
+      let named : saved ≡ save values s places = is ∙ ap (λ (v : Values). save v s places) means in
+      joined_calls moment left_since old.folder mid new
+      (IsOldOrSaved h.saved h.parts h.late values s)
+      (writing_leaves first old mid len closed events s held parts same values may opened stays)
+      (weaker moment left_since mid new (IsEither h.saved h.parts h.late saved made)
+      (IsOldOrSaved h.saved h.parts h.late values s)
+      (λ left x. ⊎_elim (λ state. inl state)
+      (λ state. inr (
+        places,
+        made,
+        like,
+        subst (λ (y : Saved). IsState y made [] left) named state,
+        subst (λ (y : Saved). MayStand (started y made)) named stands,
+      )) x) leaves)
 
   -- then the journal may begin with the snapshot
   pub may_roll : (first : Origin) (old new : JournalFile F) (len : ℕ) (closed : Bool)

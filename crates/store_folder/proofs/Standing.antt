@@ -1,9 +1,10 @@
 -- That a start makes a snapshot of what is saved of one.
 use Rattle.std.proofs.Common.{◌≡◌, ◌≤◌, ℤ, true, List, [], ◌∷◌, None, ap, length, map, sym}
-use Rattle.std.proofs.Common.{subst, ◌∙◌, refl, arith}
+use Rattle.std.proofs.Common.{subst, ◌∙◌, refl, arith, inl, inr, ℕ, Option, Some}
 use Rattle.std.specs.Prelude.{int_le}
 use Rattle.std.specs.FinMap.Entries.{find}
 use Rattle.block_folder.specs.declared.values.Values.{Values}
+use Rattle.data_folder.specs.Folders.{Left}
 use Rattle.head.specs.Heads.{AreBelow, BlockPart, EndBy, HeadSeries, IsSoundSnapshot}
 use Rattle.head.specs.Heads.{SnapshotParts}
 use Rattle.head.specs.Limits.{max_series}
@@ -13,7 +14,9 @@ use Rattle.labels.specs.Contents.{Content}
 use Rattle.labels.specs.Labels.{Point, point_cmp}
 use Rattle.labels.specs.Parts.{Part, laid_over, over, rows_in}
 use Rattle.labels.specs.Rows.{points_of}
-use Rattle.store_folder.specs.States.{started}
+use Rattle.store_folder.specs.Starting.{IsNoneOrNothing, nothing_with}
+use Rattle.store_folder.specs.States.{MayStart, started}
+use Rattle.store_folder.specs.StoreLaws.{may_start}
 use Rattle.store_folder.specs.Writing.{AreLike}
 use Rattle.store_folder.proofs.Saves.{length_like}
 
@@ -80,3 +83,31 @@ pub same_stand : (blocks : List BlockPart) (a b : Saved) → a ≡ b
     → (made : List BlockPart) → AreLike blocks made → MayStand (started b made)
 same_stand blocks a b same h made like =
     subst (λ (x : Saved). MayStand (started x made)) same (h made like)
+
+-- a store that has nothing
+
+pub nothing_stands : (values : Values) → MayStand (started (nothing_with values) [])
+nothing_stands values = record {
+  sound = record {
+    few = omega arith;
+    time = refl;
+    ends = tt;
+    head = tt;
+    blocks = record { none = λ label t above. refl };
+  };
+  few = omega arith;
+}
+
+abbrev some : List ℕ → Option (List ℕ)
+some bytes = Some bytes
+
+not_some : (bytes : List ℕ) → None ≡ some bytes → ⊥
+not_some bytes e = cc
+
+-- what is left has no journal, or is such a store: a start finds none, or takes it
+pub nothing_starts : (values : Values) (left : Left) → IsNoneOrNothing values left → MayStart left
+nothing_starts values left (inl none) =
+    λ fits saved parts events state. absurd
+    (not_some state.kept.journal.0 (sym none ∙ state.kept.journal.1))
+nothing_starts values left (inr state) =
+    may_start (nothing_with values) [] [] left state (nothing_stands values)

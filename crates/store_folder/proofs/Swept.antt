@@ -8,23 +8,23 @@ use Rattle.std.specs.Str.{bytes_eq}
 use Rattle.std.proofs.lemmas.List.{append-nil, map-append}
 use Rattle.std.proofs.lemmas.Slice.Eq.{bytes_eq-Decides}
 use Rattle.data_folder.specs.declared.journal_file.JournalFile.{JournalFile}
-use Rattle.data_folder.specs.Folders.{HasFile, Left, MayLeaveOf}
-use Rattle.data_folder.specs.States.{AreThere, HasStore, Named}
+use Rattle.data_folder.specs.Folders.{HasFile, Left, LeavesOnly, MayLeaveOf}
+use Rattle.data_folder.specs.States.{AreThere, Named}
 use Rattle.data_folder.specs.Sweeping.{AreAmong, KeepsStore, is_among, names_in}
 use Rattle.data_folder.proofs.Moments.{weaker}
 use Rattle.head.specs.Heads.{BlockPart}
 use Rattle.head.specs.Worlds.{Event}
-use Rattle.head_record.specs.Saved.{Place}
+use Rattle.head_record.specs.Saved.{Place, Saved}
 use Rattle.head_record.specs.Spelling.{head_texts}
 use Rattle.store_folder.specs.Blocks.{BlockFiles, name_in, named_files}
-use Rattle.store_folder.specs.Holding.{AreAt, HoldsAfterHead, HoldsAt}
+use Rattle.store_folder.specs.Holding.{AreAt, HoldsAfterHead, HoldsAt, HoldsThese}
 use Rattle.store_folder.specs.Origins.{Origin}
 use Rattle.store_folder.specs.Starting.{StartFinds}
-use Rattle.store_folder.specs.KeeperLaws.{stands_for}
-use Rattle.store_folder.specs.States.{StandsFor}
+use Rattle.store_folder.specs.KeeperLaws.{state_stands}
+use Rattle.store_folder.specs.States.{IsState, StandsFor}
 use Rattle.store_folder.specs.Sweeps.{names_at, names_of}
 use Rattle.store_folder.proofs.Rolls.{after_head, files_at, joined, keeps_now, lie_at, parted}
-use Rattle.store_folder.proofs.Rolls.{there_at}
+use Rattle.store_folder.proofs.Rolls.{of_these, there_at}
 
 -- names among names
 
@@ -186,18 +186,18 @@ module _ {F : Type 0} (shows : F → List ℕ → Option (List ℕ) → Type 0)
   abbrev Sweeps : List (List ℕ) → F → F → Type 0
   Sweeps names old new = KeepsStore shows kept sound moment left_since names old new
 
-  pub holds_swept : (first : Origin) (old new : JournalFile F) (len : ℕ) (closed : Bool)
-      (events : List Event) (places : List Place) (parts : List BlockPart)
+  pub these_swept : (first : Origin) (old new : JournalFile F) (len : ℕ) (closed : Bool)
+      (events : List Event) (saved : Saved) (parts : List BlockPart) (late : List Event)
       (names : List (List ℕ))
-      → HoldsAt shows kept sound moment left_since first old len closed events places parts
-      → closed ≡ false → new.names ≡ old.names → names ≡ names_at places
+      → HoldsThese shows kept sound moment left_since first old len closed events saved parts late
+      → closed ≡ false → new.names ≡ old.names → names ≡ names_at saved.places
       → Sweeps names old.folder new.folder
-      → HoldsAt shows kept sound moment left_since first new len closed events places parts
-  holds_swept first old new len closed events places parts names at opened same is k =
-      let h : HoldsAll first old len closed events = at.0 in
+      → HoldsThese shows kept sound moment left_since first new len closed events saved parts late
+  these_swept first old new len closed events saved parts late names t opened same is k =
+      let h : HoldsAll first old len closed events = t.0 in
       let swept : Sweeps (names_at h.saved.places) old.folder new.folder =
       subst (λ (x : List (List ℕ)). Sweeps x old.folder new.folder)
-      (is ∙ ap names_at (sym at.1)) k in (
+      (is ∙ ap (λ (x : Saved). names_at x.places) (sym t.1)) k in (
         after_head shows kept sound moment left_since only_now earlier first new len closed h.saved
             h.parts events h.early h.late h.journal.contents h.journal.after h.all h.head
             h.journal.spell (same ∙ h.journal.named opened) h.begins
@@ -208,24 +208,64 @@ module _ {F : Type 0} (shows : F → List ℕ → Option (List ℕ) → Type 0)
             (swept.files (files_at shows kept h.saved.places h.parts old.folder h.blocks)
             (among_at shows kept h.saved.places h.parts old.folder h.blocks)
             (there_at shows kept h.saved.places h.parts old.folder h.blocks))),
-        at.1,
-        at.2,
+        t.1,
+        t.2,
+        t.3,
       )
 
-  left_so : (first : Origin) (old : JournalFile F) (len : ℕ) (closed : Bool)
-      (events : List Event) (h : HoldsAll first old len closed events) (left : Left)
-      → HasStore (files_at shows kept h.saved.places h.parts old.folder h.blocks)
-      (head_texts h.saved ++ h.journal.contents) left → StandsFor first events left
-  left_so first old len closed events h left has =
-      stands_for first events h.early h.late h.saved h.parts left h.all h.head h.begins
-      (lie_at shows kept h.saved.places h.parts old.folder left h.blocks has.files)
-      (record {
-        contents = h.journal.contents;
-        names = h.journal.after;
-        spell = h.journal.spell;
-        journal = has.journal;
-      })
+  pub holds_swept : (first : Origin) (old new : JournalFile F) (len : ℕ) (closed : Bool)
+      (events : List Event) (places : List Place) (parts : List BlockPart)
+      (names : List (List ℕ))
+      → HoldsAt shows kept sound moment left_since first old len closed events places parts
+      → closed ≡ false → new.names ≡ old.names → names ≡ names_at places
+      → Sweeps names old.folder new.folder
+      → HoldsAt shows kept sound moment left_since first new len closed events places parts
+  holds_swept first old new len closed events places parts names at opened same is k =
+      let h : HoldsAll first old len closed events = at.0 in
+      let t = these_swept first old new len closed events h.saved h.parts h.late names
+      (h, refl, refl, refl) opened same (is ∙ ap names_at (sym at.1)) k in
+      (t.0, ap (λ (x : Saved). x.places) t.1 ∙ at.1, t.2 ∙ at.2)
 
+  -- what is left has the same head, its blocks and the events after it
+  pub swept_leaves : (first : Origin) (old : JournalFile F) (new : F) (len : ℕ) (closed : Bool)
+      (events : List Event) (h : HoldsAll first old len closed events) → closed ≡ false
+      → Sweeps (names_at h.saved.places) old.folder new
+      → LeavesOnly moment left_since old.folder new (IsState h.saved h.parts h.late)
+  swept_leaves first old new len closed events h opened swept =
+      weaker moment left_since old.folder new _ (IsState h.saved h.parts h.late)
+      (λ left has. record {
+        head = h.head;
+        kept = record {
+          contents = h.journal.contents;
+          names = h.journal.after;
+          spell = h.journal.spell;
+          journal = has.journal;
+        };
+        blocks = lie_at shows kept h.saved.places h.parts old.folder left h.blocks has.files;
+      })
+      (swept.any_moment (head_texts h.saved ++ h.journal.contents)
+      (files_at shows kept h.saved.places h.parts old.folder h.blocks) len
+      (keeps_now shows kept sound moment left_since only_now earlier first old len closed events h
+      opened)
+      (among_at shows kept h.saved.places h.parts old.folder h.blocks)
+      (there_at shows kept h.saved.places h.parts old.folder h.blocks))
+
+  pub these_leave : (first : Origin) (old : JournalFile F) (new : F) (len : ℕ) (closed : Bool)
+      (events : List Event) (saved : Saved) (parts : List BlockPart) (late : List Event)
+      (places : List Place)
+      → HoldsThese shows kept sound moment left_since first old len closed events saved parts late
+      → closed ≡ false → saved.places ≡ places → Sweeps (names_at places) old.folder new
+      → LeavesOnly moment left_since old.folder new (IsState saved parts late)
+  these_leave first old new len closed events saved parts late places t opened is k =
+      of_these shows kept sound moment left_since
+      (λ (x : Saved) (bs : List BlockPart) (es : List Event).
+      LeavesOnly moment left_since old.folder new (IsState x bs es)) first old len closed events
+      saved parts late t
+      (swept_leaves first old new len closed events t.0 opened
+      (subst (λ (ps : List Place). Sweeps (names_at ps) old.folder new)
+      (sym (ap (λ (x : Saved). x.places) t.1 ∙ is)) k))
+
+  -- so a start finds the same events
   pub swept_finds : (first : Origin) (old new : JournalFile F) (len : ℕ) (closed : Bool)
       (events : List Event) (places : List Place) (parts : List BlockPart)
       (names : List (List ℕ))
@@ -237,11 +277,7 @@ module _ {F : Type 0} (shows : F → List ℕ → Option (List ℕ) → Type 0)
       let swept : Sweeps (names_at h.saved.places) old.folder new.folder =
       subst (λ (x : List (List ℕ)). Sweeps x old.folder new.folder)
       (is ∙ ap names_at (sym at.1)) k in
-      weaker moment left_since old.folder new.folder _ (StandsFor first events)
-      (λ left has. left_so first old len closed events h left has)
-      (swept.any_moment (head_texts h.saved ++ h.journal.contents)
-      (files_at shows kept h.saved.places h.parts old.folder h.blocks) len
-      (keeps_now shows kept sound moment left_since only_now earlier first old len closed events h
-      opened)
-      (among_at shows kept h.saved.places h.parts old.folder h.blocks)
-      (there_at shows kept h.saved.places h.parts old.folder h.blocks))
+      weaker moment left_since old.folder new.folder (IsState h.saved h.parts h.late)
+      (StandsFor first events)
+      (λ left s. state_stands first events h.early h.late h.saved h.parts left h.all h.begins s)
+      (swept_leaves first old new.folder len closed events h opened swept)

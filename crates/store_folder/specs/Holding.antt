@@ -89,6 +89,14 @@ HoldsAt shows kept sound moment left_since first m len closed events places part
     (h : HoldsAfterHead shows kept sound moment left_since first m len closed events)
     × (h.saved.places ≡ places) × (h.parts ≡ parts)
 
+-- the same, and these are the head, its blocks, and the events after the head
+abbrev pub HoldsThese : {F : Type 0} → (F → List ℕ → Option (List ℕ) → Type 0)
+    → (F → List ℕ → ℕ → Type 0) → (F → Bool) → (F → ℕ) → (F → ℕ → Left → Type 0) → Origin
+    → JournalFile F → ℕ → Bool → List Event → Saved → List BlockPart → List Event → Type 0
+HoldsThese shows kept sound moment left_since first m len closed events saved parts late =
+    (h : HoldsAfterHead shows kept sound moment left_since first m len closed events)
+    × (h.saved ≡ saved) × (h.parts ≡ parts) × (h.late ≡ late)
+
 -- The journal was lost on the way to a new head: nothing more is taken, and a crash leaves what
 -- stands for these events.
 pub record IsLost {F : Type 0} (moment : F → ℕ) (left_since : F → ℕ → Left → Type 0)

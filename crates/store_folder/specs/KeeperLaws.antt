@@ -18,7 +18,8 @@ use Rattle.store_folder.specs.Holding.{BytesSince, BytesStandFor, HoldsAfterHead
 use Rattle.store_folder.specs.Holding.{HoldsStore, StandsForMore}
 use Rattle.store_folder.specs.Origins.{Origin}
 use Rattle.store_folder.specs.StoreLaws.{blocks_left, found_here, later}
-use Rattle.store_folder.specs.States.{HasKept, IsAfter, LieAt, StandsFor, StartsWith, started}
+use Rattle.store_folder.specs.States.{HasKept, IsAfter, IsState, LieAt, StandsFor, StartsWith}
+use Rattle.store_folder.specs.States.{started}
 
 -- a file of no bytes has no records
 no_file : {X : Type 0} (contents : List (List ℕ)) → Recovers [] contents → X
@@ -59,6 +60,14 @@ stands_for first events early late saved parts left all head begins lie kept = r
   begins = begins;
   state = record { head = head; kept = kept; blocks = lie };
 }
+
+-- so is a state that is left
+pub state_stands : (first : Origin) (events early late : List Event) (saved : Saved)
+    (parts : List BlockPart) (left : Left) → events ≡ early ++ late
+    → IsAfter first early saved parts → IsState saved parts late left → StandsFor first events left
+state_stands first events early late saved parts left all begins state =
+    stands_for first events early late saved parts left all state.head begins state.blocks
+    state.kept
 
 -- the early events, those after the head, and more
 pub regrouped : (events early late more : List Event) → events ≡ early ++ late
@@ -109,12 +118,13 @@ module _ {F : Type 0} (shows : F → List ℕ → Option (List ℕ) → Type 0)
             (has_journal left (head_texts h.saved) (h.late ++ s.0) s.1),
       )
 
-  -- exactly that while it is open
-  pub settled_after_head : (first : Origin) (m : JournalFile F) (len : ℕ) (closed : Bool)
+  -- exactly that while it is open: the head, its blocks and the events after it
+  pub settled_state : (first : Origin) (m : JournalFile F) (len : ℕ) (closed : Bool)
       (events : List Event) (left : Left)
-      → HoldsAfterHead shows kept sound moment left_since first m len closed events
-      → closed ≡ false → left_since m.folder (moment m.folder) left → StandsFor first events left
-  settled_after_head first m len closed events left h opened had =
+      (h : HoldsAfterHead shows kept sound moment left_since first m len closed events)
+      → closed ≡ false → left_since m.folder (moment m.folder) left
+      → IsState h.saved h.parts h.late left
+  settled_state first m len closed events left h opened had =
       let bytes = bytes_in (left journal_name) in
       let contents = head_texts h.saved ++ h.journal.contents in
       let k = h.journal.keeps opened in
@@ -122,16 +132,26 @@ module _ {F : Type 0} (shows : F → List ℕ → Option (List ℕ) → Type 0)
       (left journal_name) refl
       (only_now m.folder journal_name (Some (file_of contents)) (length (file_of contents)) left
       k.has.all k.has.durable had) in
-      stands_for first events h.early h.late h.saved h.parts left h.all h.head h.begins
-      (blocks_left shows kept h.saved.places h.parts m.folder left h.blocks
-      (λ n x k away shown durable. only_now m.folder n x k left shown durable had))
-      (has_journal left (head_texts h.saved) h.late (record {
-        before = h.journal.before;
-        contents = h.journal.contents;
-        names = h.journal.after;
-        spell = h.journal.spell;
-        recovers = at_rest contents bytes k.each front;
-      }))
+      record {
+        head = h.head;
+        kept = has_journal left (head_texts h.saved) h.late (record {
+          before = h.journal.before;
+          contents = h.journal.contents;
+          names = h.journal.after;
+          spell = h.journal.spell;
+          recovers = at_rest contents bytes k.each front;
+        });
+        blocks = blocks_left shows kept h.saved.places h.parts m.folder left h.blocks
+            (λ n x k away shown durable. only_now m.folder n x k left shown durable had);
+      }
+
+  pub settled_after_head : (first : Origin) (m : JournalFile F) (len : ℕ) (closed : Bool)
+      (events : List Event) (left : Left)
+      → HoldsAfterHead shows kept sound moment left_since first m len closed events
+      → closed ≡ false → left_since m.folder (moment m.folder) left → StandsFor first events left
+  settled_after_head first m len closed events left h opened had =
+      state_stands first events h.early h.late h.saved h.parts left h.all h.begins
+      (settled_state first m len closed events left h opened had)
 
   -- whatever blocks it names
   pub as_store : (first : Origin) (m : JournalFile F) (len : ℕ) (closed : Bool)

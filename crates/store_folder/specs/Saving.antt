@@ -1,13 +1,16 @@
 -- When a snapshot is saved in the place of the events that made it.
-use Rattle.std.specs.Prelude.{◌≡◌, ◌<◌, ◌≤◌, ◌⊎◌, ℕ, Bool, List, Option, Ok, length, take}
+use Rattle.std.specs.Prelude.{◌≡◌, ◌<◌, ◌≤◌, ◌⊎◌, ℕ, Bool, List, [], Option, Ok, length, take}
 use Rattle.std.specs.List.{AllByRecursion}
+use Rattle.block_folder.specs.declared.values.Values.{Values}
 use Rattle.data_folder.specs.declared.journal_file.JournalFile.{JournalFile}
 use Rattle.data_folder.specs.Folders.{Left}
 use Rattle.head.specs.Heads.{BlockPart, SnapshotParts, world_of}
+use Rattle.head.specs.Resuming.{MayStand}
 use Rattle.head.specs.Worlds.{Event, replayed}
-use Rattle.head_record.specs.Saved.{Place}
+use Rattle.head_record.specs.Saved.{Place, Saved, save}
 use Rattle.store_folder.specs.Holding.{HoldsAt}
 use Rattle.store_folder.specs.Origins.{Origin}
+use Rattle.store_folder.specs.States.{IsState, started}
 use Rattle.store_folder.specs.Writing.{AreLike}
 
 -- The events are held, after a head that names blocks at these places; the snapshot has the world
@@ -30,3 +33,14 @@ IsAbove n places =
 -- the folders of these places have lower numbers
 abbrev pub AreBelow : ℕ → List Place → Type 0
 AreBelow n places = AllByRecursion (λ (p : Place). p.0 < n) places
+
+-- what is left is the store of this head, these blocks and these events after the head; or what is
+-- saved of the snapshot, with blocks like its own at some places, and no events: a start makes a
+-- snapshot of it
+abbrev pub IsOldOrSaved : Saved → List BlockPart → List Event → Values → SnapshotParts → Left
+    → Type 0
+IsOldOrSaved saved parts events values s left =
+    IsState saved parts events left
+    ⊎ ((places : List Place) × (made : List BlockPart) × AreLike s.blocks made
+    × IsState (save values s places) made [] left
+    × MayStand (started (save values s places) made))

@@ -1,11 +1,12 @@
 -- When what lies in a folder is a store.
-use Rattle.std.specs.Prelude.{◌≡◌, ℕ, List, [], ◌∷◌, ◌++◌, Ok, Some}
+use Rattle.std.specs.Prelude.{◌≡◌, ◌⊎◌, ℕ, List, [], ◌∷◌, ◌++◌, Ok, Some}
 use Rattle.wire.specs.Spelling.{IsBytes}
 use Rattle.block_folder.specs.declared.values.Values.{Values}
 use Rattle.data_folder.specs.Folders.{Left}
 use Rattle.data_folder.specs.States.{HasFiles, HasJournal}
 use Rattle.event_journal.specs.Naming.{Spell}
 use Rattle.head.specs.Heads.{BlockPart, SnapshotParts, world_of}
+use Rattle.head.specs.Resuming.{MayStand}
 use Rattle.head.specs.Worlds.{Event, World, replayed}
 use Rattle.head_record.specs.Saved.{Place, Saved}
 use Rattle.head_record.specs.Spelling.{head_texts, IsSaved}
@@ -96,3 +97,15 @@ abbrev pub Means : Values → Left → Type 0
 Means values left =
     AreBytes left → (saved : Saved) (parts : List BlockPart) (events : List Event)
     → IsState saved parts events left → saved.values ≡ values
+
+-- if these are files of bytes and a store, a start makes a snapshot of its head and its blocks
+abbrev pub MayStart : Left → Type 0
+MayStart left =
+    AreBytes left → (saved : Saved) (parts : List BlockPart) (events : List Event)
+    → IsState saved parts events left → MayStand (started saved parts)
+
+-- what is left is the store of this head, these blocks and these events after the head; or that of
+-- another head and its blocks, and no events
+abbrev pub IsEither : Saved → List BlockPart → List Event → Saved → List BlockPart → Left → Type 0
+IsEither saved parts events next blocks left =
+    IsState saved parts events left ⊎ IsState next blocks [] left

@@ -1,7 +1,7 @@
 -- What a start finds of a store.
 use Rattle.std.specs.Prelude.{◌≡◌, ◌≢◌, ◌+◌, ℕ, ℤ, List, [], ◌∷◌, ◌++◌, Option, Some, Result, Ok}
 use Rattle.std.specs.Prelude.{Err, codes, decimal, length, refl}
-use Rattle.std.proofs.Common.{get_or, sym, ap, subst, ◌∙◌, arith}
+use Rattle.std.proofs.Common.{get_or, sym, ap, subst, subst₂, ◌∙◌, arith}
 use Rattle.std.specs.List.{AllByRecursion}
 use Rattle.std.proofs.lemmas.List.{append-nil, take_all}
 use Rattle.wire.specs.Spelling.{IsBytes}
@@ -16,6 +16,7 @@ use Rattle.event_journal.specs.FindingLaws.{one_list}
 use Rattle.event_journal.specs.Holding.{Stands}
 use Rattle.head.specs.Heads.{BlockPart, world_of}
 use Rattle.head.specs.Refusals.{Refusal}
+use Rattle.head.specs.Resuming.{MayStand}
 use Rattle.head.specs.Worlds.{Event, World, replayed, replayed_from, stepped}
 use Rattle.head_record.specs.declared.error.RefusedHead.{RefusedHead}
 use Rattle.head_record.specs.Reading.{head_of}
@@ -27,8 +28,8 @@ use Rattle.labels.specs.Parts.{Part}
 use Rattle.store_folder.specs.Blocks.{BlockFiles, SpellBlock, named_files}
 use Rattle.store_folder.specs.Holding.{AreAt}
 use Rattle.store_folder.specs.Origins.{Origin}
-use Rattle.store_folder.specs.States.{AreBytes, HasWorld, IsState, LieAt, Means, StandsFor}
-use Rattle.store_folder.specs.States.{StartsWith, started}
+use Rattle.store_folder.specs.States.{AreBytes, HasWorld, IsState, LieAt, MayStart, Means}
+use Rattle.store_folder.specs.States.{StandsFor, StartsWith, started}
 
 abbrev some : List ℕ → Option (List ℕ)
 some x = Some x
@@ -96,7 +97,7 @@ same_files p f g left h i =
     ∙ (ap (λ (x : List ℕ). files_with g.meta g.index x f.tombstones) chunks
     ∙ ap (files_with g.meta g.index g.chunks) tombstones))
 
-same_parts : (places : List Place) (a b : List BlockPart) (left : Left) → AreBytes left
+pub same_parts : (places : List Place) (a b : List BlockPart) (left : Left) → AreBytes left
     → LieAt places a left → LieAt places b left → a ≡ b
 same_parts [] [] [] left fits h i = refl
 same_parts [] [] (y ∷ b) left fits h i = absurd i
@@ -226,8 +227,8 @@ one_world left v w one two =
     ∙ found_here first w one.1.0 one.1.1 [] one.1.2 left refl one.1.3 two)
 
 -- what is left has one head
-pub one_saved : (a b : Saved) (parts others : List BlockPart) (early late : List Event) (left : Left)
-    → AreBytes left → IsState a parts early left → IsState b others late left → b ≡ a
+pub one_saved : (a b : Saved) (parts others : List BlockPart) (early late : List Event)
+    (left : Left) → AreBytes left → IsState a parts early left → IsState b others late left → b ≡ a
 one_saved a b parts others early late left fits one two =
     let bytes = one.kept.journal.0 in
     let file = two.kept.journal.0 in
@@ -250,6 +251,22 @@ one_saved a b parts others early late left fits one two =
     let front = one_list bytes (head_texts a) (head_texts b) early late
     (fits journal_name bytes one.kept.journal.1) here again in
     sym (one_head a b one.head two.head front.0)
+
+-- and one list of blocks
+one_parts : (a b : Saved) (parts others : List BlockPart) (early late : List Event) (left : Left)
+    → AreBytes left → IsState a parts early left → IsState b others late left → others ≡ parts
+one_parts a b parts others early late left fits one two =
+    let same = one_saved a b parts others early late left fits one two in
+    same_parts a.places others parts left fits
+    (subst (λ (x : Saved). LieAt x.places others left) same two.blocks) one.blocks
+
+-- so a start takes it, if it takes this head and these blocks
+pub may_start : (saved : Saved) (parts : List BlockPart) (events : List Event) (left : Left)
+    → IsState saved parts events left → MayStand (started saved parts) → MayStart left
+may_start saved parts events left state may fits other others late found =
+    subst₂ (λ (x : Saved) (ps : List BlockPart). MayStand (started x ps))
+    (sym (one_saved saved other parts others events late left fits state found))
+    (sym (one_parts saved other parts others events late left fits state found)) may
 
 -- so the values mean what they meant from the first
 pub one_meaning : (first : Origin) (events : List Event) (left : Left)

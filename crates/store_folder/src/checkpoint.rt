@@ -2,6 +2,7 @@
 
 ghost use Rattle.std.specs.Prelude.{◌≡◌, ◌≤◌, ◌⊎◌, ℕ, List, Ok, [], false, true, length, map, take};
 ghost use Rattle.std.specs.Prelude.{◌-◌, ◌++◌, Err, IfErr, IfOk, OnErr, OnOk};
+ghost use Rattle.data_folder.specs.Folders.{LeavesOnly};
 ghost use Rattle.data_folder.specs.Sweeping.{KeepsForeign};
 ghost use Rattle.event_journal.specs.Holding.{contents_with};
 ghost use Rattle.head.specs.Blocks.{part_in};
@@ -11,9 +12,9 @@ ghost use Rattle.head.specs.Worlds.{Event as Change, replayed};
 ghost use Rattle.head_record.specs.Saved.{save};
 ghost use Rattle.head_record.specs.Spelling.{head_texts};
 ghost use Rattle.journal.specs.Records.{file_of};
-ghost use Rattle.store_folder.specs.Holding.{HoldsOrLost};
+ghost use Rattle.store_folder.specs.Holding.{HoldsLike, HoldsOrLost};
 ghost use Rattle.store_folder.specs.Rolls.{HasHeadAlone};
-ghost use Rattle.store_folder.specs.Saving.{AreBelow, IsAbove};
+ghost use Rattle.store_folder.specs.Saving.{AreBelow, IsAbove, IsOldOrSaved};
 ghost use Rattle.store_folder.specs.Starting.{StartFinds};
 ghost use Rattle.store_folder.specs.States.{started};
 ghost use Rattle.store_folder.specs.Writing.{AreLike, EachSays, places_from};
@@ -137,6 +138,17 @@ impl<N: Beginning, F: Folder + Drop> StoreKeeper<N, F> {
             → self.old.store.events.journal.closed ≡ false
             → StartFinds F.moment F.left_since self.old.store.events.journal.medium.folder
             self.new.store.events.journal.medium.folder N.first events }
+        // It leaves the store as it was, or what is saved of the snapshot, and no events.
+        ensures leaves { (events : List Change)
+            → (h : HoldsLike F.shows F.kept F.sound F.moment F.left_since N.first
+            self.old.store.events.journal.medium self.old.store.events.journal.len
+            self.old.store.events.journal.closed events self.old.places.items
+            (map part_in self.old.blocks.items))
+            → replayed N.first.world events ≡ Ok (world_of snapshot.now)
+            → self.old.store.events.journal.closed ≡ false
+            → LeavesOnly F.moment F.left_since self.old.store.events.journal.medium.folder
+            self.new.store.events.journal.medium.folder
+            (IsOldOrSaved h.0.saved h.0.parts h.0.late N.first.values snapshot.now) }
         ensures closed { self.old.store.events.journal.closed ≡ true
             → (result ≡ Err (RollFault.Folder RollError.Closed)) × (self.new ≡ self.old) }
         ensures terms { self.new.terms.most ≡ self.old.terms.most }

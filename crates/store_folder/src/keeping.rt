@@ -38,10 +38,11 @@ impl<N: Beginning, F: Folder + Drop> Keeper for StoreKeeper<N, F> {
 
     type Settled = Settled;
 
-    ghost use Rattle.data_folder.specs.Folders.{Left as Files};
+    ghost use Rattle.data_folder.specs.Folders.{Left as Files, LeavesOnly};
     ghost use Rattle.data_folder.specs.JournalLaws.{StaysBeside};
     ghost use Rattle.data_folder.specs.Sweeping.{KeepsForeign};
-    ghost use Rattle.store_folder.specs.Holding.{BytesSince, BytesStandFor, HoldsOrLost, LastLike};
+    ghost use Rattle.store_folder.specs.Holding.{BytesSince, BytesStandFor, HoldsLike, HoldsOrLost};
+    ghost use Rattle.store_folder.specs.Holding.{LastLike};
     ghost use Rattle.std.specs.Prelude.{◌≡◌, ◌⊎◌, ◌<◌, ◌^◌, ◌++◌, List, [], true, false};
     ghost use Rattle.std.specs.Prelude.{Err, IfOk, IfSome, IsErrOf, None, Ok, OnErr, OnOk, OnSome};
     ghost use Rattle.std.specs.Prelude.{length, map};
@@ -56,6 +57,7 @@ impl<N: Beginning, F: Folder + Drop> Keeper for StoreKeeper<N, F> {
     ghost use Rattle.keeper.specs.Finding.{AreAll, AreAllAndSome, IsOfAll, LeavesEvents};
     ghost use Rattle.keeper.specs.Together.{SpellTogether};
     ghost use Rattle.store_folder.specs.Rolls.{HasHeadAlone};
+    ghost use Rattle.store_folder.specs.Saving.{IsOldOrSaved};
     ghost use Rattle.store_folder.specs.Terms.{are_met};
     ghost use Rattle.event_journal.specs.KeeperLaws.{not_idle};
     ghost use Rattle.store_folder.specs.KeeperLaws.{as_store, finds_no_other, finds_world};
@@ -209,6 +211,17 @@ impl<N: Beginning, F: Folder + Drop> Keeper for StoreKeeper<N, F> {
             → LeavesEvents ⟦<StoreKeeper<N, F> as Keeper>⟧.moment
             ⟦<StoreKeeper<N, F> as Keeper>⟧.left_since
             ⟦<StoreKeeper<N, F> as Keeper>⟧.stands self.old self.new (AreAll events) }
+        // A crash leaves the store as it was, or what is saved of the snapshot, and no events.
+        ensures leaves { (events : List Change)
+            → (h : HoldsLike F.shows F.kept F.sound F.moment F.left_since N.first
+            self.old.store.events.journal.medium self.old.store.events.journal.len
+            self.old.store.events.journal.closed events self.old.places.items
+            (map part_in self.old.blocks.items))
+            → IsOfAll N.first.world events (world_of snapshot.now)
+            → self.old.store.events.journal.closed ≡ false
+            → LeavesOnly F.moment F.left_since self.old.store.events.journal.medium.folder
+            self.new.store.events.journal.medium.folder
+            (IsOldOrSaved h.0.saved h.0.parts h.0.late N.first.values snapshot.now) }
         ensures rests { are_met self.old.terms self.old.store.events.journal.len
             (length snapshot.now.blocks) ≡ false
             → (result ≡ Ok None) × (self.new ≡ self.old) }

@@ -3,11 +3,13 @@
 ghost use Rattle.std.specs.Prelude.{◌≡◌, List, Ok};
 ghost use Rattle.data_folder.specs.Folders.{Left};
 ghost use Rattle.head.specs.Heads.{BlockPart, SnapshotParts, world_of};
+ghost use Rattle.head.specs.Resuming.{MayStand};
 ghost use Rattle.head.specs.Worlds.{Event as Change, World, replayed};
 ghost use Rattle.head_record.specs.Saved.{Saved};
 ghost use Rattle.store_folder.specs.Origins.{Origin};
 ghost use Rattle.store_folder.specs.Rewriting.{HaveSame};
-ghost use Rattle.store_folder.specs.States.{Means, StandsFor, started, StartsWith};
+ghost use Rattle.store_folder.specs.States.{IsState, MayStart, Means, StandsFor, started};
+ghost use Rattle.store_folder.specs.States.{StartsWith};
 
 /// What is left of a folder is the store of one world.
 pub fn one_world()
@@ -18,6 +20,13 @@ pub fn one_world()
 pub fn one_meaning()
     ensures { (first : Origin) (events : List Change) (left : Left)
         → StandsFor first events left → Means first.values left }
+{}
+
+/// A start makes a snapshot of what is left of a store, if the store's head and its blocks may be
+/// one.
+pub fn may_start()
+    ensures { (saved : Saved) (parts : List BlockPart) (events : List Change) (left : Left)
+        → IsState saved parts events left → MayStand (started saved parts) → MayStart left }
 {}
 
 /// Blocks that were written anew by their rows make the same world, so a journal may begin with

@@ -50,7 +50,7 @@ pub use heads::head_journal;
 pub use journals::{FoundJournal, read_journal};
 pub use keeping::{LastKept, Settled, StoreKeeper};
 pub use kinds::has_cut;
-pub use laws::{one_meaning, one_world, rewritten_blocks};
+pub use laws::{may_start, one_meaning, one_world, rewritten_blocks};
 pub use litter::{has_blocks, sweep_apart};
 pub use meaning::Meaning;
 pub use plain::{begins_plain, read_plain};

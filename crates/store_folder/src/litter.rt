@@ -3,11 +3,16 @@
 ghost use Rattle.std.specs.Prelude.{◌≡◌, List, false, true};
 ghost use Rattle.std.specs.Char.{is_ascii_digit};
 ghost use Rattle.std.specs.List.{list_all};
+ghost use Rattle.block_folder.specs.declared.values.Values.{Values};
+ghost use Rattle.data_folder.specs.Folders.{LeavesOnly};
 ghost use Rattle.data_folder.specs.Sweeping.{KeepsForeign};
-ghost use Rattle.head.specs.Heads.{BlockPart};
+ghost use Rattle.head.specs.Heads.{BlockPart, SnapshotParts};
 ghost use Rattle.head.specs.Worlds.{Event as Change};
-ghost use Rattle.store_folder.specs.Holding.{HoldsAt, HoldsStore};
+ghost use Rattle.head_record.specs.Saved.{Saved};
+ghost use Rattle.store_folder.specs.Holding.{HoldsAt, HoldsStore, HoldsThese};
+ghost use Rattle.store_folder.specs.Saving.{IsOldOrSaved};
 ghost use Rattle.store_folder.specs.Starting.{StartFinds};
+ghost use Rattle.store_folder.specs.States.{IsState};
 
 use crate::error::BlockFault;
 use crate::store_journal::{Beginning, StoreJournal};
@@ -119,6 +124,15 @@ impl<N: Beginning, F: Folder + Drop> StoreJournal<N, F> {
             self.old.events.journal.closed events places.now parts
             → StartFinds F.moment F.left_since self.old.events.journal.medium.folder
             self.new.events.journal.medium.folder N.first events }
+        // It leaves the same head, with its blocks and the events after it.
+        ensures leaves { (events : List Change) (saved : Saved) (parts : List BlockPart)
+            (late : List Change)
+            → HoldsThese F.shows F.kept F.sound F.moment F.left_since N.first
+            self.old.events.journal.medium self.old.events.journal.len
+            self.old.events.journal.closed events saved parts late
+            → saved.places ≡ places.now
+            → LeavesOnly F.moment F.left_since self.old.events.journal.medium.folder
+            self.new.events.journal.medium.folder (IsState saved parts late) }
         // What is none of the store's stays, and so do the files of the blocks at these places.
         ensures foreign { KeepsForeign F.shows F.kept self.old.events.journal.medium.folder
             self.new.events.journal.medium.folder }
@@ -168,6 +182,18 @@ impl<N: Beginning, F: Folder + Drop> StoreJournal<N, F> {
             N.first events
             → StartFinds F.moment F.left_since before self.new.events.journal.medium.folder
             N.first events }
+        // What it leaves since a folder is so as before it.
+        ensures leaves { (events : List Change) (saved : Saved) (parts : List BlockPart)
+            (late : List Change) (values : Values) (s : SnapshotParts) (before : F)
+            → (self.old.events.journal.closed ≡ false
+            → HoldsThese F.shows F.kept F.sound F.moment F.left_since N.first
+            self.old.events.journal.medium self.old.events.journal.len
+            self.old.events.journal.closed events saved parts late)
+            → saved.places ≡ places.now
+            → LeavesOnly F.moment F.left_since before self.old.events.journal.medium.folder
+            (IsOldOrSaved saved parts late values s)
+            → LeavesOnly F.moment F.left_since before self.new.events.journal.medium.folder
+            (IsOldOrSaved saved parts late values s) }
         ensures foreign { KeepsForeign F.shows F.kept self.old.events.journal.medium.folder
             self.new.events.journal.medium.folder }
         ensures blocks { (files : List Named) → AreAmong (names_at places.now) files

@@ -2,17 +2,18 @@
 
 ghost use Rattle.std.specs.Prelude.{◌≡◌, ◌⊎◌, List, [], false, true, Err, IfErr, OnErr, OnOk};
 ghost use Rattle.std.specs.Prelude.{length};
-ghost use Rattle.data_folder.specs.Folders.{KeepsOthers};
+ghost use Rattle.data_folder.specs.Folders.{KeepsOthers, LeavesOnly};
 ghost use Rattle.data_folder.specs.JournalFile.{journal_name, next_name};
 ghost use Rattle.event_journal.specs.Holding.{contents_with};
 ghost use Rattle.head.specs.Heads.{BlockPart};
 ghost use Rattle.head.specs.Worlds.{Event as Change};
-ghost use Rattle.head_record.specs.Saved.{Place};
+ghost use Rattle.head_record.specs.Saved.{Saved};
 ghost use Rattle.head_record.specs.Spelling.{head_texts};
 ghost use Rattle.journal.specs.Records.{file_of};
-ghost use Rattle.store_folder.specs.Holding.{HoldsAt, HoldsStore};
+ghost use Rattle.store_folder.specs.Holding.{HoldsStore, HoldsThese};
 ghost use Rattle.store_folder.specs.Rolls.{HasHeadAlone, MayRoll};
 ghost use Rattle.store_folder.specs.Starting.{StartFinds};
+ghost use Rattle.store_folder.specs.States.{IsEither};
 
 use crate::error::RollFault;
 use crate::heads::head_journal;
@@ -39,24 +40,24 @@ impl<N: Beginning, F: Folder + Drop> StoreJournal<N, F> {
             → HoldsStore F.shows F.kept F.sound F.moment F.left_since N.first
             self.new.events.journal.medium self.new.events.journal.len
             self.new.events.journal.closed events }
-        // After `Ok` the head is the new one.
-        ensures places { OnOk result ((events : List Change) (parts : List BlockPart)
+        // After `Ok` the journal has the new head, and no events after it.
+        ensures alone { OnOk result ((events : List Change) (parts : List BlockPart)
             → MayRoll F.shows F.kept F.sound F.moment F.left_since N.first
             self.old.events.journal.medium self.old.events.journal.len
             self.old.events.journal.closed events head.now parts
-            → HoldsAt F.shows F.kept F.sound F.moment F.left_since N.first
+            → HoldsThese F.shows F.kept F.sound F.moment F.left_since N.first
             self.new.events.journal.medium self.new.events.journal.len
-            self.new.events.journal.closed events head.now.places parts) }
-        // Where it fails and goes on, the head is the one before.
-        ensures err { OnErr result ((events : List Change) (places : List Place)
-            (parts : List BlockPart)
-            → HoldsAt F.shows F.kept F.sound F.moment F.left_since N.first
+            self.new.events.journal.closed events head.now parts []) }
+        // Where it fails and goes on, the head is the one before, with the events after it.
+        ensures same { OnErr result ((events : List Change) (saved : Saved)
+            (parts : List BlockPart) (late : List Change)
+            → HoldsThese F.shows F.kept F.sound F.moment F.left_since N.first
             self.old.events.journal.medium self.old.events.journal.len
-            self.old.events.journal.closed events places parts
+            self.old.events.journal.closed events saved parts late
             → self.new.events.journal.closed ≡ false
-            → HoldsAt F.shows F.kept F.sound F.moment F.left_since N.first
+            → HoldsThese F.shows F.kept F.sound F.moment F.left_since N.first
             self.new.events.journal.medium self.new.events.journal.len
-            self.new.events.journal.closed events places parts) }
+            self.new.events.journal.closed events saved parts late) }
         // After a crash at any moment of the call, a start finds the world of these events.
         ensures any_moment { (events : List Change) (parts : List BlockPart)
             → MayRoll F.shows F.kept F.sound F.moment F.left_since N.first
@@ -65,6 +66,18 @@ impl<N: Beginning, F: Folder + Drop> StoreJournal<N, F> {
             → self.old.events.journal.closed ≡ false
             → StartFinds F.moment F.left_since self.old.events.journal.medium.folder
             self.new.events.journal.medium.folder N.first events }
+        // It leaves the store as it was, or the new head with its blocks and no events.
+        ensures leaves { (events : List Change) (saved : Saved) (parts blocks : List BlockPart)
+            (late : List Change)
+            → HoldsThese F.shows F.kept F.sound F.moment F.left_since N.first
+            self.old.events.journal.medium self.old.events.journal.len
+            self.old.events.journal.closed events saved parts late
+            → MayRoll F.shows F.kept F.sound F.moment F.left_since N.first
+            self.old.events.journal.medium self.old.events.journal.len
+            self.old.events.journal.closed events head.now blocks
+            → self.old.events.journal.closed ≡ false
+            → LeavesOnly F.moment F.left_since self.old.events.journal.medium.folder
+            self.new.events.journal.medium.folder (IsEither saved parts late head.now blocks) }
         ensures open { OnOk result (self.new.events.journal.closed ≡ false) }
         // Then it has the head and nothing more.
         ensures len { OnOk result (self.new.events.journal.len

@@ -2,6 +2,7 @@
 
 ghost use Rattle.std.specs.Prelude.{◌≡◌, ◌⊎◌, ◌≤◌, ◌-◌, ◌++◌, List, Err, false, true, drop, length};
 ghost use Rattle.std.specs.Prelude.{[], IfErr, IfOk, OnErr, OnOk, take};
+ghost use Rattle.data_folder.specs.Folders.{LeavesOnly};
 ghost use Rattle.data_folder.specs.States.{AreThere, Named};
 ghost use Rattle.data_folder.specs.Sweeping.{AreAmong, KeepsForeign, KeepsStore};
 ghost use Rattle.event_journal.specs.Holding.{contents_with};
@@ -11,9 +12,9 @@ ghost use Rattle.head.specs.Worlds.{Event as Change};
 ghost use Rattle.head_record.specs.Saved.{save};
 ghost use Rattle.head_record.specs.Spelling.{head_texts};
 ghost use Rattle.journal.specs.Records.{file_of};
-ghost use Rattle.store_folder.specs.Holding.{AreAt, HoldsAt, HoldsStore};
+ghost use Rattle.store_folder.specs.Holding.{AreAt, HoldsStore, HoldsThese};
 ghost use Rattle.store_folder.specs.Rolls.{HasHeadAlone};
-ghost use Rattle.store_folder.specs.Saving.{MaySave};
+ghost use Rattle.store_folder.specs.Saving.{IsOldOrSaved, MaySave};
 ghost use Rattle.store_folder.specs.Starting.{StartFinds};
 ghost use Rattle.store_folder.specs.States.{started};
 ghost use Rattle.store_folder.specs.Sweeps.{names_at};
@@ -122,27 +123,30 @@ impl<N: Beginning, F: Folder + Drop> StoreJournal<N, F> {
             → HoldsStore F.shows F.kept F.sound F.moment F.left_since N.first
             self.new.events.journal.medium self.new.events.journal.len
             self.new.events.journal.closed events }
-        // After `Ok` the head names blocks like the snapshot's at these places.
+        // After `Ok` the journal has what is saved of the snapshot, which names blocks like its own
+        // at these places, and no events.
         ensures places { IfOk result (λ places. (events : List Change) (parts : List BlockPart)
             → MaySave F.shows F.kept F.sound F.moment F.left_since N.first
             self.old.events.journal.medium self.old.events.journal.len
             self.old.events.journal.closed events snapshot.now held.now parts same
             → (made : List BlockPart) × AreLike snapshot.now.blocks made
-            × HoldsAt F.shows F.kept F.sound F.moment F.left_since N.first
+            × HoldsThese F.shows F.kept F.sound F.moment F.left_since N.first
             self.new.events.journal.medium self.new.events.journal.len
-            self.new.events.journal.closed events places.items made) }
+            self.new.events.journal.closed events
+            (save N.first.values snapshot.now places.items) made []) }
         // They are the first of those held, and folders of the numbers from the next one on.
         ensures numbers { IfOk result (λ places. places.items
             ≡ take same held.now ++ places_from next (length snapshot.now.blocks - same)) }
-        // Where it fails and goes on, the head is the one before.
-        ensures err { OnErr result ((events : List Change) (parts : List BlockPart)
-            → MaySave F.shows F.kept F.sound F.moment F.left_since N.first
+        // Where it fails and goes on, the head is the one before, with the events after it.
+        ensures same { OnErr result ((events : List Change) (parts : List BlockPart)
+            → (m : MaySave F.shows F.kept F.sound F.moment F.left_since N.first
             self.old.events.journal.medium self.old.events.journal.len
-            self.old.events.journal.closed events snapshot.now held.now parts same
+            self.old.events.journal.closed events snapshot.now held.now parts same)
             → self.new.events.journal.closed ≡ false
-            → HoldsAt F.shows F.kept F.sound F.moment F.left_since N.first
+            → HoldsThese F.shows F.kept F.sound F.moment F.left_since N.first
             self.new.events.journal.medium self.new.events.journal.len
-            self.new.events.journal.closed events held.now parts) }
+            self.new.events.journal.closed events
+            m.holds.0.saved m.holds.0.parts m.holds.0.late) }
         // After a crash at any moment of the call, a start finds the world of these events.
         ensures any_moment { (events : List Change) (parts : List BlockPart)
             → MaySave F.shows F.kept F.sound F.moment F.left_since N.first
@@ -151,6 +155,15 @@ impl<N: Beginning, F: Folder + Drop> StoreJournal<N, F> {
             → self.old.events.journal.closed ≡ false
             → StartFinds F.moment F.left_since self.old.events.journal.medium.folder
             self.new.events.journal.medium.folder N.first events }
+        // It leaves the store as it was, or what is saved of the snapshot, and no events.
+        ensures leaves { (events : List Change) (parts : List BlockPart)
+            → (m : MaySave F.shows F.kept F.sound F.moment F.left_since N.first
+            self.old.events.journal.medium self.old.events.journal.len
+            self.old.events.journal.closed events snapshot.now held.now parts same)
+            → self.old.events.journal.closed ≡ false
+            → LeavesOnly F.moment F.left_since self.old.events.journal.medium.folder
+            self.new.events.journal.medium.folder (IsOldOrSaved m.holds.0.saved m.holds.0.parts
+            m.holds.0.late N.first.values snapshot.now) }
         ensures open { OnOk result (self.new.events.journal.closed ≡ false) }
         // Then it has what is saved and nothing more.
         ensures len { IfOk result (λ places. self.new.events.journal.len

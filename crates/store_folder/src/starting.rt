@@ -10,7 +10,7 @@ ghost use Rattle.head.specs.Worlds.{replayed};
 ghost use Rattle.journal.specs.declared.error.JournalError.TheVariants.{Memory as NoRecord};
 ghost use Rattle.store_folder.specs.Codes.{cause_of};
 ghost use Rattle.store_folder.specs.Finding.{IsFoundStore};
-ghost use Rattle.store_folder.specs.Holding.{HoldsAfterHead, HoldsAt, HoldsStore};
+ghost use Rattle.store_folder.specs.Holding.{HoldsAt, HoldsLike, HoldsStore, HoldsThese};
 ghost use Rattle.store_folder.specs.Starting.{DeniesStart, GoesOn};
 ghost use Rattle.store_folder.specs.Starting.{IsNoneOrNothing, IsNoRefusal, IsRefusedEvent};
 ghost use Rattle.store_folder.specs.Starting.{StartFinds, nothing_saved, nothing_with};
@@ -134,6 +134,10 @@ impl<N: Beginning, F: Folder + Drop> StoreJournal<N, F> {
             N.first k.events.journal.medium k.events.journal.len k.events.journal.closed []) }
         ensures places { IfOk result (λ k. HoldsAt F.shows F.kept F.sound F.moment F.left_since
             N.first k.events.journal.medium k.events.journal.len k.events.journal.closed [] [] []) }
+        // Its head is that of a store that has nothing.
+        ensures head { IfOk result (λ k. HoldsThese F.shows F.kept F.sound F.moment F.left_since
+            N.first k.events.journal.medium k.events.journal.len k.events.journal.closed []
+            (nothing_with values) [] []) }
         ensures open { IfOk result (λ k. k.events.journal.closed ≡ false) }
         ensures any_moment { MatchResult result
             (λ k. LeavesOnly F.moment F.left_since folder k.events.journal.medium.folder
@@ -183,10 +187,9 @@ impl<N: Beginning, F: Folder + Drop> StoreJournal<N, F> {
         ensures head { IfOk result (λ k. (parts : List BlockPart)
             → IsFoundStore F.shows F.kept journal.now parts folder
             → N.first ≡ origin_of journal.now.head parts
-            → (h : HoldsAfterHead F.shows F.kept F.sound F.moment F.left_since N.first
+            → HoldsThese F.shows F.kept F.sound F.moment F.left_since N.first
             k.events.journal.medium k.events.journal.len k.events.journal.closed
-            journal.now.events.items) × (h.saved ≡ journal.now.head) × (h.parts ≡ parts)
-            × (h.late ≡ journal.now.events.items)) }
+            journal.now.events.items journal.now.head parts journal.now.events.items) }
         ensures open { IfOk result (λ k. k.events.journal.closed ≡ false) }
         ensures any_moment { (parts : List BlockPart)
             → IsFoundStore F.shows F.kept journal.now parts folder
@@ -235,6 +238,10 @@ pub fn begin_store<N: Beginning, F: Folder + Drop>(
         N.first x.keeper.store.events.journal.medium x.keeper.store.events.journal.len
         x.keeper.store.events.journal.closed x.journal.events.items x.keeper.places.items
         (map part_in x.keeper.blocks.items) x.snapshot) }
+    ensures alone { IfOk result (λ x. HoldsThese F.shows F.kept F.sound F.moment F.left_since
+        N.first x.keeper.store.events.journal.medium x.keeper.store.events.journal.len
+        x.keeper.store.events.journal.closed [] (nothing_with values) [] []) }
+    ensures open { IfOk result (λ x. x.keeper.store.events.journal.closed ≡ false) }
     ensures terms { IfOk result (λ x.
         x.keeper.terms ≡ record { most = most; len = 0; blocks = 0 }) }
     ensures events { IfOk result (λ x. x.journal.events.items ≡ []) }
@@ -310,6 +317,13 @@ pub fn resume_store<N: Beginning, F: Folder + Drop>(
     // The keeper's blocks lie where the head says.
     ensures places { IfOk result (λ x.
         x.keeper.places.items ≡ found.journal.head.places) }
+    // The head that is held is the one that was found, with its blocks and the events after it.
+    ensures head { IfOk result (λ x. (h : HoldsLike F.shows F.kept F.sound F.moment F.left_since
+        N.first x.keeper.store.events.journal.medium x.keeper.store.events.journal.len
+        x.keeper.store.events.journal.closed found.journal.events.items x.keeper.places.items
+        (map part_in x.keeper.blocks.items)) × (h.0.saved ≡ found.journal.head)
+        × (h.0.parts ≡ map part_in found.blocks.items)
+        × (h.0.late ≡ found.journal.events.items)) }
     ensures terms { IfOk result (λ x. x.keeper.terms ≡ record {
       most = most;
       len = begun_len found.journal.events.items found.journal.len;

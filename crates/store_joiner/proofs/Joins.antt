@@ -13,7 +13,8 @@ use Rattle.data_folder.proofs.Moments.{weaker}
 use Rattle.event_journal.specs.Holding.{contents_with}
 use Rattle.head.specs.Heads.{BlockPart, SnapshotParts, head_part, newest_in, world_of}
 use Rattle.head.specs.Refusals.{Refusal}
-use Rattle.head.specs.Worlds.{World}
+use Rattle.head.specs.Resuming.{MayStand}
+use Rattle.head.specs.Worlds.{Event, World}
 use Rattle.head_record.specs.Saved.{Place, Saved, save}
 use Rattle.head_record.specs.Spelling.{head_texts, IsSaved}
 use Rattle.journal.specs.Group.{IsJournalText}
@@ -21,21 +22,23 @@ use Rattle.labels.specs.Contents.{Content}
 use Rattle.name_table.specs.Names.{Label}
 use Rattle.labels.specs.Parts.{Part, laid_over, over, rows_in}
 use Rattle.labels.specs.Rows.{points_of}
-use Rattle.store_folder.specs.Holding.{AreAt, HoldsAfterHead, HoldsAt}
+use Rattle.store_folder.specs.Holding.{AreAt, HoldsAfterHead, HoldsAt, HoldsThese}
 use Rattle.store_folder.specs.KeeperLaws.{finds_world, settled_found}
 use Rattle.store_folder.specs.Origins.{Origin}
 use Rattle.store_folder.specs.RewritingLaws.{same_world}
 use Rattle.store_folder.specs.Starting.{StartFinds}
-use Rattle.store_folder.specs.States.{StandsFor, started}
+use Rattle.store_folder.specs.States.{IsEither, MayStart, StandsFor, started}
 use Rattle.store_folder.specs.StoreLaws.{one_meaning}
 use Rattle.store_folder.specs.Sweeps.{names_at}
 use Rattle.store_folder.specs.Writing.{AreRewritten, places_from}
 use Rattle.store_folder.proofs.Rolls.{after_head, apart_both, blocks_rolled, files_at, files_of_both}
-use Rattle.store_folder.proofs.Rolls.{keeps_now, lie_at, parted, same_head, there_both}
+use Rattle.store_folder.proofs.Rolls.{at_these, keeps_now, lie_at, of_these, parted, roll_leaves}
+use Rattle.store_folder.proofs.Rolls.{same_head, there_both}
 use Rattle.store_folder.proofs.Saves.{each_like, have_same}
-use Rattle.store_folder.proofs.Swept.{holds_swept, swept_finds}
+use Rattle.store_folder.proofs.Swept.{holds_swept, swept_finds, these_leave, these_swept}
 use Rattle.store_joiner.specs.Finds.{Finds, FindsEither, FindsNow, other_of}
 use Rattle.store_joiner.specs.Joins.{HoldSame, parts_in, with_blocks}
+use Rattle.store_joiner.proofs.Starting.{either_starts, starts_of}
 
 abbrev fine : World → Result World Refusal
 fine w = Ok w
@@ -186,20 +189,33 @@ module _ {F : Type 0} (shows : F → List ℕ → Option (List ℕ) → Type 0)
       (stands_so first next old len was saved made left h m is)) leaves
 
   -- then the store is the other
-  pub begun_anew : (first : Origin) (next : World) (old new : JournalFile F) (new_len : ℕ)
+  pub begun_these : (first : Origin) (next : World) (old new : JournalFile F) (new_len : ℕ)
       (saved : Saved) (made : List BlockPart) → IsNext first next old saved made
       → new.names ≡ [] → rolls.Keeps shows kept sound (contents_with (head_texts saved) []) new.folder new_len
       → ((files : List Named) → AllByRecursion IsApart files → AreThere shows kept files old.folder
       → AreThere shows kept files new.folder)
-      → At (other_of first next) new new_len false saved.places made
-  begun_anew first next old new new_len saved made m named k stay = (
+      → HoldsThese shows kept sound moment left_since (other_of first next) new new_len false []
+      saved made []
+  begun_these first next old new new_len saved made m named k stay = (
     after_head shows kept sound moment left_since only_now earlier (other_of first next) new new_len
         false saved made [] [] [] [] [] refl m.head refl named
         (record { world = ap fine m.world; values = m.values }) k
         (blocks_rolled shows kept saved.places made old.folder new.folder stay m.blocks),
     refl,
     refl,
+    refl,
   )
+
+  pub begun_anew : (first : Origin) (next : World) (old new : JournalFile F) (new_len : ℕ)
+      (saved : Saved) (made : List BlockPart) → IsNext first next old saved made
+      → new.names ≡ [] → rolls.Keeps shows kept sound (contents_with (head_texts saved) []) new.folder new_len
+      → ((files : List Named) → AllByRecursion IsApart files → AreThere shows kept files old.folder
+      → AreThere shows kept files new.folder)
+      → At (other_of first next) new new_len false saved.places made
+  begun_anew first next old new new_len saved made m named k stay =
+      at_these shows kept sound moment left_since (other_of first next) new new_len false [] saved
+      made [] saved.places
+      (begun_these first next old new new_len saved made m named k stay) refl
 
   abbrev Stays : List Place → F → F → Type 0
   Stays places old new = KeepsStore shows kept sound moment left_since (names_at places) old new
@@ -289,3 +305,44 @@ module _ {F : Type 0} (shows : F → List ℕ → Option (List ℕ) → Type 0)
   as_before first old names new len new_len was closed places parts at opened same k stay =
       same_head shows kept sound moment left_since only_now earlier first (record { folder = old; names = names })
       new len new_len was closed [] places parts at opened same k stay
+
+  -- what a start takes meanwhile
+
+  pub writing_starts : (first : Origin) (old : JournalFile F) (new : F) (len : ℕ) (closed : Bool)
+      (saved : Saved) (parts : List BlockPart) (late : List Event) (places : List Place)
+      → HoldsThese shows kept sound moment left_since first old len closed [] saved parts late
+      → closed ≡ false → saved.places ≡ places → Stays places old.folder new
+      → MayStand (started saved parts) → LeavesOnly moment left_since old.folder new MayStart
+  writing_starts first old new len closed saved parts late places t opened is stays may =
+      starts_of moment left_since saved parts late old.folder new
+      (these_leave shows kept sound moment left_since only_now earlier first old new len closed []
+      saved parts late places t opened is stays) may
+
+  pub rolling_starts : (first : Origin) (next : World) (before : JournalFile F) (old new : F)
+      (len : ℕ) (closed : Bool) (saved : Saved) (parts : List BlockPart) (late : List Event)
+      (places : List Place) (head : Saved) (made : List BlockPart) (text : List ℕ)
+      → HoldsThese shows kept sound moment left_since first before len closed [] saved parts late
+      → closed ≡ false → saved.places ≡ places → Stays places before.folder old
+      → IsNext first next (record (before) { folder = old }) head made
+      → IsJournalText (contents_with (head_texts head) []) text → RollLeaves old new len text
+      → MayStand (started saved parts) → MayStand (started head made)
+      → LeavesOnly moment left_since old new MayStart
+  rolling_starts first next before old new len closed saved parts late places head made text t
+      opened is stays m whole leaves may stands =
+      let mid = record (before) { folder = old } in
+      let u = these_swept shows kept sound moment left_since only_now earlier first before mid len
+      closed [] saved parts late (names_at places) t opened refl (ap names_at (sym is)) stays in
+      let h = u.0 in
+      either_starts moment left_since saved parts late head made old new
+      (of_these shows kept sound moment left_since
+      (λ (x : Saved) (bs : List BlockPart) (es : List Event). LeavesOnly moment left_since old new
+      (IsEither x bs es head made)) first mid len closed [] saved parts late u
+      (roll_leaves shows kept sound moment left_since only_now earlier first mid new len closed head
+      made [] h m.blocks m.head
+      (leaves (head_texts h.saved ++ h.journal.contents) (contents_with (head_texts head) [])
+      (files_of_both shows kept h.saved.places head.places h.parts made old h.blocks m.blocks)
+      (keeps_now shows kept sound moment left_since only_now earlier first mid len closed [] h opened)
+      whole
+      (apart_both shows kept h.saved.places head.places h.parts made old h.blocks m.blocks)
+      (there_both shows kept h.saved.places head.places h.parts made old h.blocks m.blocks))))
+      may stands

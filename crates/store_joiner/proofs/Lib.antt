@@ -3,4 +3,5 @@ pub mod Changing
 pub mod Held
 pub mod Joins
 pub mod Says
+pub mod Starting
 pub mod Stores

@@ -20,12 +20,13 @@ use Rattle.journal.specs.Records.{file_of}
 use Rattle.journal.proofs.Keeping.{itself}
 use Rattle.store_folder.specs.declared.reading.FoundStore.{FoundStore}
 use Rattle.store_folder.specs.Faults.{IsStoreOf}
-use Rattle.store_folder.specs.Holding.{HoldsAfterHead, HoldsOrLost}
-use Rattle.store_folder.specs.KeeperLaws.{as_store, finds_world, open_head, stands_for}
+use Rattle.store_folder.specs.Holding.{HoldsAfterHead, HoldsOrLost, HoldsThese}
+use Rattle.store_folder.specs.KeeperLaws.{as_store, finds_world, open_head, state_stands}
 use Rattle.store_folder.specs.Origins.{Origin}
 use Rattle.store_folder.specs.Starting.{StartFinds}
-use Rattle.store_folder.specs.States.{IsAfter, StandsFor, origin_of, started}
+use Rattle.store_folder.specs.States.{IsAfter, IsState, StandsFor, origin_of, started}
 use Rattle.store_folder.specs.StoreLaws.{blocks_left, one_meaning, whole_left}
+use Rattle.store_folder.proofs.Rolls.{of_these}
 use Rattle.store_joiner.specs.Finds.{Finds, FindsEither, FindsNow, other_of}
 use Rattle.store_joiner.specs.Joins.{with_blocks}
 use Rattle.store_joiner.specs.Stores.{HasStore, HasStoreFor, StandsOrFinds, StaysNow}
@@ -97,43 +98,50 @@ module _ {F : Type 0} (shows : F → List ℕ → Option (List ℕ) → Type 0)
     → kept f name n → left_since f (moment f) left → MayLeaveOf n x (left name))
     (earlier : (f : F) (t u : ℕ) (left : Left) → t ≤ u → u ≤ moment f → left_since f u left
     → left_since f t left) where
-  -- a crash leaves what stands for its events
+  -- a crash leaves it, and so what stands for its events
 
-  stands_left : (first : Origin) (events : List Event) (f : F) (left : Left)
-      → HasStoreFor shows kept first events f → LeavesAll shows kept f left
-      → StandsFor first events left
-  stands_left first events f left h may =
-      stands_for first events h.early h.late h.saved h.parts left h.all h.store.journal.head
-      h.begins
-      (blocks_left shows kept h.saved.places h.parts f left h.store.blocks
-      (λ n x k away shown durable. may n x k shown durable))
-      (record {
-        contents = h.store.journal.stands.contents;
-        names = h.store.journal.stands.names;
-        spell = h.store.journal.stands.spell;
-        journal = (
-          h.store.file,
-          whole_left h.store.file (left journal_name)
-              (may journal_name (Some h.store.file) (length h.store.file) h.store.has.shown
-              h.store.has.durable),
-          h.store.journal.stands.recovers,
-        );
-      })
+  state_left : (saved : Saved) (parts : List BlockPart) (events : List Event) (f : F) (left : Left)
+      → HasStore shows kept saved parts events f → LeavesAll shows kept f left
+      → IsState saved parts events left
+  state_left saved parts events f left h may = record {
+    head = h.journal.head;
+    kept = record {
+      contents = h.journal.stands.contents;
+      names = h.journal.stands.names;
+      spell = h.journal.stands.spell;
+      journal = (
+        h.file,
+        whole_left h.file (left journal_name)
+            (may journal_name (Some h.file) (length h.file) h.has.shown h.has.durable),
+        h.journal.stands.recovers,
+      );
+    };
+    blocks = blocks_left shows kept saved.places parts f left h.blocks
+        (λ n x k away shown durable. may n x k shown durable);
+  }
+
+  pub untouched_leaves : (saved : Saved) (parts : List BlockPart) (events : List Event) (old new : F)
+      → HasStore shows kept saved parts events old → Untouched shows kept moment left_since old new
+      → LeavesOnly moment left_since old new (IsState saved parts events)
+  untouched_leaves saved parts events old new h u = record {
+    later = u.time.later;
+    each = λ left had. ⊎_elim
+        (λ past. state_left saved parts events old left h
+        (λ name x n shown durable. only_now old name x n left shown durable past))
+        (λ may. state_left saved parts events old left h may.1)
+        (u.time.nothing_else (moment old) left (omega arith) had);
+    before = λ t left le had. ⊎_elim (λ past. inl past)
+        (λ may. inr (state_left saved parts events old left h may.1))
+        (u.time.nothing_else t left le had);
+  }
 
   pub untouched_finds : (first : Origin) (events : List Event) (old new : F)
       → HasStoreFor shows kept first events old → Untouched shows kept moment left_since old new
       → StartFinds moment left_since old new first events
-  untouched_finds first events old new h u = record {
-    later = u.time.later;
-    each = λ left had. ⊎_elim
-        (λ past. stands_left first events old left h
-        (λ name x n shown durable. only_now old name x n left shown durable past))
-        (λ may. stands_left first events old left h may.1)
-        (u.time.nothing_else (moment old) left (omega arith) had);
-    before = λ t left le had. ⊎_elim (λ past. inl past)
-        (λ may. inr (stands_left first events old left h may.1))
-        (u.time.nothing_else t left le had);
-  }
+  untouched_finds first events old new h u =
+      weaker moment left_since old new (IsState h.saved h.parts h.late) (StandsFor first events)
+      (λ left s. state_stands first events h.early h.late h.saved h.parts left h.all h.begins s)
+      (untouched_leaves h.saved h.parts h.late old new h.store u)
 
   -- what may be left now might have been left since
   pub now_in : (old new : F) (P : Left → Type 0) → LeavesOnly moment left_since old new P
@@ -167,35 +175,51 @@ module _ {F : Type 0} (shows : F → List ℕ → Option (List ℕ) → Type 0)
             (finds left had),
       )
 
-  -- a keeper's folder has the store of its events
+  -- the folder of an open journal has the store of its head and events
+  open_store : (first : Origin) (m : JournalFile F) (len : ℕ) (closed : Bool)
+      (events : List Event)
+      (h : HoldsAfterHead shows kept sound moment left_since first m len closed events)
+      → closed ≡ false → HasStore shows kept h.saved h.parts h.late m.folder
+  open_store first m len closed events h opened =
+      let contents = head_texts h.saved ++ h.journal.contents in
+      let k = h.journal.keeps opened in record {
+        file = file_of contents;
+        has = record { shown = k.has.all; durable = k.has.durable };
+        journal = record {
+          head = h.head;
+          stands = record {
+            before = h.journal.before;
+            contents = h.journal.contents;
+            names = h.journal.after;
+            spell = h.journal.spell;
+            recovers = itself contents k.each;
+          };
+        };
+        blocks = h.blocks;
+      }
+
+  pub has_these : (first : Origin) (m : JournalFile F) (len : ℕ) (closed : Bool)
+      (events : List Event) (saved : Saved) (parts : List BlockPart) (late : List Event)
+      (t : HoldsThese shows kept sound moment left_since first m len closed events saved parts late)
+      → closed ≡ false → HasStore shows kept saved parts late m.folder
+  has_these first m len closed events saved parts late t opened =
+      of_these shows kept sound moment left_since
+      (λ (x : Saved) (bs : List BlockPart) (es : List Event). HasStore shows kept x bs es m.folder)
+      first m len closed events saved parts late t
+      (open_store first m len closed events t.0 opened)
+
   pub has_kept : (first : Origin) (m : JournalFile F) (len : ℕ) (closed : Bool)
       (events : List Event) → HoldsAfterHead shows kept sound moment left_since first m len closed
       events → closed ≡ false → HasStoreFor shows kept first events m.folder
-  has_kept first m len closed events h opened =
-      let contents = head_texts h.saved ++ h.journal.contents in
-      let k = h.journal.keeps opened in record {
-        saved = h.saved;
-        parts = h.parts;
-        early = h.early;
-        late = h.late;
-        all = h.all;
-        begins = h.begins;
-        store = record {
-          file = file_of contents;
-          has = record { shown = k.has.all; durable = k.has.durable };
-          journal = record {
-            head = h.head;
-            stands = record {
-              before = h.journal.before;
-              contents = h.journal.contents;
-              names = h.journal.after;
-              spell = h.journal.spell;
-              recovers = itself contents k.each;
-            };
-          };
-          blocks = h.blocks;
-        };
-      }
+  has_kept first m len closed events h opened = record {
+    saved = h.saved;
+    parts = h.parts;
+    early = h.early;
+    late = h.late;
+    all = h.all;
+    begins = h.begins;
+    store = open_store first m len closed events h opened;
+  }
 
   -- so has what is open
   pub has_open : (first : Origin) (m : JournalFile F) (len : ℕ) (closed : Bool)

@@ -12,7 +12,7 @@ use Rattle.store_folder.specs.Holding.{AreAt}
 use Rattle.store_folder.specs.Journals.{IsJournalOf}
 use Rattle.store_folder.specs.Origins.{Origin, beginning}
 use Rattle.store_folder.specs.Plain.{AreAdmitted, HasEither, StandsAlone}
-use Rattle.store_folder.specs.States.{IsAfter, StandsFor, origin_of, started}
+use Rattle.store_folder.specs.States.{IsAfter, MayStart, StandsFor, origin_of, started}
 use Rattle.store_folder.specs.Sweeps.{has_number}
 use Rattle.store_folder.specs.Writing.{EachSays}
 use Rattle.store_folder.specs.declared.error.StartError.TheVariants.{Medium}
@@ -87,8 +87,13 @@ PlainOrFinds file P left =
     ⊎ ((events : List Event) × StandsAlone file events
     × StandsOrFinds (beginning Whole) events P left)
 
--- Nothing was changed; or this file stands for events alone, which are accepted; or the folder failed as the store was
--- opened, and all files stay but the journal and one in the making.
+-- What is left has the journal of events alone as it was, or with a head in front of them; or a
+-- start makes a snapshot of it.
+abbrev pub PlainOrStarts : List ℕ → Left → Type 0
+PlainOrStarts file left = HasEither file left ⊎ MayStart left
+
+-- Nothing was changed; or this file stands for events alone, which are accepted; or the folder
+-- failed as the store was opened, and all files stay but the journal and one in the making.
 abbrev pub MayChangePlain : {F : Type 0} → (F → List ℕ → Option (List ℕ) → Type 0)
     → (F → List ℕ → ℕ → Type 0) → (F → ℕ) → (F → ℕ → Left → Type 0) → List ℕ → ChangeFault
     → F → F → Type 0

@@ -9,22 +9,23 @@ ghost use Rattle.data_folder.specs.JournalFile.{journal_name};
 ghost use Rattle.data_folder.specs.Sweeping.{KeepsForeign};
 ghost use Rattle.head.specs.Blocks.{part_in};
 ghost use Rattle.head.specs.Heads.{BlockPart};
+ghost use Rattle.head.specs.Resuming.{MayStand};
 ghost use Rattle.head.specs.Worlds.{Event as Change, World, replayed};
 ghost use Rattle.head_record.specs.Saved.{Saved};
 ghost use Rattle.store_folder.specs.Faults.{TellsFiles};
 ghost use Rattle.store_folder.specs.Finding.{IsFoundStore};
 ghost use Rattle.store_folder.specs.Origins.{beginning};
 ghost use Rattle.store_folder.specs.Plain.{DeniesFolder, StandsAlone, begins_plain};
-ghost use Rattle.store_folder.specs.Starting.{IsNoneOrNothing};
-ghost use Rattle.store_folder.specs.States.{IsAfter, origin_of};
+ghost use Rattle.store_folder.specs.Starting.{IsNoneOrNothing, nothing_saved};
+ghost use Rattle.store_folder.specs.States.{IsAfter, MayStart, origin_of, started};
 ghost use Rattle.store_folder.specs.Sweeps.{ListsNumber};
 ghost use Rattle.store_joiner.specs.Adds.{with_beneath};
 ghost use Rattle.store_folder.specs.Writing.{EachSays};
 ghost use Rattle.store_joiner.specs.Finds.{BlocksSay, FindsEither, FindsNow, other_of};
 ghost use Rattle.store_joiner.specs.Stores.{Changes, HasBlocks, HasStore, HasStoreFor, IsAddedTo};
 ghost use Rattle.store_joiner.specs.Stores.{IsLater, IsSame, LeavesNow, MayChange, MayChangePlain};
-ghost use Rattle.store_joiner.specs.Stores.{NoneOrFinds, NoneOrStands, PlainOrFinds, SaysOne};
-ghost use Rattle.store_joiner.specs.Stores.{StaysNow, StaysOrFinds};
+ghost use Rattle.store_joiner.specs.Stores.{NoneOrFinds, NoneOrStands, PlainOrFinds, PlainOrStarts};
+ghost use Rattle.store_joiner.specs.Stores.{SaysOne, StaysNow, StaysOrFinds};
 
 use crate::added::added_snapshot;
 use crate::error::ChangeFault;
@@ -64,6 +65,11 @@ fn add_saved<N: Beginning, F: Folder + Drop>(
         (with_beneath opening.now.blocks opening.now.floor N.first.world))
         (λ e. FindsEither F.moment F.left_since found.folder e.1 N.first
         (with_beneath opening.now.blocks opening.now.floor N.first.world)) }
+    ensures starts { MayStand (started found.store.journal.head
+        (map part_in found.store.blocks.items))
+        → MatchResult result
+        (λ x. LeavesOnly F.moment F.left_since found.folder x.1 MayStart)
+        (λ e. LeavesOnly F.moment F.left_since found.folder e.1 MayStart) }
     ensures finds { IfOk result (λ x. FindsNow F.moment F.left_since x.1 (other_of N.first
         (with_beneath opening.now.blocks opening.now.floor N.first.world))) }
     ensures counted { IfOk result (λ x.
@@ -124,6 +130,11 @@ fn add_found<F: Folder + Drop>(
         (origin_of found.store.journal.head (map part_in found.store.blocks.items))
         found.store.journal.events.items
         (IsAddedTo opening.now.blocks opening.now.floor)) }
+    ensures starts { TellsFiles F.shows → MayStand (started found.store.journal.head
+        (map part_in found.store.blocks.items))
+        → MatchResult result
+        (λ x. LeavesOnly F.moment F.left_since found.folder x.1 MayStart)
+        (λ e. LeavesOnly F.moment F.left_since found.folder e.1 MayStart) }
     ensures finds { TellsFiles F.shows → IfOk result (λ x. (w : World) × (replayed
         (origin_of found.store.journal.head (map part_in found.store.blocks.items)).world
         found.store.journal.events.items ≡ Ok w)
@@ -168,6 +179,7 @@ fn begin<N: Beginning, F: Folder + Drop>(alloc: Global, folder: F) -> Result<F, 
         (λ x. LeavesOnly F.moment F.left_since folder x (IsNoneOrNothing Whole))
         (λ e. LeavesOnly F.moment F.left_since folder e.1 (IsNoneOrNothing Whole)) }
     ensures has { IfOk result (λ x. HasStoreFor F.shows F.kept N.first [] x) }
+    ensures nothing { IfOk result (λ x. HasStore F.shows F.kept nothing_saved [] [] x) }
     ensures foreign { MatchResult result
         (λ x. KeepsForeign F.shows F.kept folder x)
         (λ e. KeepsForeign F.shows F.kept folder e.1) }
@@ -192,6 +204,11 @@ fn begin_again<F: Folder + Drop>(alloc: Global, folder: F) -> Result<Found<F>, (
     ensures any_moment { MatchResult result
         (λ x. LeavesOnly F.moment F.left_since folder x.folder NoneOrStands)
         (λ e. LeavesOnly F.moment F.left_since folder e.1 NoneOrStands) }
+    ensures starts { MatchResult result
+        (λ x. LeavesOnly F.moment F.left_since folder x.folder MayStart)
+        (λ e. LeavesOnly F.moment F.left_since folder e.1 MayStart) }
+    ensures may { TellsFiles F.shows → IfOk result (λ x. MayStand
+        (started x.store.journal.head (map part_in x.store.blocks.items))) }
     ensures after { TellsFiles F.shows → IfOk result (λ x. IsAfter (beginning Whole) []
         x.store.journal.head (map part_in x.store.blocks.items)) }
     ensures foreign { MatchResult result
@@ -223,6 +240,11 @@ fn begin_found<F: Folder + Drop>(alloc: Global, folder: F) -> Result<Found<F>, (
     ensures any_moment { MatchResult result
         (λ x. LeavesOnly F.moment F.left_since folder x.folder NoneOrStands)
         (λ e. LeavesOnly F.moment F.left_since folder e.1 NoneOrStands) }
+    ensures starts { MatchResult result
+        (λ x. LeavesOnly F.moment F.left_since folder x.folder MayStart)
+        (λ e. LeavesOnly F.moment F.left_since folder e.1 MayStart) }
+    ensures may { TellsFiles F.shows → IfOk result (λ x. MayStand
+        (started x.store.journal.head (map part_in x.store.blocks.items))) }
     ensures after { TellsFiles F.shows → IfOk result (λ x. IsAfter (beginning Whole) []
         x.store.journal.head (map part_in x.store.blocks.items)) }
     // Where a block lies, nothing is changed.
@@ -262,6 +284,9 @@ fn add_first<F: Folder + Drop>(
         (NoneOrFinds (IsAddedTo opening.now.blocks opening.now.floor)))
         (λ e. LeavesOnly F.moment F.left_since folder e.1
         (NoneOrFinds (IsAddedTo opening.now.blocks opening.now.floor))) }
+    ensures starts { TellsFiles F.shows → MatchResult result
+        (λ x. LeavesOnly F.moment F.left_since folder x.1 MayStart)
+        (λ e. LeavesOnly F.moment F.left_since folder e.1 MayStart) }
     ensures finds { TellsFiles F.shows → IfOk result (λ x. (x.0 ≡ length opening.now.blocks)
         × FindsNow F.moment F.left_since x.1 (other_of (beginning Whole)
         (with_beneath opening.now.blocks opening.now.floor (beginning Whole).world))) }
@@ -308,6 +333,14 @@ pub fn add_to_store<F: Folder + Drop>(
         events (IsAddedTo opening.now.blocks opening.now.floor))
         (λ e. StaysOrFinds F.moment F.left_since folder e.1 (origin_of saved parts)
         events (IsAddedTo opening.now.blocks opening.now.floor)) }
+    // If a start makes a snapshot of the head and the blocks, it makes one of those that such a
+    // crash leaves.
+    ensures starts { TellsFiles F.shows → (saved : Saved) (parts : List BlockPart)
+        (events : List Change) → (s : HasStore F.shows F.kept saved parts events folder)
+        → begins_plain s.file ≡ false → MayStand (started saved parts)
+        → MatchResult result
+        (λ x. LeavesOnly F.moment F.left_since folder x.1 MayStart)
+        (λ e. LeavesOnly F.moment F.left_since folder e.1 MayStart) }
     // After `Ok` it finds their world laid over the blocks, in the number of blocks that is told;
     // and the values of both mean the same.
     ensures finds { TellsFiles F.shows → (saved : Saved) (parts : List BlockPart)
@@ -367,6 +400,12 @@ pub fn add_to_store<F: Folder + Drop>(
         (PlainOrFinds file (IsAddedTo opening.now.blocks opening.now.floor)))
         (λ e. LeavesOnly F.moment F.left_since folder e.1
         (PlainOrFinds file (IsAddedTo opening.now.blocks opening.now.floor))) }
+    // Where it does not leave the journal so, a start makes a snapshot of what is left.
+    ensures plain_starts { TellsFiles F.shows → (file : List ℕ)
+        → HasFile F.shows F.kept journal_name file folder → begins_plain file ≡ true
+        → MatchResult result
+        (λ y. LeavesOnly F.moment F.left_since folder y.1 (PlainOrStarts file))
+        (λ e. LeavesOnly F.moment F.left_since folder e.1 (PlainOrStarts file)) }
     // After an `Err` it leaves the journal so, or a start finds the world of its events, unless
     // `Lost` is told.
     ensures plain_stays { TellsFiles F.shows → (file : List ℕ)
@@ -402,6 +441,11 @@ pub fn add_to_store<F: Folder + Drop>(
         (NoneOrFinds (IsAddedTo opening.now.blocks opening.now.floor)))
         (λ e. LeavesOnly F.moment F.left_since folder e.1
         (NoneOrFinds (IsAddedTo opening.now.blocks opening.now.floor))) }
+    // Of what it leaves a start makes a snapshot, if there is a journal.
+    ensures first_starts { TellsFiles F.shows → F.shows folder journal_name None
+        → F.kept folder journal_name 0 → MatchResult result
+        (λ x. LeavesOnly F.moment F.left_since folder x.1 MayStart)
+        (λ e. LeavesOnly F.moment F.left_since folder e.1 MayStart) }
     // After an `Err` it leaves no journal, or that of a store that has nothing, unless `Lost` is
     // told.
     ensures first_stays { TellsFiles F.shows → F.shows folder journal_name None

@@ -16,13 +16,13 @@ ghost use Rattle.store_folder.specs.Finding.{IsFoundStore};
 ghost use Rattle.store_folder.specs.Origins.{beginning};
 ghost use Rattle.store_folder.specs.Plain.{DeniesFolder, StandsAlone, begins_plain, may_be_plain};
 ghost use Rattle.store_folder.specs.Starting.{StartFinds};
-ghost use Rattle.store_folder.specs.States.{origin_of, started};
+ghost use Rattle.store_folder.specs.States.{MayStart, origin_of, started};
 ghost use Rattle.store_folder.specs.Writing.{EachSays};
 ghost use Rattle.store_joiner.specs.Finds.{BlocksSay, Finds, FindsNow, other_of};
 ghost use Rattle.store_joiner.specs.Joins.{with_blocks};
 ghost use Rattle.store_joiner.specs.Stores.{Changes, HasStore, IsJoinedTo, IsLater, IsSame};
 ghost use Rattle.store_joiner.specs.Stores.{LeavesNow, MayChange, MayChangePlain, PlainOrFinds};
-ghost use Rattle.store_joiner.specs.Stores.{SaysOne, StaysNow, StaysOrFinds};
+ghost use Rattle.store_joiner.specs.Stores.{PlainOrStarts, SaysOne, StaysNow, StaysOrFinds};
 
 use crate::error::ChangeFault;
 use crate::joined::joined_snapshot;
@@ -69,6 +69,13 @@ fn sweep<N: Beginning, F: Folder + Drop>(
         found.store.journal.events.items)
         (λ e. StartFinds F.moment F.left_since found.folder e.1 N.first
         found.store.journal.events.items) }
+    // If a start makes a snapshot of what was found, it makes one of what a crash at any moment of
+    // the call leaves.
+    ensures starts { MayStand (started found.store.journal.head
+        (map part_in found.store.blocks.items))
+        → MatchResult result
+        (λ x. LeavesOnly F.moment F.left_since found.folder x MayStart)
+        (λ e. LeavesOnly F.moment F.left_since found.folder e.1 MayStart) }
     // If the journal has no events, and each block says what its head says, so it is then.
     ensures says { found.store.journal.events.items ≡ [] → EachSays F.shows F.kept
         found.store.journal.head.values found.store.journal.head.places found.folder
@@ -116,6 +123,11 @@ fn join_saved<N: Beginning, F: Folder + Drop>(
         (Finds N.first.values (IsJoinedTo N.first.world)))
         (λ e. LeavesOnly F.moment F.left_since found.folder e.1
         (Finds N.first.values (IsJoinedTo N.first.world))) }
+    ensures starts { MayStand (started found.store.journal.head
+        (map part_in found.store.blocks.items))
+        → MatchResult result
+        (λ x. LeavesOnly F.moment F.left_since found.folder x.1 MayStart)
+        (λ e. LeavesOnly F.moment F.left_since found.folder e.1 MayStart) }
     ensures finds { IfOk result (λ x. FindsNow F.moment F.left_since x.1
         (other_of N.first (with_blocks x.0.after N.first.world))) }
     ensures before { IfOk result (λ x. x.0.before ≡ N.first.world.blocks) }
@@ -175,6 +187,11 @@ fn join_found<F: Folder + Drop>(
         (λ e. StaysOrFinds F.moment F.left_since found.folder e.1
         (origin_of found.store.journal.head (map part_in found.store.blocks.items))
         found.store.journal.events.items IsJoinedTo) }
+    ensures starts { TellsFiles F.shows → MayStand (started found.store.journal.head
+        (map part_in found.store.blocks.items))
+        → MatchResult result
+        (λ x. LeavesOnly F.moment F.left_since found.folder x.1 MayStart)
+        (λ e. LeavesOnly F.moment F.left_since found.folder e.1 MayStart) }
     ensures finds { TellsFiles F.shows → IfOk result (λ x. (w : World) × (replayed
         (origin_of found.store.journal.head (map part_in found.store.blocks.items)).world
         found.store.journal.events.items ≡ Ok w) × (x.0.before ≡ w.blocks)
@@ -229,6 +246,14 @@ pub fn join_store<F: Folder + Drop>(
         events IsJoinedTo)
         (λ e. StaysOrFinds F.moment F.left_since folder e.1 (origin_of saved parts)
         events IsJoinedTo) }
+    // If a start makes a snapshot of the head and the blocks, it makes one of those that such a
+    // crash leaves.
+    ensures starts { TellsFiles F.shows → (saved : Saved) (parts : List BlockPart)
+        (events : List Change) → (s : HasStore F.shows F.kept saved parts events folder)
+        → begins_plain s.file ≡ false → MayStand (started saved parts)
+        → MatchResult result
+        (λ x. LeavesOnly F.moment F.left_since folder x.1 MayStart)
+        (λ e. LeavesOnly F.moment F.left_since folder e.1 MayStart) }
     // After `Ok` it finds their world, in the number of blocks that is told.
     ensures finds { TellsFiles F.shows → (saved : Saved) (parts : List BlockPart)
         (events : List Change) → (s : HasStore F.shows F.kept saved parts events folder)
@@ -291,6 +316,12 @@ pub fn join_store<F: Folder + Drop>(
         → MatchResult result
         (λ y. LeavesOnly F.moment F.left_since folder y.1 (PlainOrFinds file IsJoinedTo))
         (λ e. LeavesOnly F.moment F.left_since folder e.1 (PlainOrFinds file IsJoinedTo)) }
+    // Where it does not leave the journal so, a start makes a snapshot of what is left.
+    ensures plain_starts { TellsFiles F.shows → (file : List ℕ)
+        → HasFile F.shows F.kept journal_name file folder → begins_plain file ≡ true
+        → MatchResult result
+        (λ y. LeavesOnly F.moment F.left_since folder y.1 (PlainOrStarts file))
+        (λ e. LeavesOnly F.moment F.left_since folder e.1 (PlainOrStarts file)) }
     // After an `Err` it leaves the journal so, or a start finds the world of its events, unless
     // `Lost` is told.
     ensures plain_stays { TellsFiles F.shows → (file : List ℕ)

@@ -1,7 +1,7 @@
 //! The store of a folder, with what its journal has saved.
 
 ghost use Rattle.std.specs.Prelude.{◌≡◌, List, [], IfErr, IfOk, MatchResult, Ok, map, true};
-ghost use Rattle.data_folder.specs.Folders.{Untouched};
+ghost use Rattle.data_folder.specs.Folders.{LeavesOnly, Untouched};
 ghost use Rattle.data_folder.specs.Sweeping.{KeepsForeign};
 ghost use Rattle.head.specs.Blocks.{part_in};
 ghost use Rattle.head.specs.Heads.{BlockPart};
@@ -11,7 +11,7 @@ ghost use Rattle.head_record.specs.Saved.{Saved};
 ghost use Rattle.store_folder.specs.Faults.{IsStoreOf, TellsFiles};
 ghost use Rattle.store_folder.specs.Finding.{IsFoundStore};
 ghost use Rattle.store_folder.specs.Starting.{StartFinds};
-ghost use Rattle.store_folder.specs.States.{IsAfter, origin_of, started};
+ghost use Rattle.store_folder.specs.States.{IsAfter, MayStart, origin_of, started};
 ghost use Rattle.store_folder.specs.Writing.{EachSays};
 ghost use Rattle.store_joiner.specs.Finds.{BlocksSay};
 ghost use Rattle.store_joiner.specs.Stores.{HasStoreFor, HasStore, IsLater, LeavesNow};
@@ -81,6 +81,13 @@ fn save_events<N: Beginning, F: Folder + Drop>(
         found.store.journal.events.items)
         (λ e. StartFinds F.moment F.left_since found.folder e.1 N.first
         found.store.journal.events.items) }
+    // If a start makes a snapshot of what was found, it makes one of what a crash at any moment of
+    // the call leaves.
+    ensures starts { MayStand (started found.store.journal.head
+        (map part_in found.store.blocks.items))
+        → MatchResult result
+        (λ x. LeavesOnly F.moment F.left_since found.folder x MayStart)
+        (λ e. LeavesOnly F.moment F.left_since found.folder e.1 MayStart) }
     ensures has { IfOk result (λ folder. HasStoreFor F.shows F.kept N.first
         found.store.journal.events.items folder) }
     // A start makes a snapshot of the new head and its blocks. If each block said what the head
@@ -140,6 +147,13 @@ pub(crate) fn save<F: Folder + Drop>(
         (λ e. StartFinds F.moment F.left_since found.folder e.1
         (origin_of found.store.journal.head (map part_in found.store.blocks.items))
         found.store.journal.events.items) }
+    // If a start makes a snapshot of what was found, it makes one of what a crash at any moment of
+    // the call leaves.
+    ensures starts { MayStand (started found.store.journal.head
+        (map part_in found.store.blocks.items))
+        → MatchResult result
+        (λ x. LeavesOnly F.moment F.left_since found.folder x.folder MayStart)
+        (λ e. LeavesOnly F.moment F.left_since found.folder e.1 MayStart) }
     // Of a folder that tells what its files have, the store then begins with the world that the
     // events make, and its values mean what they meant.
     ensures after { TellsFiles F.shows → IfOk result (λ x. IsAfter

@@ -1,11 +1,13 @@
 //! A store that was found, with another in its place.
 
 ghost use Rattle.std.specs.Prelude.{◌≡◌, [], IfErr, IfOk, MatchResult, map, true};
+ghost use Rattle.data_folder.specs.Folders.{LeavesOnly};
 ghost use Rattle.data_folder.specs.Sweeping.{KeepsForeign};
 ghost use Rattle.head.specs.Blocks.{part_in};
 ghost use Rattle.head.specs.Heads.{world_of};
+ghost use Rattle.head.specs.Resuming.{MayStand};
 ghost use Rattle.store_folder.specs.Finding.{IsFoundStore};
-ghost use Rattle.store_folder.specs.States.{origin_of};
+ghost use Rattle.store_folder.specs.States.{MayStart, origin_of, started};
 ghost use Rattle.store_folder.specs.Writing.{EachSays};
 ghost use Rattle.store_joiner.specs.Finds.{BlocksSay, FindsEither, FindsNow, other_of};
 ghost use Rattle.store_joiner.specs.Stores.{IsLater, LeavesNow, SaysOne};
@@ -37,6 +39,13 @@ pub(crate) fn replace<N: Beginning, F: Folder + Drop>(
         (world_of next.now))
         (λ e. FindsEither F.moment F.left_since found.folder e.1 N.first
         (world_of next.now)) }
+    // If a start makes a snapshot of what was found, it makes one of what a crash at any moment of
+    // the call leaves.
+    ensures starts { MayStand (started found.store.journal.head
+        (map part_in found.store.blocks.items))
+        → MatchResult result
+        (λ x. LeavesOnly F.moment F.left_since found.folder x MayStart)
+        (λ e. LeavesOnly F.moment F.left_since found.folder e.1 MayStart) }
     // After `Ok` it finds the other.
     ensures finds { IfOk result (λ folder.
         FindsNow F.moment F.left_since folder (other_of N.first (world_of next.now))) }

@@ -1,9 +1,14 @@
 //! A store that begins with another snapshot.
 
 ghost use Rattle.std.specs.Prelude.{◌≡◌, List, [], false, length, IfErr, IfOk, MatchResult};
+ghost use Rattle.data_folder.specs.Folders.{LeavesOnly};
 ghost use Rattle.data_folder.specs.Sweeping.{KeepsForeign};
 ghost use Rattle.head.specs.Heads.{BlockPart, world_of};
-ghost use Rattle.store_folder.specs.Holding.{HoldsAt};
+ghost use Rattle.head.specs.Resuming.{MayStand};
+ghost use Rattle.head.specs.Worlds.{Event};
+ghost use Rattle.head_record.specs.Saved.{Saved};
+ghost use Rattle.store_folder.specs.Holding.{HoldsAt, HoldsThese};
+ghost use Rattle.store_folder.specs.States.{MayStart, started};
 ghost use Rattle.store_folder.specs.Writing.{EachSays};
 ghost use Rattle.store_joiner.specs.Finds.{BlocksSay, FindsEither, FindsNow, other_of};
 ghost use Rattle.store_joiner.specs.Stores.{LeavesNow, SaysMeaning};
@@ -49,6 +54,15 @@ pub fn replace_store<N: Beginning, F: Folder + Drop>(
         (world_of next.now))
         (λ e. FindsEither F.moment F.left_since store.events.journal.medium.folder e.1 N.first
         (world_of next.now)) }
+    // If a start makes a snapshot of the store, it makes one of what a crash at any moment of the
+    // call leaves.
+    ensures starts { (saved : Saved) (parts : List BlockPart) (late : List Event)
+        → HoldsThese F.shows F.kept F.sound F.moment F.left_since N.first
+        store.events.journal.medium store.events.journal.len store.events.journal.closed []
+        saved parts late → saved.places ≡ held.now → MayStand (started saved parts)
+        → MatchResult result
+        (λ x. LeavesOnly F.moment F.left_since store.events.journal.medium.folder x.folder MayStart)
+        (λ e. LeavesOnly F.moment F.left_since store.events.journal.medium.folder e.1 MayStart) }
     // After `Ok` it finds the other.
     ensures finds { IfOk result (λ x.
         FindsNow F.moment F.left_since x.folder (other_of N.first (world_of next.now))) }

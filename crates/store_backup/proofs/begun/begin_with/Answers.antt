@@ -63,6 +63,7 @@ returns-in-Ok-begin_journal-clause-begins g c =
     begins_so f.shows f.kept f.sound f.moment f.left_since met.only_now met.earlier
     (record { world = world_of s; values = c.args.values }) c.args.folder mid
     c.in-Ok-begin_journal.begun head there.0 c.deref.result.now c.write_saved.ensures.stays next
+    (c.in-Ok.ensures.stands there.0 (each_like s.blocks there.0 there.1))
     (subst (IsJournalText (contents_with (head_texts head) [])) (sym c.deref.ensures.value)
     c.in-Ok-head_journal.ensures.text)
     c.in-Ok-begin_journal.ensures.any_moment c.in-Ok-begin_journal.ensures.others
@@ -82,6 +83,7 @@ returns-clause-begins g c =
     begins_so f.shows f.kept f.sound f.moment f.left_since met.only_now met.earlier
     (record { world = world_of s; values = c.args.values }) c.args.folder mid
     c.in-Err-begin_journal.folder head there.0 c.deref.result.now c.write_saved.ensures.stays next
+    (c.in-Ok.ensures.stands there.0 (each_like s.blocks there.0 there.1))
     (subst (IsJournalText (contents_with (head_texts head) [])) (sym c.deref.ensures.value)
     c.in-Ok-head_journal.ensures.text)
     c.in-Err-begin_journal.ensures.any_moment c.in-Err-begin_journal.ensures.others

@@ -18,6 +18,12 @@ returns-in-Ok-create-clause-begun g c =
     (ap (λ (bs : List Shown). map part_in bs) c.new-in-Ok-create-4.ensures.items)
     c.in-Ok-create.ensures.open c.in-Ok-create.ensures.places
 
+pub returns-in-Ok-create-clause-alone : goal.returns-in-Ok-create-clause-alone
+returns-in-Ok-create-clause-alone g c = c.in-Ok-create.ensures.head
+
+pub returns-in-Ok-create-clause-open : goal.returns-in-Ok-create-clause-open
+returns-in-Ok-create-clause-open g c = c.in-Ok-create.ensures.open
+
 -- nothing was done
 pub returns-in-Err-clause-any_moment : goal.returns-in-Err-clause-any_moment
 returns-in-Err-clause-any_moment g c =

@@ -1,4 +1,4 @@
-use Rattle.std.proofs.Common.{◌≡◌, ◌∙◌, List, ap, inl, inr, map, refl, subst, sym}
+use Rattle.std.proofs.Common.{◌≡◌, ◌∙◌, List, ap, inl, inr, map, refl, subst, subst₂, sym}
 use Rattle.block.specs.Blocks.{Shown}
 use Rattle.std.specs.Prelude.{Ok}
 use Rattle.data_folder.specs.JournalFile.{journal_name, next_name}
@@ -6,9 +6,11 @@ use Rattle.data_folder.proofs.Moments.{nothing_changed}
 use Rattle.head.specs.Blocks.{part_in}
 use Rattle.head.specs.Heads.{world_of}
 use Rattle.head.specs.Worlds.{replayed}
+use Rattle.head_record.specs.Saved.{Saved}
+use Rattle.store_folder.specs.Writing.{AreLike}
 use Rattle.store_folder.specs.Origins.{Origin}
 use Rattle.store_folder.proofs.Refusals.{found_refused, no_refusal}
-use Rattle.store_folder.proofs.Fronts.{resumed_like}
+use Rattle.store_folder.proofs.Fronts.{like_all, resumed_like}
 use Rattle.store_folder.proofs.Starts.{state_stays, stays_found}
 use Rattle.store_folder.proofs.starting.resume_store.Goals as goal
 
@@ -40,6 +42,23 @@ pub returns-in-Ok-resume-clause-any_moment : goal.returns-in-Ok-resume-clause-an
 returns-in-Ok-resume-clause-any_moment g c =
     c.in-Ok-resume.ensures.any_moment (map part_in c.args.found.blocks.items) c.requires.found
     c.requires.first
+
+pub returns-in-Ok-resume-clause-head : goal.returns-in-Ok-resume-clause-head
+returns-in-Ok-resume-clause-head g c =
+    let parts = map part_in c.args.found.blocks.items in
+    let t = c.in-Ok-resume.ensures.head parts c.requires.found c.requires.first in (
+      (
+        t.0,
+        ap (λ (x : Saved). x.places) t.1
+            ∙ sym (c.in-Ok-from_slice.ensures.items ∙ c.places.ensures),
+        subst₂ AreLike
+            (sym (c.in-Ok.ensures ∙ ap (λ (bs : List Shown). map part_in bs) c.deref.ensures.value))
+            (sym t.2) (like_all parts),
+      ),
+      t.1,
+      t.2,
+      t.3,
+    )
 
 pub returns-in-Ok-resume-clause-places : goal.returns-in-Ok-resume-clause-places
 returns-in-Ok-resume-clause-places g c = c.in-Ok-from_slice.ensures.items ∙ c.places.ensures

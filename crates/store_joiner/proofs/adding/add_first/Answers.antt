@@ -10,6 +10,7 @@ use Rattle.store_joiner.specs.Stores.{IsAddedTo, IsSame}
 use Rattle.store_joiner.proofs.Changing.{counts_first, finds_first, first_changed, first_rests}
 use Rattle.store_joiner.proofs.Changing.{first_same, none_left, origin_again}
 use Rattle.store_joiner.proofs.Stores.{if_err, if_ok, match_so, now_in}
+use Rattle.store_joiner.proofs.Starting.{each_starts, none_starts}
 use Rattle.store_joiner.proofs.adding.add_first.Goals as goal
 
 pub returns-in-Ok-clause-any_moment : goal.returns-in-Ok-clause-any_moment
@@ -108,3 +109,22 @@ pub returns-then-not-is_same-clause-foreign : goal.returns-then-not-is_same-clau
 returns-then-not-is_same-clause-foreign g c =
     let f = g.F.Folder in
     foreign_rests f.shows f.kept c.args.folder
+
+-- what a start takes
+
+pub returns-in-Ok-clause-starts : goal.returns-in-Ok-clause-starts
+returns-in-Ok-clause-starts g c tells =
+    let f = g.F.Folder in
+    each_starts f.moment f.left_since c.add_found.result (λ y. y.1) (λ e. e.1) c.args.folder
+    c.in-Ok.found.folder c.in-Ok.ensures.starts
+    (c.add_found.ensures.starts tells (c.in-Ok.ensures.may tells))
+
+pub returns-in-Err-clause-starts : goal.returns-in-Err-clause-starts
+returns-in-Err-clause-starts g c tells = c.in-Err.ensures.starts
+
+pub returns-then-not-is_same-clause-starts : goal.returns-then-not-is_same-clause-starts
+returns-then-not-is_same-clause-starts g c tells =
+    let f = g.F.Folder in
+    let old = c.args.folder in
+    none_starts f.shows f.kept f.moment f.left_since g.met.F.Folder.only_now old old c.requires.none.0
+    c.requires.none.1 (untouched f.shows f.kept f.moment f.left_since old)

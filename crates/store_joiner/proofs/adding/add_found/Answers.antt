@@ -9,6 +9,7 @@ use Rattle.store_folder.proofs.Starts.{stays_found}
 use Rattle.store_joiner.proofs.Stores.{stays, stays_now, then_finds}
 use Rattle.data_folder.proofs.Foreign.{foreign_rests, foreign_then}
 use Rattle.store_joiner.proofs.Says.{found_says}
+use Rattle.store_joiner.proofs.Starting.{each_starts, found_starts}
 use Rattle.store_joiner.proofs.adding.add_found.Goals as goal
 
 pub returns-in-Ok-clause-any_moment : goal.returns-in-Ok-clause-any_moment
@@ -113,3 +114,23 @@ returns-then-not-has_values-clause-says_stays g c tells says unless =
     let store = c.args.found.store in
     found_says f.shows f.kept f.sound f.moment f.left_since met.only_now met.earlier c.args.found.folder
     store.journal (map part_in store.blocks.items) c.requires.found says
+
+-- what a start takes
+
+pub returns-in-Ok-clause-starts : goal.returns-in-Ok-clause-starts
+returns-in-Ok-clause-starts g c tells may =
+    let f = g.F.Folder in
+    each_starts f.moment f.left_since c.add_saved.result (λ y. y.1) (λ e. e.1) c.args.found.folder
+    c.in-Ok.saved.folder (c.in-Ok.ensures.starts may)
+    (c.add_saved.ensures.starts (c.in-Ok.ensures.may tells (λ none. may)))
+
+pub returns-in-Err-clause-starts : goal.returns-in-Err-clause-starts
+returns-in-Err-clause-starts g c tells may = c.in-Err.ensures.starts may
+
+pub returns-then-not-has_values-clause-starts : goal.returns-then-not-has_values-clause-starts
+returns-then-not-has_values-clause-starts g c tells may =
+    let f = g.F.Folder in
+    let met = g.met.F.Folder in
+    let store = c.args.found.store in
+    found_starts f.shows f.kept f.sound f.moment f.left_since met.only_now met.earlier
+    c.args.found.folder store.journal (map part_in store.blocks.items) c.requires.found may

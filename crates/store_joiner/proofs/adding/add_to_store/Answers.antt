@@ -29,6 +29,14 @@ use Rattle.data_folder.proofs.Moments.{joined, untouched_on}
 use Rattle.store_joiner.specs.Stores.{IsSame, NoneOrFinds}
 use Rattle.store_folder.specs.Writing.{EachSays}
 use Rattle.store_joiner.proofs.Says.{has_all, say_now, says_all}
+use Rattle.std.proofs.Common.{subst₂}
+use Rattle.block_folder.specs.declared.values.Values.TheVariants.{Whole}
+use Rattle.head.specs.Heads.{BlockPart}
+use Rattle.head.specs.Resuming.{MayStand}
+use Rattle.store_folder.specs.States.{started}
+use Rattle.store_folder.proofs.Standing.{nothing_stands}
+use Rattle.store_joiner.proofs.Starting.{each_starts, none_starts, plain_starts, plain_waits}
+use Rattle.store_joiner.proofs.Starting.{untouched_starts}
 use Rattle.store_joiner.proofs.adding.add_to_store.Goals as goal
 
 abbrev found : Option FoundStore → Result (Option FoundStore) StartError
@@ -411,3 +419,89 @@ returns-in-None-clause-says_stays g c tells saved parts events h plain says =
     absurd (subst (λ (o : Option FoundStore). GivesStore (f.failed c.open_store.new.folder) saved parts
     events (found o)) c.in-None.is
     (c.in-Ok.ensures.only tells h.file saved parts events h.has plain h.journal h.blocks))
+
+-- what a start takes
+
+pub returns-in-Some-clause-starts : goal.returns-in-Some-clause-starts
+returns-in-Some-clause-starts g c tells saved parts events h plain may =
+    let f = g.F.Folder in
+    let met = g.met.F.Folder in
+    let old = c.args.folder in
+    let mid = c.open_store.new.folder in
+    let is : IsStoreOf saved parts events c.in-Some.store =
+    subst (λ (o : Option FoundStore). GivesStore (f.failed c.open_store.new.folder) saved parts
+    events (found o)) c.in-Some.is
+    (c.in-Ok.ensures.only tells h.file saved parts events h.has plain h.journal h.blocks) in
+    let before = c.open_store.ensures.whole tells (Some h.file) h.has.shown plain in
+    each_starts f.moment f.left_since c.add_found.result (λ y. y.1) (λ e. e.1) old mid
+    (untouched_starts f.shows f.kept f.sound f.moment f.left_since met.only_now met.earlier saved parts
+    events old mid h may before)
+    (c.add_found.ensures.starts tells
+    (subst₂ (λ (x : Saved) (bs : List BlockPart). MayStand (started x bs)) (sym is.head)
+    (sym is.blocks) may))
+
+pub returns-in-Err-clause-starts : goal.returns-in-Err-clause-starts
+returns-in-Err-clause-starts g c tells saved parts events h plain may =
+    let f = g.F.Folder in
+    let met = g.met.F.Folder in
+    let old = c.args.folder in
+    let new = c.open_store.new.folder in
+    untouched_starts f.shows f.kept f.sound f.moment f.left_since met.only_now met.earlier saved parts
+    events old new h may (c.open_store.ensures.whole tells (Some h.file) h.has.shown plain)
+
+pub returns-in-Some-clause-plain_starts : goal.returns-in-Some-clause-plain_starts
+returns-in-Some-clause-plain_starts g c tells file has plain =
+    let f = g.F.Folder in
+    let old = c.args.folder in
+    let mid = c.open_store.new.folder in
+    let s = c.in-Some.store in
+    let is : IsFoundStore f.shows f.kept s.journal (map part_in s.blocks.items) mid =
+    search rules in
+    let found = some_of c.in-Ok.opened s _ c.in-Some.is
+    (c.in-Ok.ensures.plain tells file has.shown plain) in
+    let store = plain_found f.shows f.kept mid s is found.1 in
+    let before = c.open_store.ensures.any_moment tells file has in
+    let may = subst₂ (λ (x : Saved) (bs : List BlockPart). MayStand (started x bs)) (sym store.head)
+    (sym store.blocks) (nothing_stands Whole) in
+    match_so c.add_found.result _ _ _ _
+    (λ y starts. plain_starts f.moment f.left_since old mid y.1 file before starts)
+    (λ e starts. plain_starts f.moment f.left_since old mid e.1 file before starts)
+    (c.add_found.ensures.starts tells may)
+
+pub returns-in-Err-clause-plain_starts : goal.returns-in-Err-clause-plain_starts
+returns-in-Err-clause-plain_starts g c tells file has plain =
+    let f = g.F.Folder in
+    plain_waits f.moment f.left_since c.args.folder c.open_store.new.folder file
+    (c.open_store.ensures.any_moment tells file has)
+
+pub returns-in-None-clause-starts : goal.returns-in-None-clause-starts
+returns-in-None-clause-starts g c tells saved parts events h plain may =
+    let f = g.F.Folder in
+    absurd (subst (λ (o : Option FoundStore). GivesStore (f.failed c.open_store.new.folder) saved parts
+    events (found o)) c.in-None.is
+    (c.in-Ok.ensures.only tells h.file saved parts events h.has plain h.journal h.blocks))
+
+pub returns-in-Some-clause-first_starts : goal.returns-in-Some-clause-first_starts
+returns-in-Some-clause-first_starts g c tells shown durable =
+    let f = g.F.Folder in
+    let mid = c.open_store.new.folder in
+    let s = c.in-Some.store in
+    let is : IsFoundStore f.shows f.kept s.journal (map part_in s.blocks.items) mid =
+    search rules in
+    absurd (not_none f.shows f.kept f.moment f.left_since tells c.args.folder mid is.file shown
+    (c.open_store.ensures.whole tells None shown refl) is.has)
+
+pub returns-in-None-clause-first_starts : goal.returns-in-None-clause-first_starts
+returns-in-None-clause-first_starts g c tells shown durable =
+    let f = g.F.Folder in
+    let old = c.args.folder in
+    let mid = c.open_store.new.folder in
+    each_starts f.moment f.left_since c.add_first.result (λ x. x.1) (λ e. e.1) old mid
+    (none_starts f.shows f.kept f.moment f.left_since g.met.F.Folder.only_now old mid shown durable
+    (c.open_store.ensures.whole tells None shown refl)) (c.add_first.ensures.starts tells)
+
+pub returns-in-Err-clause-first_starts : goal.returns-in-Err-clause-first_starts
+returns-in-Err-clause-first_starts g c tells shown durable =
+    let f = g.F.Folder in
+    none_starts f.shows f.kept f.moment f.left_since g.met.F.Folder.only_now c.args.folder
+    c.open_store.new.folder shown durable (c.open_store.ensures.whole tells None shown refl)

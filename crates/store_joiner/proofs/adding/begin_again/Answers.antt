@@ -6,6 +6,15 @@ use Rattle.store_folder.specs.Origins.{beginning}
 use Rattle.store_joiner.specs.Stores.{NoneOrStands}
 use Rattle.store_joiner.proofs.Changing.{begun_stands, stands_on}
 use Rattle.store_joiner.proofs.Stores.{if_both, match_so, untouched_finds, world_again}
+use Rattle.std.proofs.Common.{List, subst₂, sym}
+use Rattle.head.specs.Heads.{BlockPart}
+use Rattle.head.specs.Resuming.{MayStand}
+use Rattle.head_record.specs.Saved.{Saved}
+use Rattle.store_folder.specs.Starting.{nothing_saved}
+use Rattle.store_folder.specs.States.{started}
+use Rattle.store_folder.proofs.Standing.{nothing_stands}
+use Rattle.store_joiner.proofs.Starting.{begun_starts, starts_on, untouched_starts}
+use Rattle.store_joiner.proofs.Stores.{if_ok}
 use Rattle.store_joiner.proofs.adding.begin_again.Goals as goal
 
 pub returns-in-Ok-clause-any_moment : goal.returns-in-Ok-clause-any_moment
@@ -43,3 +52,33 @@ returns-in-Ok-clause-foreign g c =
     (λ e u. foreign_then f.shows f.kept c.args.folder c.in-Ok.folder e.1
     c.in-Ok.ensures.foreign (foreign_all f.shows f.kept c.in-Ok.folder e.1 u.all))
     c.read_again.ensures.untouched
+
+-- what a start takes
+
+pub returns-in-Ok-clause-starts : goal.returns-in-Ok-clause-starts
+returns-in-Ok-clause-starts g c =
+    let f = g.F.Folder in
+    let met = g.met.F.Folder in
+    let old = c.args.folder in
+    let mid = c.in-Ok.folder in
+    let begun = begun_starts f.moment f.left_since old mid Whole c.in-Ok.ensures.any_moment in
+    match_so c.read_again.result _ _ _ _
+    (λ x u. starts_on f.moment f.left_since old mid x.folder begun
+    (untouched_starts f.shows f.kept f.sound f.moment f.left_since met.only_now met.earlier
+    nothing_saved [] [] mid x.folder c.in-Ok.ensures.nothing (nothing_stands Whole) u))
+    (λ e u. starts_on f.moment f.left_since old mid e.1 begun
+    (untouched_starts f.shows f.kept f.sound f.moment f.left_since met.only_now met.earlier
+    nothing_saved [] [] mid e.1 c.in-Ok.ensures.nothing (nothing_stands Whole) u))
+    c.read_again.ensures.untouched
+
+pub returns-in-Err-clause-starts : goal.returns-in-Err-clause-starts
+returns-in-Err-clause-starts g c =
+    let f = g.F.Folder in
+    begun_starts f.moment f.left_since c.args.folder c.in-Err.fault.1 Whole c.in-Err.ensures.any_moment
+
+pub returns-in-Ok-clause-may : goal.returns-in-Ok-clause-may
+returns-in-Ok-clause-may g c tells =
+    if_ok c.read_again.result _ _
+    (λ x is. subst₂ (λ (y : Saved) (bs : List BlockPart). MayStand (started y bs)) (sym is.head)
+    (sym is.blocks) (nothing_stands Whole))
+    (c.read_again.ensures.only tells nothing_saved [] [] c.in-Ok.ensures.nothing)

@@ -3,6 +3,7 @@ use Rattle.data_folder.proofs.Moments.{joined}
 use Rattle.store_joiner.specs.Stores.{NoneOrStands}
 use Rattle.store_joiner.proofs.Changing.{none_left}
 use Rattle.store_joiner.proofs.Stores.{match_so}
+use Rattle.store_joiner.proofs.Starting.{each_starts, none_starts}
 use Rattle.store_joiner.proofs.adding.begin_found.Goals as goal
 
 pub returns-in-Ok-false-clause-any_moment : goal.returns-in-Ok-false-clause-any_moment
@@ -32,4 +33,21 @@ pub returns-in-Ok-true-clause-any_moment : goal.returns-in-Ok-true-clause-any_mo
 returns-in-Ok-true-clause-any_moment g c =
     let f = g.F.Folder in
     none_left f.shows f.kept f.moment f.left_since g.met.F.Folder.only_now c.args.folder
+    c.has_blocks.new.folder c.requires.none.0 c.requires.none.1 c.has_blocks.ensures.untouched
+
+-- what a start takes
+
+pub returns-in-Ok-false-clause-starts : goal.returns-in-Ok-false-clause-starts
+returns-in-Ok-false-clause-starts g c =
+    let f = g.F.Folder in
+    let old = c.args.folder in
+    let mid = c.has_blocks.new.folder in
+    each_starts f.moment f.left_since c.begin_again.result (λ x. x.folder) (λ e. e.1) old mid
+    (none_starts f.shows f.kept f.moment f.left_since g.met.F.Folder.only_now old mid
+    c.requires.none.0 c.requires.none.1 c.has_blocks.ensures.untouched) c.begin_again.ensures.starts
+
+pub returns-in-Ok-true-clause-starts : goal.returns-in-Ok-true-clause-starts
+returns-in-Ok-true-clause-starts g c =
+    let f = g.F.Folder in
+    none_starts f.shows f.kept f.moment f.left_since g.met.F.Folder.only_now c.args.folder
     c.has_blocks.new.folder c.requires.none.0 c.requires.none.1 c.has_blocks.ensures.untouched

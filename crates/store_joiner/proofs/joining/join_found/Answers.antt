@@ -7,6 +7,7 @@ use Rattle.store_joiner.specs.Stores.{IsJoinedTo}
 use Rattle.store_joiner.proofs.Stores.{finds_then, if_both, if_err, match_so, means_so}
 use Rattle.store_joiner.proofs.Stores.{then_finds}
 use Rattle.data_folder.proofs.Foreign.{foreign_then}
+use Rattle.store_joiner.proofs.Starting.{each_starts}
 use Rattle.store_joiner.proofs.joining.join_found.Goals as goal
 
 pub returns-in-Ok-clause-any_moment : goal.returns-in-Ok-clause-any_moment
@@ -74,3 +75,15 @@ returns-in-Ok-clause-says_stays g c tells says =
 
 pub returns-in-Err-clause-says_stays : goal.returns-in-Err-clause-says_stays
 returns-in-Err-clause-says_stays g c tells says unless = c.in-Err.ensures.says_stays says unless
+
+-- what a start takes
+
+pub returns-in-Ok-clause-starts : goal.returns-in-Ok-clause-starts
+returns-in-Ok-clause-starts g c tells may =
+    let f = g.F.Folder in
+    each_starts f.moment f.left_since c.join_saved.result (λ y. y.1) (λ e. e.1) c.args.found.folder
+    c.in-Ok.saved.folder (c.in-Ok.ensures.starts may)
+    (c.join_saved.ensures.starts (c.in-Ok.ensures.may tells (λ none. may)))
+
+pub returns-in-Err-clause-starts : goal.returns-in-Err-clause-starts
+returns-in-Err-clause-starts g c tells may = c.in-Err.ensures.starts may

@@ -11,6 +11,7 @@ use Rattle.store_joiner.proofs.Stores.{as_many, either_so, finds_all, found_as, 
 use Rattle.store_joiner.proofs.Stores.{joined_to, now_first}
 use Rattle.data_folder.proofs.Foreign.{foreign_rests}
 use Rattle.store_joiner.proofs.Says.{found_says}
+use Rattle.store_joiner.proofs.Starting.{found_starts}
 use Rattle.store_joiner.proofs.joining.join_saved.Goals as goal
 
 -- no snapshot was made
@@ -161,3 +162,25 @@ returns-then-after-before-clause-says_stays g c says unless =
 
 pub returns-clause-says_stays : goal.returns-clause-says_stays
 returns-clause-says_stays g c says unless = c.in-Err-replace.ensures.says_stays says unless
+
+-- what a start takes
+
+pub returns-in-Err-clause-starts : goal.returns-in-Err-clause-starts
+returns-in-Err-clause-starts g c may =
+    let f = g.F.Folder in
+    let met = g.met.F.Folder in
+    let store = c.args.found.store in
+    found_starts f.shows f.kept f.sound f.moment f.left_since met.only_now met.earlier
+    c.args.found.folder store.journal (map part_in store.blocks.items) c.requires.found may
+
+pub returns-in-Ok-sweep-clause-starts : goal.returns-in-Ok-sweep-clause-starts
+returns-in-Ok-sweep-clause-starts g c may = c.in-Ok-sweep.ensures.starts may
+
+pub returns-then-after-before-clause-starts : goal.returns-then-after-before-clause-starts
+returns-then-after-before-clause-starts g c may = c.in-Err-sweep.ensures.starts may
+
+pub returns-in-Ok-replace-clause-starts : goal.returns-in-Ok-replace-clause-starts
+returns-in-Ok-replace-clause-starts g c may = c.in-Ok-replace.ensures.starts may
+
+pub returns-clause-starts : goal.returns-clause-starts
+returns-clause-starts g c may = c.in-Err-replace.ensures.starts may

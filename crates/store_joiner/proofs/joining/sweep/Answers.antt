@@ -7,6 +7,7 @@ use Rattle.data_folder.proofs.Foreign.{foreign_beside, foreign_rests, foreign_th
 use Rattle.store_folder.proofs.Says.{says_on, there_beside}
 use Rattle.store_folder.proofs.Starts.{stays_found}
 use Rattle.store_joiner.proofs.Says.{found_says, left_says, swept_says}
+use Rattle.store_joiner.proofs.Starting.{found_starts, starts_of, starts_on}
 use Rattle.store_joiner.proofs.joining.sweep.Goals as goal
 
 pub resume-requires-clause-values : goal.resume-requires-clause-values
@@ -112,3 +113,37 @@ returns-in-Err-clause-says_stays g c says =
     (says_on f.shows f.kept head.values head.places c.args.found.folder c.in-Err.folder
     (λ files among there. there_beside f.shows f.kept head.places files c.args.found.folder
     c.in-Err.folder c.in-Err.ensures.others among there) says)
+
+-- what a start takes
+
+pub returns-in_default-clause-starts : goal.returns-in_default-clause-starts
+returns-in_default-clause-starts g c may =
+    let f = g.F.Folder in
+    let met = g.met.F.Folder in
+    let store = c.args.found.store in
+    found_starts f.shows f.kept f.sound f.moment f.left_since met.only_now met.earlier
+    c.args.found.folder store.journal (map part_in store.blocks.items) c.requires.found may
+
+pub returns-in-Err-clause-starts : goal.returns-in-Err-clause-starts
+returns-in-Err-clause-starts g c may =
+    let f = g.F.Folder in
+    let store = c.args.found.store in
+    let parts = map part_in store.blocks.items in
+    starts_of f.moment f.left_since store.journal.head parts store.journal.events.items
+    c.args.found.folder c.in-Err.folder (c.in-Err.ensures.leaves parts c.requires.found) may
+
+pub returns-clause-starts : goal.returns-clause-starts
+returns-clause-starts g c may =
+    let f = g.F.Folder in
+    let store = c.args.found.store in
+    let head = store.journal.head in
+    let parts = map part_in store.blocks.items in
+    let events = store.journal.events.items in
+    let mid = c.in-Ok-resume.journal.events.journal.medium.folder in
+    let new = c.sweep_blocks.new.self.events.journal.medium.folder in
+    starts_on f.moment f.left_since c.args.found.folder mid new
+    (starts_of f.moment f.left_since head parts events c.args.found.folder mid
+    (c.in-Ok-resume.ensures.leaves parts c.requires.found) may)
+    (starts_of f.moment f.left_since head parts events mid new
+    (c.sweep_blocks.ensures.leaves events head parts events
+    (c.in-Ok-resume.ensures.head parts c.requires.found c.requires.first) (sym c.places.ensures)) may)

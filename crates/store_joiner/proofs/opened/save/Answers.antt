@@ -13,6 +13,7 @@ use Rattle.store_folder.specs.Writing.{EachSays}
 use Rattle.head_record.specs.Saved.{Saved}
 use Rattle.head.specs.Resuming.{MayStand}
 use Rattle.head.specs.Heads.{BlockPart}
+use Rattle.store_joiner.proofs.Starting.{found_starts, starts_on, untouched_starts}
 use Rattle.store_joiner.proofs.opened.save.Goals as goal
 
 pub returns-then-is_empty-clause-any_moment : goal.returns-then-is_empty-clause-any_moment
@@ -108,3 +109,33 @@ returns-in-Ok-clause-says_stays g c says =
 
 pub returns-in-Err-clause-says_stays : goal.returns-in-Err-clause-says_stays
 returns-in-Err-clause-says_stays g c says unless = c.in-Err.ensures.says_stays says unless
+
+-- what a start takes
+
+pub returns-then-is_empty-clause-starts : goal.returns-then-is_empty-clause-starts
+returns-then-is_empty-clause-starts g c may =
+    let f = g.F.Folder in
+    let met = g.met.F.Folder in
+    let store = c.args.found.store in
+    found_starts f.shows f.kept f.sound f.moment f.left_since met.only_now met.earlier
+    c.args.found.folder store.journal (map part_in store.blocks.items) c.requires.found may
+
+pub returns-in-Ok-clause-starts : goal.returns-in-Ok-clause-starts
+returns-in-Ok-clause-starts g c may =
+    let f = g.F.Folder in
+    let met = g.met.F.Folder in
+    let w = c.in-Ok.ensures.stands in
+    let old = c.args.found.folder in
+    let mid = c.in-Ok.folder in
+    let before = c.in-Ok.ensures.starts may in
+    match_so c.read_again.result _ _ _ _
+    (λ x u. starts_on f.moment f.left_since old mid x.folder before
+    (untouched_starts f.shows f.kept f.sound f.moment f.left_since met.only_now met.earlier w.0 w.1 [] mid
+    x.folder w.2 w.3 u))
+    (λ e u. starts_on f.moment f.left_since old mid e.1 before
+    (untouched_starts f.shows f.kept f.sound f.moment f.left_since met.only_now met.earlier w.0 w.1 [] mid
+    e.1 w.2 w.3 u))
+    c.read_again.ensures.untouched
+
+pub returns-in-Err-clause-starts : goal.returns-in-Err-clause-starts
+returns-in-Err-clause-starts g c may = c.in-Err.ensures.starts may

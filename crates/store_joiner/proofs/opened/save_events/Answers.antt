@@ -18,6 +18,10 @@ use Rattle.store_joiner.proofs.Says.{head_says, left_says}
 use Rattle.store_joiner.specs.declared.error.ChangeFault.TheVariants as faults
 use Rattle.store_joiner.specs.declared.error.ChangeFault.{ChangeFault}
 use Rattle.store_folder.specs.declared.error.RollFault.{RollFault}
+use Rattle.head.specs.Resuming.{MayStand}
+use Rattle.head_record.specs.Saved.{Saved}
+use Rattle.store_folder.specs.States.{started}
+use Rattle.store_joiner.proofs.Starting.{saved_starts, starts_of, starts_on}
 use Rattle.store_joiner.proofs.opened.save_events.Goals as goal
 
 abbrev rolled : RollFault → ChangeFault
@@ -219,3 +223,66 @@ returns-in-Ok-roll-clause-sound g c =
     events rolled.places.items (map part_in rolled.blocks.items)
     (c.roll.ensures.held events (inl goes.holds) goes.world) c.in-Ok-roll.ensures.open in
     (like.0.journal.keeps c.in-Ok-roll.ensures.open).has.is_sound
+
+-- what a start takes
+
+pub returns-in-Err-clause-starts : goal.returns-in-Err-clause-starts
+returns-in-Err-clause-starts g c may =
+    let f = g.F.Folder in
+    let found = c.args.found in
+    starts_of f.moment f.left_since found.store.journal.head (map part_in found.store.blocks.items)
+    found.store.journal.events.items found.folder c.in-Err.folder c.in-Err.ensures.leaves may
+
+pub returns-in-Ok-roll-clause-starts : goal.returns-in-Ok-roll-clause-starts
+returns-in-Ok-roll-clause-starts g c may =
+    let f = g.F.Folder in
+    let first = g.N.Beginning.first in
+    let found = c.args.found in
+    let parts = map part_in found.store.blocks.items in
+    let events = found.store.journal.events.items in
+    let head = found.store.journal.head in
+    let kept = c.in-Ok.kept in
+    let store = kept.keeper.store.events.journal in
+    let mid = store.medium.folder in
+    let new = c.roll.new.self.store.events.journal.medium.folder in
+    let goes : GoesOn f.shows f.kept f.sound f.moment f.left_since first store.medium store.len
+    store.closed events kept.keeper.places.items (map part_in kept.keeper.blocks.items) kept.snapshot =
+    subst (λ (x : FoundJournal). GoesOn f.shows f.kept f.sound f.moment f.left_since first
+    store.medium store.len store.closed x.events.items kept.keeper.places.items
+    (map part_in kept.keeper.blocks.items) kept.snapshot) c.in-Ok.ensures.journal
+    c.in-Ok.ensures.resumed in
+    let held = c.in-Ok.ensures.head in
+    let h = held.0.0 in
+    starts_on f.moment f.left_since found.folder mid new
+    (starts_of f.moment f.left_since head parts events found.folder mid c.in-Ok.ensures.leaves may)
+    (saved_starts f.moment f.left_since h.saved h.parts h.late first.values kept.snapshot mid new
+    (c.roll.ensures.leaves events held.0 goes.world goes.is_open)
+    (subst₂ (λ (x : Saved) (bs : List BlockPart). MayStand (started x bs)) (sym held.1) (sym held.2)
+    may))
+
+pub returns-clause-starts : goal.returns-clause-starts
+returns-clause-starts g c may =
+    let f = g.F.Folder in
+    let first = g.N.Beginning.first in
+    let found = c.args.found in
+    let parts = map part_in found.store.blocks.items in
+    let events = found.store.journal.events.items in
+    let head = found.store.journal.head in
+    let kept = c.in-Ok.kept in
+    let store = kept.keeper.store.events.journal in
+    let mid = store.medium.folder in
+    let new = c.roll.new.self.store.events.journal.medium.folder in
+    let goes : GoesOn f.shows f.kept f.sound f.moment f.left_since first store.medium store.len
+    store.closed events kept.keeper.places.items (map part_in kept.keeper.blocks.items) kept.snapshot =
+    subst (λ (x : FoundJournal). GoesOn f.shows f.kept f.sound f.moment f.left_since first
+    store.medium store.len store.closed x.events.items kept.keeper.places.items
+    (map part_in kept.keeper.blocks.items) kept.snapshot) c.in-Ok.ensures.journal
+    c.in-Ok.ensures.resumed in
+    let held = c.in-Ok.ensures.head in
+    let h = held.0.0 in
+    starts_on f.moment f.left_since found.folder mid new
+    (starts_of f.moment f.left_since head parts events found.folder mid c.in-Ok.ensures.leaves may)
+    (saved_starts f.moment f.left_since h.saved h.parts h.late first.values kept.snapshot mid new
+    (c.roll.ensures.leaves events held.0 goes.world goes.is_open)
+    (subst₂ (λ (x : Saved) (bs : List BlockPart). MayStand (started x bs)) (sym held.1) (sym held.2)
+    may))

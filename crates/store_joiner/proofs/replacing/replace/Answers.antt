@@ -14,6 +14,9 @@ use Rattle.store_folder.proofs.Says.{says_on, there_beside}
 use Rattle.store_folder.specs.Writing.{EachSays}
 use Rattle.head_record.specs.Saved.{Place}
 use Rattle.block_folder.specs.declared.values.Values.{Values}
+use Rattle.head.specs.Worlds.{Event}
+use Rattle.store_folder.specs.Holding.{HoldsThese}
+use Rattle.store_joiner.proofs.Starting.{found_starts, starts_of, starts_on}
 use Rattle.store_joiner.proofs.replacing.replace.Goals as goal
 
 abbrev rolled : RollFault → ChangeFault
@@ -183,3 +186,55 @@ returns-clause-says_stays g c says unless =
     (λ files among there. there_beside f.shows f.kept head.places files c.args.found.folder mid
     c.in-Ok-resume.ensures.others among there) says))
     (λ e. unless (ap (λ (x : RollFault). rolled x) e))
+
+-- what a start takes
+
+pub returns-in_default-clause-starts : goal.returns-in_default-clause-starts
+returns-in_default-clause-starts g c may =
+    let f = g.F.Folder in
+    let met = g.met.F.Folder in
+    let store = c.args.found.store in
+    found_starts f.shows f.kept f.sound f.moment f.left_since met.only_now met.earlier
+    c.args.found.folder store.journal (map part_in store.blocks.items) c.requires.found may
+
+pub returns-in-Err-clause-starts : goal.returns-in-Err-clause-starts
+returns-in-Err-clause-starts g c may =
+    let f = g.F.Folder in
+    let store = c.args.found.store in
+    let parts = map part_in store.blocks.items in
+    starts_of f.moment f.left_since store.journal.head parts store.journal.events.items
+    c.args.found.folder c.in-Err.folder (c.in-Err.ensures.leaves parts c.requires.found) may
+
+pub returns-in-Ok-replace_store-clause-starts : goal.returns-in-Ok-replace_store-clause-starts
+returns-in-Ok-replace_store-clause-starts g c may =
+    let f = g.F.Folder in
+    let first = g.N.Beginning.first in
+    let store = c.args.found.store in
+    let head = store.journal.head in
+    let parts = map part_in store.blocks.items in
+    let events = store.journal.events.items in
+    let j = c.in-Ok-resume.journal.events.journal in
+    starts_on f.moment f.left_since c.args.found.folder j.medium.folder c.in-Ok-replace_store.replaced.folder
+    (starts_of f.moment f.left_since head parts events c.args.found.folder j.medium.folder
+    (c.in-Ok-resume.ensures.leaves parts c.requires.found) may)
+    (c.in-Ok-replace_store.ensures.starts head parts events
+    (subst (λ (es : List Event). HoldsThese f.shows f.kept f.sound f.moment f.left_since first j.medium
+    j.len j.closed es head parts events) c.requires.saved
+    (c.in-Ok-resume.ensures.head parts c.requires.found c.requires.first)) (sym c.places.ensures) may)
+
+pub returns-clause-starts : goal.returns-clause-starts
+returns-clause-starts g c may =
+    let f = g.F.Folder in
+    let first = g.N.Beginning.first in
+    let store = c.args.found.store in
+    let head = store.journal.head in
+    let parts = map part_in store.blocks.items in
+    let events = store.journal.events.items in
+    let j = c.in-Ok-resume.journal.events.journal in
+    starts_on f.moment f.left_since c.args.found.folder j.medium.folder c.in-Err-replace_store.folder
+    (starts_of f.moment f.left_since head parts events c.args.found.folder j.medium.folder
+    (c.in-Ok-resume.ensures.leaves parts c.requires.found) may)
+    (c.in-Err-replace_store.ensures.starts head parts events
+    (subst (λ (es : List Event). HoldsThese f.shows f.kept f.sound f.moment f.left_since first j.medium
+    j.len j.closed es head parts events) c.requires.saved
+    (c.in-Ok-resume.ensures.head parts c.requires.found c.requires.first)) (sym c.places.ensures) may)

@@ -20,10 +20,11 @@ use Rattle.store_folder.proofs.Says.{files_apart, says_on}
 use Rattle.store_folder.proofs.Swept.{blocks_kept}
 use Rattle.store_joiner.specs.Finds.{other_of}
 use Rattle.store_joiner.proofs.Joins.{as_before, begun_anew, counted, finds_first}
-use Rattle.store_joiner.proofs.Joins.{finds_other}
+use Rattle.store_joiner.proofs.Joins.{begun_these, finds_other, rolling_starts, writing_starts}
 use Rattle.store_joiner.proofs.Joins.{keeps_before, meanwhile, next_head, now_at, roll_either, still_at}
 use Rattle.data_folder.proofs.Foreign.{foreign_beside, foreign_kept, foreign_then}
 use Rattle.store_joiner.proofs.Says.{head_says}
+use Rattle.store_joiner.proofs.Starting.{starts_on}
 use Rattle.store_joiner.proofs.storing.replace_store.Goals as goal
 
 pub write_saved-requires-clause-sound : goal.write_saved-requires-clause-sound
@@ -463,3 +464,107 @@ returns-clause-says_stays g c says unless =
     (λ files among there. c.in-Err-roll.ensures.files files (files_apart places files among) there)
     (says_on f.shows f.kept first.values places old.medium.folder mid
     (λ files among there. c.write_saved.ensures.stays.files files among there) says))
+
+-- what a start takes
+
+pub returns-in-Err-clause-starts : goal.returns-in-Err-clause-starts
+returns-in-Err-clause-starts g c saved parts late t is may =
+    let f = g.F.Folder in
+    let met = g.met.F.Folder in
+    let old = c.args.store.events.journal in
+    writing_starts f.shows f.kept f.sound f.moment f.left_since met.only_now met.earlier
+    g.N.Beginning.first old.medium c.write_saved.new.folder old.len old.closed saved parts late
+    c.args.held.now t c.requires.open is c.write_saved.ensures.stays may
+
+pub returns-in_default-clause-starts : goal.returns-in_default-clause-starts
+returns-in_default-clause-starts g c saved parts late t is may =
+    let f = g.F.Folder in
+    let met = g.met.F.Folder in
+    let old = c.args.store.events.journal in
+    writing_starts f.shows f.kept f.sound f.moment f.left_since met.only_now met.earlier
+    g.N.Beginning.first old.medium c.write_saved.new.folder old.len old.closed saved parts late
+    c.args.held.now t c.requires.open is c.write_saved.ensures.stays may
+
+pub returns-in-Err-head_journal-clause-starts : goal.returns-in-Err-head_journal-clause-starts
+returns-in-Err-head_journal-clause-starts g c saved parts late t is may =
+    let f = g.F.Folder in
+    let met = g.met.F.Folder in
+    let old = c.args.store.events.journal in
+    writing_starts f.shows f.kept f.sound f.moment f.left_since met.only_now met.earlier
+    g.N.Beginning.first old.medium c.write_saved.new.folder old.len old.closed saved parts late
+    c.args.held.now t c.requires.open is c.write_saved.ensures.stays may
+
+pub returns-in-Ok-roll-clause-starts : goal.returns-in-Ok-roll-clause-starts
+returns-in-Ok-roll-clause-starts g c saved parts late t is may =
+    let f = g.F.Folder in
+    let met = g.met.F.Folder in
+    let first = g.N.Beginning.first in
+    let old = c.args.store.events.journal in
+    let held = c.args.held.now in
+    let s = c.args.next.now in
+    let n = length s.blocks in
+    let mid = c.write_saved.new.folder in
+    let new = c.roll.new.journal in
+    let head = c.in-Ok.head in
+    let there = c.in-Ok.ensures.there in
+    let next =
+    next_head f.shows f.kept f.sound f.moment f.left_since met.only_now met.earlier first
+    (record (old.medium) { folder = mid }) s c.values-values.result head
+    (take 0 held ++ places_from c.next_number.result (n - 0)) there.0 c.values-values.ensures
+    c.in-Ok.ensures.saved c.in-Ok-head_journal.ensures.saved there.1 there.2 in
+    let whole =
+    subst (IsJournalText (contents_with (head_texts head) [])) (sym c.deref.ensures.value)
+    c.in-Ok-head_journal.ensures.text in
+    let stands = c.in-Ok.ensures.stands there.0 (each_like s.blocks there.0 there.1) in
+    let wrote = writing_starts f.shows f.kept f.sound f.moment f.left_since met.only_now met.earlier first
+    old.medium mid old.len old.closed saved parts late held t c.requires.open is
+    c.write_saved.ensures.stays may in
+    let after =
+    begun_these f.shows f.kept f.sound f.moment f.left_since met.only_now met.earlier first
+    (world_of s) (record (old.medium) { folder = mid }) new.medium new.len head there.0 next
+    c.in-Ok-roll.ensures.named (c.in-Ok-roll.ensures.ok (contents_with (head_texts head) []) whole)
+    c.in-Ok-roll.ensures.files in
+    starts_on f.moment f.left_since old.medium.folder mid c.sweep_apart.new.folder wrote
+    (starts_on f.moment f.left_since mid new.medium.folder c.sweep_apart.new.folder
+    (rolling_starts f.shows f.kept f.sound f.moment f.left_since met.only_now met.earlier first
+    (world_of s) old.medium mid new.medium.folder old.len old.closed saved parts late held head there.0
+    c.deref.result.now t c.requires.open is c.write_saved.ensures.stays next whole
+    c.in-Ok-roll.ensures.any_moment may stands)
+    (writing_starts f.shows f.kept f.sound f.moment f.left_since met.only_now met.earlier
+    (other_of first (world_of s)) new.medium c.sweep_apart.new.folder new.len false head there.0 []
+    head.places after refl refl
+    (subst (λ (ps : List Place). KeepsStore f.shows f.kept f.sound f.moment f.left_since
+    (names_at ps) new.medium.folder c.sweep_apart.new.folder)
+    (c.deref-in-Ok-roll.ensures.value ∙ c.in-Ok-from_slice.ensures.items ∙ c.places.ensures)
+    c.sweep_apart.ensures.kept) stands))
+
+pub returns-clause-starts : goal.returns-clause-starts
+returns-clause-starts g c saved parts late t is may =
+    let f = g.F.Folder in
+    let met = g.met.F.Folder in
+    let first = g.N.Beginning.first in
+    let old = c.args.store.events.journal in
+    let held = c.args.held.now in
+    let s = c.args.next.now in
+    let n = length s.blocks in
+    let mid = c.write_saved.new.folder in
+    let new = c.roll.new.journal in
+    let head = c.in-Ok.head in
+    let there = c.in-Ok.ensures.there in
+    let next =
+    next_head f.shows f.kept f.sound f.moment f.left_since met.only_now met.earlier first
+    (record (old.medium) { folder = mid }) s c.values-values.result head
+    (take 0 held ++ places_from c.next_number.result (n - 0)) there.0 c.values-values.ensures
+    c.in-Ok.ensures.saved c.in-Ok-head_journal.ensures.saved there.1 there.2 in
+    let whole =
+    subst (IsJournalText (contents_with (head_texts head) [])) (sym c.deref.ensures.value)
+    c.in-Ok-head_journal.ensures.text in
+    let stands = c.in-Ok.ensures.stands there.0 (each_like s.blocks there.0 there.1) in
+    let wrote = writing_starts f.shows f.kept f.sound f.moment f.left_since met.only_now met.earlier first
+    old.medium mid old.len old.closed saved parts late held t c.requires.open is
+    c.write_saved.ensures.stays may in
+    starts_on f.moment f.left_since old.medium.folder mid new.medium.folder wrote
+    (rolling_starts f.shows f.kept f.sound f.moment f.left_since met.only_now met.earlier first
+    (world_of s) old.medium mid new.medium.folder old.len old.closed saved parts late held head there.0
+    c.deref.result.now t c.requires.open is c.write_saved.ensures.stays next whole
+    c.in-Err-roll.ensures.any_moment may stands)

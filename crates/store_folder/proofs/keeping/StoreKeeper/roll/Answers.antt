@@ -1,16 +1,19 @@
-use Rattle.std.proofs.Common.{List, ap, inl, length, map, subst, sym, take, ◌++◌, ◌-◌, ◌∙◌}
+use Rattle.std.proofs.Common.{List, [], ap, inl, inr, length, map, refl, subst, sym, take, ◌++◌}
+use Rattle.std.proofs.Common.{◌-◌, ◌∙◌}
 use Rattle.block.specs.Blocks.{Shown}
 use Rattle.data_folder.proofs.Foreign.{foreign_rests, foreign_then}
+use Rattle.data_folder.proofs.Moments.{joined, weaker}
 use Rattle.data_folder.specs.Sweeping.{AreAmong}
 use Rattle.head.specs.Blocks.{part_in}
 use Rattle.head_record.specs.Saved.{Place, save}
 use Rattle.store_folder.specs.KeeperLaws.{as_store}
-use Rattle.store_folder.specs.Saving.{AreBelow, IsAbove}
+use Rattle.store_folder.specs.Saving.{AreBelow, IsAbove, IsOldOrSaved}
+use Rattle.store_folder.specs.States.{IsState}
 use Rattle.store_folder.specs.Sweeps.{names_at}
 use Rattle.store_folder.specs.Writing.{EachSays, places_from}
 use Rattle.store_folder.proofs.Fronts.{failed_like, may_save, open_like, saved_like}
 use Rattle.store_folder.proofs.HeadsAlone.{head_stays}
-use Rattle.store_folder.proofs.Rolls.{finds_on, stays_so}
+use Rattle.store_folder.proofs.Rolls.{at_these, finds_on, state_rests, stays_so}
 use Rattle.store_folder.proofs.Says.{says_on}
 use Rattle.store_folder.proofs.keeping.StoreKeeper.roll.Goals as goal
 
@@ -55,7 +58,8 @@ sweep_blocks-requires-clause-held g c =
     (ap (λ (bs : List Shown). map part_in bs) c.deref.ensures.value) c.same_blocks-same.ensures.few
     c.same_blocks-same.ensures.same in
     let placed = c.in-Ok-save.ensures.places events like.0.parts may in
-    let at = placed.2 in
+    let at = at_these f.shows f.kept f.sound f.moment f.left_since first _ _ _ events _ placed.0 []
+    c.in-Ok-save.places.items placed.2 refl in
     (events, placed.0, (at.0, at.1 ∙ sym c.deref-in-Ok-save.ensures.value, at.2))
 
 pub sweep_after-requires : goal.sweep_after-requires
@@ -77,7 +81,8 @@ sweep_after-requires g c opened =
     c.deref-3.ensures.value c.blocks-3.ensures
     (ap (λ (bs : List Shown). map part_in bs) c.deref.ensures.value) c.same_blocks-same.ensures.few
     c.same_blocks-same.ensures.same in
-    let at = c.in-Err.ensures.err events like.0.parts may opened in
+    let at = at_these f.shows f.kept f.sound f.moment f.left_since first _ _ _ events _ _ _ _
+    (c.in-Err.ensures.same events like.0.parts may opened) may.holds.1 in
     (events, like.0.parts, (at.0, at.1 ∙ (c.deref-3.ensures.value ∙ sym c.deref-in-Err.ensures.value), at.2))
 
 pub returns-in-Ok-save-clause-held : goal.returns-in-Ok-save-clause-held
@@ -97,7 +102,8 @@ returns-in-Ok-save-clause-held g c events held world =
     (ap (λ (bs : List Shown). map part_in bs) c.deref.ensures.value) c.same_blocks-same.ensures.few
     c.same_blocks-same.ensures.same in
     let placed = c.in-Ok-save.ensures.places events like.0.parts may in
-    let at = placed.2 in
+    let at = at_these f.shows f.kept f.sound f.moment f.left_since first _ _ _ events _ placed.0 []
+    c.in-Ok-save.places.items placed.2 refl in
     let swept = c.sweep_blocks.ensures.held events placed.0
     (at.0, at.1 ∙ sym c.deref-in-Ok-save.ensures.value, at.2) in
     let now = c.sweep_blocks.new.self.events.journal in
@@ -126,7 +132,8 @@ returns-in-Ok-save-clause-any_moment g c events held world opened =
     (ap (λ (bs : List Shown). map part_in bs) c.deref.ensures.value) c.same_blocks-same.ensures.few
     c.same_blocks-same.ensures.same in
     let placed = c.in-Ok-save.ensures.places events like.0.parts may in
-    let at = placed.2 in
+    let at = at_these f.shows f.kept f.sound f.moment f.left_since first _ _ _ events _ placed.0 []
+    c.in-Ok-save.places.items placed.2 refl in
     finds_on f.moment f.left_since first events j.medium.folder
     c.save.new.self.events.journal.medium.folder
     c.sweep_blocks.new.self.events.journal.medium.folder
@@ -157,10 +164,12 @@ returns-in-Err-clause-held g c events held world =
     failed_like f.shows f.kept f.sound f.moment f.left_since met.only_now first j.medium mid.medium
     now.medium j.len mid.len now.len j.closed mid.closed now.closed events self.places.items
     c.deref-in-Err.result.now blocks like c.sweep_after.ensures.closed
-    (λ opened. (let at = c.in-Err.ensures.err events parts may opened in (at.0, at.1 ∙ there, at.2)))
+    (λ opened. (let at = at_these f.shows f.kept f.sound f.moment f.left_since first _ _ _ events _ _ _ _
+    (c.in-Err.ensures.same events parts may opened) may.holds.1 in (at.0, at.1 ∙ there, at.2)))
     (λ opened at. c.sweep_after.ensures.at opened events parts at)
     (c.sweep_after.ensures.held events parts
-    (λ opened. (let at = c.in-Err.ensures.err events parts may opened in (at.0, at.1 ∙ there, at.2)))
+    (λ opened. (let at = at_these f.shows f.kept f.sound f.moment f.left_since first _ _ _ events _ _ _ _
+    (c.in-Err.ensures.same events parts may opened) may.holds.1 in (at.0, at.1 ∙ there, at.2)))
     (c.in-Err.ensures.held events parts may))
     c.deref-in-Err.ensures.value
 
@@ -183,8 +192,68 @@ returns-in-Err-clause-any_moment g c events held world opened =
     let parts = like.0.parts in
     let there = c.deref-3.ensures.value ∙ sym c.deref-in-Err.ensures.value in
     c.sweep_after.ensures.any_moment events parts j.medium.folder
-    (λ goes. (let at = c.in-Err.ensures.err events parts may goes in (at.0, at.1 ∙ there, at.2)))
+    (λ goes. (let at = at_these f.shows f.kept f.sound f.moment f.left_since first _ _ _ events _ _ _ _
+    (c.in-Err.ensures.same events parts may goes) may.holds.1 in (at.0, at.1 ∙ there, at.2)))
     (c.in-Err.ensures.any_moment events parts may opened)
+
+-- what is left is the store as it was, or what is saved
+
+pub returns-in-Ok-save-clause-leaves : goal.returns-in-Ok-save-clause-leaves
+returns-in-Ok-save-clause-leaves g c events h world opened =
+    let f = g.F.Folder in
+    let self = c.args.self.now in
+    let j = self.store.events.journal in
+    let first = g.N.Beginning.first in
+    let blocks = map part_in self.blocks.items in
+    let may = may_save f.shows f.kept f.sound f.moment f.left_since first j.medium j.len j.closed
+    events self.places.items c.deref-3.result.now blocks (map part_in c.blocks-3.result.now)
+    (map part_in c.deref.result.now) c.args.snapshot.now c.same_blocks-same.result h world
+    c.deref-3.ensures.value c.blocks-3.ensures
+    (ap (λ (bs : List Shown). map part_in bs) c.deref.ensures.value) c.same_blocks-same.ensures.few
+    c.same_blocks-same.ensures.same in
+    let s = c.args.snapshot.now in
+    let places = c.in-Ok-save.places.items in
+    let saved = save first.values s places in
+    let placed = c.in-Ok-save.ensures.places events h.0.parts may in
+    let mid = c.save.new.self.events.journal.medium.folder in
+    let new = c.sweep_blocks.new.self.events.journal.medium.folder in
+    let P = IsOldOrSaved h.0.saved h.0.parts h.0.late first.values s in
+    joined f.moment f.left_since j.medium.folder mid new P
+    (c.in-Ok-save.ensures.leaves events h.0.parts may opened)
+    (weaker f.moment f.left_since mid new (IsState saved placed.0 []) P
+    (λ left state. inr (places, placed.0, placed.1, state,
+    c.in-Ok-save.ensures.stands placed.0 placed.1))
+    (c.sweep_blocks.ensures.leaves events saved placed.0 [] placed.2
+    (sym c.deref-in-Ok-save.ensures.value)))
+
+pub returns-in-Err-clause-leaves : goal.returns-in-Err-clause-leaves
+returns-in-Err-clause-leaves g c events h world opened =
+    let f = g.F.Folder in
+    let self = c.args.self.now in
+    let j = self.store.events.journal in
+    let first = g.N.Beginning.first in
+    let blocks = map part_in self.blocks.items in
+    let may = may_save f.shows f.kept f.sound f.moment f.left_since first j.medium j.len j.closed
+    events self.places.items c.deref-3.result.now blocks (map part_in c.blocks-3.result.now)
+    (map part_in c.deref.result.now) c.args.snapshot.now c.same_blocks-same.result h world
+    c.deref-3.ensures.value c.blocks-3.ensures
+    (ap (λ (bs : List Shown). map part_in bs) c.deref.ensures.value) c.same_blocks-same.ensures.few
+    c.same_blocks-same.ensures.same in
+    c.sweep_after.ensures.leaves events h.0.saved h.0.parts h.0.late first.values c.args.snapshot.now
+    j.medium.folder (λ goes. c.in-Err.ensures.same events h.0.parts may goes)
+    (h.1 ∙ sym c.deref-in-Err.ensures.value) (c.in-Err.ensures.leaves events h.0.parts may opened)
+
+pub returns-in_default-clause-leaves : goal.returns-in_default-clause-leaves
+returns-in_default-clause-leaves g c events h world opened =
+    let f = g.F.Folder in
+    let met = g.met.F.Folder in
+    let j = c.args.self.now.store.events.journal in
+    let folder = j.medium.folder in
+    weaker f.moment f.left_since folder folder (IsState h.0.saved h.0.parts h.0.late)
+    (IsOldOrSaved h.0.saved h.0.parts h.0.late g.N.Beginning.first.values c.args.snapshot.now)
+    (λ left state. inl state)
+    (state_rests f.shows f.kept f.sound f.moment f.left_since met.only_now met.earlier
+    g.N.Beginning.first j.medium j.len j.closed events h.0 opened)
 
 -- no memory was left
 

@@ -4,7 +4,10 @@ use Rattle.head.specs.Blocks.{part_in}
 use Rattle.keeper.specs.Finding.{AreAll}
 use Rattle.store_folder.specs.KeeperLaws.{as_store}
 use Rattle.store_folder.proofs.Kept.{before_kept, each_kept, these_alone}
-use Rattle.store_folder.proofs.Rolls.{stays_so}
+use Rattle.data_folder.proofs.Moments.{weaker}
+use Rattle.store_folder.specs.Saving.{IsOldOrSaved}
+use Rattle.store_folder.specs.States.{IsState}
+use Rattle.store_folder.proofs.Rolls.{state_rests, stays_so}
 use Rattle.store_folder.proofs.keeping.StoreKeeperKeeper.checkpoint.Goals as goal
 
 pub returns-then-not-are_met-clause-any_moment : goal.returns-then-not-are_met-clause-any_moment
@@ -54,6 +57,28 @@ returns-in-Err-clause-any_moment g c events held world opened =
           c.args.self.now.store.events.journal.medium.folder c.roll.new.self.store.events.journal.medium.folder (AreAll events)
           (these_alone f.moment f.left_since g.N.Beginning.first events c.args.self.now.store.events.journal.medium.folder c.roll.new.self.store.events.journal.medium.folder found) t left le had;
     }
+
+-- what is left is the store as it was, or what is saved
+
+pub returns-then-not-are_met-clause-leaves : goal.returns-then-not-are_met-clause-leaves
+returns-then-not-are_met-clause-leaves g c events h world opened =
+    let f = g.F.Folder in
+    let met = g.met.F.Folder in
+    let j = c.args.self.now.store.events.journal in
+    let folder = j.medium.folder in
+    weaker f.moment f.left_since folder folder (IsState h.0.saved h.0.parts h.0.late)
+    (IsOldOrSaved h.0.saved h.0.parts h.0.late g.N.Beginning.first.values c.args.snapshot.now)
+    (λ left state. inl state)
+    (state_rests f.shows f.kept f.sound f.moment f.left_since met.only_now met.earlier
+    g.N.Beginning.first j.medium j.len j.closed events h.0 opened)
+
+pub returns-in-Ok-clause-leaves : goal.returns-in-Ok-clause-leaves
+returns-in-Ok-clause-leaves g c events h world opened =
+    c.in-Ok.ensures.leaves events h world opened
+
+pub returns-in-Err-clause-leaves : goal.returns-in-Err-clause-leaves
+returns-in-Err-clause-leaves g c events h world opened =
+    c.in-Err.ensures.leaves events h world opened
 
 -- what is none of the store's
 

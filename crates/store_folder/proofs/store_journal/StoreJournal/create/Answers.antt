@@ -7,6 +7,7 @@ use Rattle.head_record.specs.Saved.{Saved}
 use Rattle.head_record.specs.Spelling.{head_texts, IsSaved}
 use Rattle.journal.specs.Group.{IsJournalText}
 use Rattle.store_folder.specs.Starting.{nothing_with}
+use Rattle.store_folder.proofs.Rolls.{at_these}
 use Rattle.store_folder.proofs.Starts.{holds_nothing, leaves_nothing, none_yet}
 use Rattle.store_folder.proofs.store_journal.StoreJournal.create.Goals as goal
 
@@ -32,8 +33,8 @@ begin-requires-clause-whole g c = (
       c.in-Ok.ensures.text,
 )
 
-pub returns-in-Ok-begin-clause-places : goal.returns-in-Ok-begin-clause-places
-returns-in-Ok-begin-clause-places g c =
+pub returns-in-Ok-begin-clause-head : goal.returns-in-Ok-begin-clause-head
+returns-in-Ok-begin-clause-head g c =
     let f = g.F.Folder in
     let j = c.in-Ok-begin.journal in (
       holds_nothing f.shows f.kept f.sound f.moment f.left_since g.met.F.Folder.only_now
@@ -44,7 +45,14 @@ returns-in-Ok-begin-clause-places g c =
           c.in-Ok.ensures.text)),
       refl,
       refl,
+      refl,
     )
+
+pub returns-in-Ok-begin-clause-places : goal.returns-in-Ok-begin-clause-places
+returns-in-Ok-begin-clause-places g c =
+    let f = g.F.Folder in
+    at_these f.shows f.kept f.sound f.moment f.left_since g.N.Beginning.first _ _ _ [] _ [] [] []
+    (returns-in-Ok-begin-clause-head g c) refl
 
 pub returns-in-Ok-begin-clause-holds : goal.returns-in-Ok-begin-clause-holds
 returns-in-Ok-begin-clause-holds g c =

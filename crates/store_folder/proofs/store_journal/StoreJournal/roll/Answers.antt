@@ -1,14 +1,19 @@
-use Rattle.std.proofs.Common.{◌≡◌, ◌++◌, true, false, [], inl, subst, sym, ◌∙◌}
+use Rattle.std.proofs.Common.{◌≡◌, ◌++◌, true, false, List, [], inl, refl, subst, sym, ◌∙◌}
+use Rattle.data_folder.specs.Folders.{LeavesOnly}
 use Rattle.data_folder.specs.JournalFile.{journal_name, next_name}
-use Rattle.data_folder.proofs.Moments.{nothing_changed}
+use Rattle.data_folder.proofs.Moments.{nothing_changed, weaker}
 use Rattle.event_journal.specs.Holding.{contents_with}
+use Rattle.head.specs.Heads.{BlockPart}
+use Rattle.head.specs.Worlds.{Event}
+use Rattle.head_record.specs.Saved.{Saved}
 use Rattle.head_record.specs.Spelling.{head_texts}
 use Rattle.journal.specs.Group.{IsJournalText}
 use Rattle.store_folder.specs.KeeperLaws.{open_head}
 use Rattle.store_folder.proofs.HeadsAlone.{head_alone}
 use Rattle.store_folder.proofs.Rolls.{apart_both, files_of_both, goes_on, keeps_now, not_rolled}
-use Rattle.store_folder.proofs.Rolls.{roll_finds}
-use Rattle.store_folder.proofs.Rolls.{rolled, same_head, stays_so, there_both}
+use Rattle.store_folder.proofs.Rolls.{of_these, roll_finds, roll_leaves, rolled, same_these}
+use Rattle.store_folder.proofs.Rolls.{state_rests, stays_so, there_both}
+use Rattle.store_folder.specs.States.{IsEither, IsState}
 use Rattle.store_folder.proofs.store_journal.StoreJournal.roll.Goals as goal
 
 pub roll-requires-clause-kept : goal.roll-requires-clause-kept
@@ -30,8 +35,8 @@ roll-requires-clause-whole g c =
     let new = contents_with (head_texts c.args.head.now) [] in
     (new, subst (IsJournalText new) (sym c.deref.ensures.value) c.in-Ok.ensures.text)
 
-pub returns-in-Ok-roll-clause-places : goal.returns-in-Ok-roll-clause-places
-returns-in-Ok-roll-clause-places g c events parts m =
+pub returns-in-Ok-roll-clause-alone : goal.returns-in-Ok-roll-clause-alone
+returns-in-Ok-roll-clause-alone g c events parts m =
     let f = g.F.Folder in
     let met = g.met.F.Folder in
     let old = c.args.self.now.events.journal in
@@ -72,57 +77,87 @@ returns-clause-goes_on g c unless opened =
 
 pub returns-in-Ok-roll-clause-held : goal.returns-in-Ok-roll-clause-held
 returns-in-Ok-roll-clause-held g c events parts m =
-    let h = returns-in-Ok-roll-clause-places g c events parts m in inl h.0
+    let t = returns-in-Ok-roll-clause-alone g c events parts m in inl t.0
+
+pub returns-in-Ok-roll-clause-leaves : goal.returns-in-Ok-roll-clause-leaves
+returns-in-Ok-roll-clause-leaves g c events was parts blocks late t m opened =
+    let f = g.F.Folder in
+    let met = g.met.F.Folder in
+    let first = g.N.Beginning.first in
+    let old = c.args.self.now.events.journal in
+    let made = c.roll.new.journal in
+    let saved = c.args.head.now in
+    let new = contents_with (head_texts saved) [] in
+    let h = t.0 in
+    of_these f.shows f.kept f.sound f.moment f.left_since
+    (λ (x : Saved) (bs : List BlockPart) (es : List Event). LeavesOnly f.moment f.left_since
+    old.medium.folder made.medium.folder (IsEither x bs es saved blocks)) first old.medium old.len
+    old.closed events was parts late t
+    (roll_leaves f.shows f.kept f.sound f.moment f.left_since met.only_now met.earlier first old.medium
+    made.medium.folder old.len old.closed saved blocks events h m.blocks c.in-Ok.ensures.saved
+    (c.in-Ok-roll.ensures.any_moment (head_texts h.saved ++ h.journal.contents) new
+    (files_of_both f.shows f.kept h.saved.places saved.places h.parts blocks old.medium.folder
+    h.blocks m.blocks)
+    (keeps_now f.shows f.kept f.sound f.moment f.left_since met.only_now met.earlier first old.medium
+    old.len old.closed events h opened)
+    (subst (IsJournalText new) (sym c.deref.ensures.value) c.in-Ok.ensures.text)
+    (apart_both f.shows f.kept h.saved.places saved.places h.parts blocks old.medium.folder h.blocks
+    m.blocks)
+    (there_both f.shows f.kept h.saved.places saved.places h.parts blocks old.medium.folder h.blocks
+    m.blocks)))
 
 pub returns-in-Ok-roll-clause-any_moment : goal.returns-in-Ok-roll-clause-any_moment
 returns-in-Ok-roll-clause-any_moment g c events parts m opened =
     let f = g.F.Folder in
     let met = g.met.F.Folder in
+    let first = g.N.Beginning.first in
+    let old = c.args.self.now.events.journal in
+    let h =
+    open_head f.shows f.kept f.sound f.moment f.left_since met.only_now first old.medium old.len
+    old.closed events m.holds opened in
+    roll_finds f.shows f.kept f.sound f.moment f.left_since met.only_now met.earlier first old.medium
+    c.roll.new.journal.medium old.len old.closed c.args.head.now parts events h m
+    (returns-in-Ok-roll-clause-leaves g c events h.saved h.parts parts h.late (h, refl, refl, refl) m opened)
+
+pub returns-clause-leaves : goal.returns-clause-leaves
+returns-clause-leaves g c events was parts blocks late t m opened =
+    let f = g.F.Folder in
+    let met = g.met.F.Folder in
+    let first = g.N.Beginning.first in
     let old = c.args.self.now.events.journal in
     let made = c.roll.new.journal in
     let saved = c.args.head.now in
     let new = contents_with (head_texts saved) [] in
-    let h =
-    open_head f.shows f.kept f.sound f.moment f.left_since met.only_now g.N.Beginning.first old.medium
-    old.len old.closed events m.holds opened in
-    roll_finds f.shows f.kept f.sound f.moment f.left_since met.only_now met.earlier
-    g.N.Beginning.first old.medium made.medium old.len old.closed saved parts events h m
-    c.in-Ok.ensures.saved
-    (c.in-Ok-roll.ensures.any_moment (head_texts h.saved ++ h.journal.contents) new
-    (files_of_both f.shows f.kept h.saved.places saved.places h.parts parts old.medium.folder
+    let h = t.0 in
+    of_these f.shows f.kept f.sound f.moment f.left_since
+    (λ (x : Saved) (bs : List BlockPart) (es : List Event). LeavesOnly f.moment f.left_since
+    old.medium.folder made.medium.folder (IsEither x bs es saved blocks)) first old.medium old.len
+    old.closed events was parts late t
+    (roll_leaves f.shows f.kept f.sound f.moment f.left_since met.only_now met.earlier first old.medium
+    made.medium.folder old.len old.closed saved blocks events h m.blocks c.in-Ok.ensures.saved
+    (c.in-Err-roll.ensures.any_moment (head_texts h.saved ++ h.journal.contents) new
+    (files_of_both f.shows f.kept h.saved.places saved.places h.parts blocks old.medium.folder
     h.blocks m.blocks)
-    (keeps_now f.shows f.kept f.sound f.moment f.left_since met.only_now met.earlier
-    g.N.Beginning.first old.medium old.len old.closed events h opened)
+    (keeps_now f.shows f.kept f.sound f.moment f.left_since met.only_now met.earlier first old.medium
+    old.len old.closed events h opened)
     (subst (IsJournalText new) (sym c.deref.ensures.value) c.in-Ok.ensures.text)
-    (apart_both f.shows f.kept h.saved.places saved.places h.parts parts old.medium.folder h.blocks
+    (apart_both f.shows f.kept h.saved.places saved.places h.parts blocks old.medium.folder h.blocks
     m.blocks)
-    (there_both f.shows f.kept h.saved.places saved.places h.parts parts old.medium.folder h.blocks
-    m.blocks))
+    (there_both f.shows f.kept h.saved.places saved.places h.parts blocks old.medium.folder h.blocks
+    m.blocks)))
 
 pub returns-clause-any_moment : goal.returns-clause-any_moment
 returns-clause-any_moment g c events parts m opened =
     let f = g.F.Folder in
     let met = g.met.F.Folder in
+    let first = g.N.Beginning.first in
     let old = c.args.self.now.events.journal in
-    let made = c.roll.new.journal in
-    let saved = c.args.head.now in
-    let new = contents_with (head_texts saved) [] in
     let h =
-    open_head f.shows f.kept f.sound f.moment f.left_since met.only_now g.N.Beginning.first old.medium
-    old.len old.closed events m.holds opened in
-    roll_finds f.shows f.kept f.sound f.moment f.left_since met.only_now met.earlier
-    g.N.Beginning.first old.medium made.medium old.len old.closed saved parts events h m
-    c.in-Ok.ensures.saved
-    (c.in-Err-roll.ensures.any_moment (head_texts h.saved ++ h.journal.contents) new
-    (files_of_both f.shows f.kept h.saved.places saved.places h.parts parts old.medium.folder
-    h.blocks m.blocks)
-    (keeps_now f.shows f.kept f.sound f.moment f.left_since met.only_now met.earlier
-    g.N.Beginning.first old.medium old.len old.closed events h opened)
-    (subst (IsJournalText new) (sym c.deref.ensures.value) c.in-Ok.ensures.text)
-    (apart_both f.shows f.kept h.saved.places saved.places h.parts parts old.medium.folder h.blocks
-    m.blocks)
-    (there_both f.shows f.kept h.saved.places saved.places h.parts parts old.medium.folder h.blocks
-    m.blocks))
+    open_head f.shows f.kept f.sound f.moment f.left_since met.only_now first old.medium old.len
+    old.closed events m.holds opened in
+    roll_finds f.shows f.kept f.sound f.moment f.left_since met.only_now met.earlier first old.medium
+    c.roll.new.journal.medium old.len old.closed c.args.head.now parts events h m
+    (returns-clause-leaves g c events h.saved h.parts parts h.late (h, refl, refl, refl) m opened)
 
 pub returns-clause-held : goal.returns-clause-held
 returns-clause-held g c events parts m =
@@ -142,16 +177,16 @@ returns-clause-held g c events parts m =
     g.N.Beginning.first old.medium old.len old.closed events h opened))
     c.in-Err-roll.ensures.files (returns-clause-any_moment g c events parts m opened)
 
-pub returns-clause-err : goal.returns-clause-err
-returns-clause-err g c events places parts at goes_on =
+pub returns-clause-same : goal.returns-clause-same
+returns-clause-same g c events was parts late t goes_on =
     let f = g.F.Folder in
     let met = g.met.F.Folder in
     let old = c.args.self.now.events.journal in
     let made = c.roll.new.journal in
-    let h = at.0 in
-    same_head f.shows f.kept f.sound f.moment f.left_since met.only_now met.earlier
-    g.N.Beginning.first old.medium made.medium old.len made.len old.closed made.closed events places
-    parts at c.if-self.false c.in-Err-roll.ensures.names
+    let h = t.0 in
+    same_these f.shows f.kept f.sound f.moment f.left_since met.only_now met.earlier
+    g.N.Beginning.first old.medium made.medium old.len made.len old.closed made.closed events was
+    parts late t c.if-self.false c.in-Err-roll.ensures.names
     (c.in-Err-roll.ensures.err (head_texts h.saved ++ h.journal.contents)
     (keeps_now f.shows f.kept f.sound f.moment f.left_since met.only_now met.earlier
     g.N.Beginning.first old.medium old.len old.closed events h c.if-self.false) goes_on)
@@ -159,11 +194,31 @@ returns-clause-err g c events places parts at goes_on =
 
 -- where nothing was done
 
-pub returns-then-self-clause-err : goal.returns-then-self-clause-err
-returns-then-self-clause-err g c events places parts at goes_on = at
+pub returns-then-self-clause-same : goal.returns-then-self-clause-same
+returns-then-self-clause-same g c events was parts late t goes_on = t
 
-pub returns-in-Err-clause-err : goal.returns-in-Err-clause-err
-returns-in-Err-clause-err g c events places parts at goes_on = at
+pub returns-in-Err-clause-same : goal.returns-in-Err-clause-same
+returns-in-Err-clause-same g c events was parts late t goes_on = t
+
+pub returns-then-self-clause-leaves : goal.returns-then-self-clause-leaves
+returns-then-self-clause-leaves g c events was parts blocks late t m opened =
+    absurd (let a : true ≡ false = sym c.if-self.true ∙ opened in cc)
+
+pub returns-in-Err-clause-leaves : goal.returns-in-Err-clause-leaves
+returns-in-Err-clause-leaves g c events was parts blocks late t m opened =
+    let f = g.F.Folder in
+    let met = g.met.F.Folder in
+    let old = c.args.self.now.events.journal in
+    let folder = old.medium.folder in
+    let saved = c.args.head.now in
+    of_these f.shows f.kept f.sound f.moment f.left_since
+    (λ (x : Saved) (bs : List BlockPart) (es : List Event). LeavesOnly f.moment f.left_since folder
+    folder (IsEither x bs es saved blocks)) g.N.Beginning.first old.medium old.len old.closed events
+    was parts late t
+    (weaker f.moment f.left_since folder folder (IsState t.0.saved t.0.parts t.0.late)
+    (IsEither t.0.saved t.0.parts t.0.late saved blocks) (λ left state. inl state)
+    (state_rests f.shows f.kept f.sound f.moment f.left_since met.only_now met.earlier
+    g.N.Beginning.first old.medium old.len old.closed events t.0 opened))
 
 pub returns-then-self-clause-held : goal.returns-then-self-clause-held
 returns-then-self-clause-held g c events parts m = m.holds

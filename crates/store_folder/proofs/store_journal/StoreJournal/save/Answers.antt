@@ -6,9 +6,10 @@ use Rattle.event_journal.specs.Holding.{contents_with}
 use Rattle.head_record.specs.Saved.{Place, Saved, save}
 use Rattle.head_record.specs.Spelling.{head_texts}
 use Rattle.journal.specs.Records.{file_of}
-use Rattle.store_folder.specs.Holding.{HoldsAt}
+use Rattle.store_folder.specs.Holding.{HoldsThese}
 use Rattle.store_folder.specs.Writing.{EachSays, places_from}
-use Rattle.store_folder.proofs.Saves.{enough, like_made, may_roll, still_held, writing_finds}
+use Rattle.store_folder.proofs.Saves.{enough, like_made, may_roll, saving_leaves, still_held}
+use Rattle.store_folder.proofs.Saves.{still_these, writing_finds, writing_leaves}
 use Rattle.store_folder.proofs.HeadsAlone.{same_alone}
 use Rattle.store_folder.proofs.Rolls.{finds_on}
 use Rattle.store_folder.proofs.Says.{says_on, says_saved, there_beside}
@@ -27,8 +28,8 @@ write_saved-requires-clause-blocks g c =
     let given = c.requires c.if-self.false in
     enough f.shows f.kept f.sound f.moment f.left_since met.only_now met.earlier first old.medium old.len old.closed given.0 s held given.1 same given.2
 
-pub returns-in-Err-clause-err : goal.returns-in-Err-clause-err
-returns-in-Err-clause-err g c events parts may goes_on =
+pub returns-in-Err-clause-same : goal.returns-in-Err-clause-same
+returns-in-Err-clause-same g c events parts may goes_on =
     let f = g.F.Folder in
     let met = g.met.F.Folder in
     let old = c.args.self.now.events.journal in
@@ -36,9 +37,22 @@ returns-in-Err-clause-err g c events parts may goes_on =
     let held = c.args.held.now in
     let same = c.args.same in
     let first = g.N.Beginning.first in
-    still_held f.shows f.kept f.sound f.moment f.left_since met.only_now met.earlier first old.medium
+    still_these f.shows f.kept f.sound f.moment f.left_since met.only_now met.earlier first old.medium
     (record (old.medium) { folder = c.write_saved.new.folder }) old.len old.closed events s held
     parts same may c.if-self.false refl
+    c.write_saved.ensures.stays
+
+pub returns-in-Err-clause-leaves : goal.returns-in-Err-clause-leaves
+returns-in-Err-clause-leaves g c events parts may opened =
+    let f = g.F.Folder in
+    let met = g.met.F.Folder in
+    let old = c.args.self.now.events.journal in
+    let s = c.args.snapshot.now in
+    let held = c.args.held.now in
+    let same = c.args.same in
+    let first = g.N.Beginning.first in
+    writing_leaves f.shows f.kept f.sound f.moment f.left_since met.only_now met.earlier first old.medium
+    c.write_saved.new.folder old.len old.closed events s held parts same first.values may opened
     c.write_saved.ensures.stays
 
 pub returns-in-Err-clause-held : goal.returns-in-Err-clause-held
@@ -71,8 +85,8 @@ returns-in-Err-clause-any_moment g c events parts may opened =
     parts same may c.if-self.false
     c.write_saved.ensures.stays
 
-pub returns-in_default-clause-err : goal.returns-in_default-clause-err
-returns-in_default-clause-err g c events parts may goes_on =
+pub returns-in_default-clause-same : goal.returns-in_default-clause-same
+returns-in_default-clause-same g c events parts may goes_on =
     let f = g.F.Folder in
     let met = g.met.F.Folder in
     let old = c.args.self.now.events.journal in
@@ -80,9 +94,22 @@ returns-in_default-clause-err g c events parts may goes_on =
     let held = c.args.held.now in
     let same = c.args.same in
     let first = g.N.Beginning.first in
-    still_held f.shows f.kept f.sound f.moment f.left_since met.only_now met.earlier first old.medium
+    still_these f.shows f.kept f.sound f.moment f.left_since met.only_now met.earlier first old.medium
     (record (old.medium) { folder = c.write_saved.new.folder }) old.len old.closed events s held
     parts same may c.if-self.false refl
+    c.write_saved.ensures.stays
+
+pub returns-in_default-clause-leaves : goal.returns-in_default-clause-leaves
+returns-in_default-clause-leaves g c events parts may opened =
+    let f = g.F.Folder in
+    let met = g.met.F.Folder in
+    let old = c.args.self.now.events.journal in
+    let s = c.args.snapshot.now in
+    let held = c.args.held.now in
+    let same = c.args.same in
+    let first = g.N.Beginning.first in
+    writing_leaves f.shows f.kept f.sound f.moment f.left_since met.only_now met.earlier first old.medium
+    c.write_saved.new.folder old.len old.closed events s held parts same first.values may opened
     c.write_saved.ensures.stays
 
 pub returns-in_default-clause-held : goal.returns-in_default-clause-held
@@ -177,13 +204,18 @@ returns-in-Ok-roll-clause-places g c events parts may =
     c.in-Ok.head may c.if-self.false refl c.write_saved.ensures.stays there.1 there.2
     c.values-values.ensures
     c.in-Ok.ensures.saved in
-    let now = c.roll.new.self.events.journal in (
+    let now = c.roll.new.self.events.journal in
+    let named = c.in-Ok-from_slice.ensures.items ∙ c.places.ensures in
+    let is =
+    c.in-Ok.ensures.saved
+    ∙ (ap (save c.values-values.result s)
+    (sym (named ∙ ap (λ (h : Saved). h.places) c.in-Ok.ensures.saved))
+    ∙ ap (λ (v : Values). save v s c.in-Ok-from_slice.places.items) c.values-values.ensures) in (
       made,
       like_made f.shows f.kept f.sound f.moment f.left_since met.only_now met.earlier first old.medium old.len old.closed events s held parts same there.0 may there.1,
-      subst (λ (ps : List Place). HoldsAt f.shows f.kept f.sound f.moment f.left_since first
-          now.medium now.len now.closed events ps made)
-          (sym (c.in-Ok-from_slice.ensures.items ∙ c.places.ensures))
-          (c.in-Ok-roll.ensures.places events made rolls),
+      subst (λ (x : Saved). HoldsThese f.shows f.kept f.sound f.moment f.left_since first
+          now.medium now.len now.closed events x made []) is
+          (c.in-Ok-roll.ensures.alone events made rolls),
     )
 
 pub returns-in-Ok-roll-clause-any_moment : goal.returns-in-Ok-roll-clause-any_moment
@@ -234,8 +266,8 @@ returns-clause-held g c events parts may =
     c.in-Ok.ensures.saved in
     c.in-Err-roll.ensures.held events made rolls
 
-pub returns-clause-err : goal.returns-clause-err
-returns-clause-err g c events parts may goes_on =
+pub returns-clause-same : goal.returns-clause-same
+returns-clause-same g c events parts may goes_on =
     let f = g.F.Folder in
     let met = g.met.F.Folder in
     let old = c.args.self.now.events.journal in
@@ -243,8 +275,9 @@ returns-clause-err g c events parts may goes_on =
     let held = c.args.held.now in
     let same = c.args.same in
     let first = g.N.Beginning.first in
-    c.in-Err-roll.ensures.err events held parts
-    (still_held f.shows f.kept f.sound f.moment f.left_since met.only_now met.earlier first old.medium
+    let h = may.holds.0 in
+    c.in-Err-roll.ensures.same events h.saved h.parts h.late
+    (still_these f.shows f.kept f.sound f.moment f.left_since met.only_now met.earlier first old.medium
     (record (old.medium) { folder = c.write_saved.new.folder }) old.len old.closed events s held
     parts same may c.if-self.false refl
     c.write_saved.ensures.stays) goes_on
@@ -275,6 +308,74 @@ returns-clause-any_moment g c events parts may opened =
     parts same may c.if-self.false
     c.write_saved.ensures.stays)
     (c.in-Err-roll.ensures.any_moment events made rolls c.if-self.false)
+
+pub returns-in-Ok-roll-clause-leaves : goal.returns-in-Ok-roll-clause-leaves
+returns-in-Ok-roll-clause-leaves g c events parts may opened =
+    let f = g.F.Folder in
+    let met = g.met.F.Folder in
+    let old = c.args.self.now.events.journal in
+    let s = c.args.snapshot.now in
+    let held = c.args.held.now in
+    let same = c.args.same in
+    let first = g.N.Beginning.first in
+    let there = c.in-Ok.ensures.there in
+    let made = take same parts ++ there.0 in
+    let places = places_from c.args.next (length s.blocks - same) in
+    let rolls =
+    may_roll f.shows f.kept f.sound f.moment f.left_since met.only_now met.earlier first old.medium
+    (record (old.medium) { folder = c.write_saved.new.folder }) old.len old.closed events s held
+    parts same places there.0 c.values-values.result c.in-Ok.head may c.if-self.false refl
+    c.write_saved.ensures.stays there.1 there.2 c.values-values.ensures c.in-Ok.ensures.saved in
+    let h = may.holds.0 in
+    saving_leaves f.shows f.kept f.sound f.moment f.left_since met.only_now met.earlier first old.medium
+    c.write_saved.new.folder c.roll.new.self.events.journal.medium.folder old.len old.closed events s
+    held parts same first.values c.values-values.result (take same held ++ places) made c.in-Ok.head may
+    opened c.write_saved.ensures.stays
+    (like_made f.shows f.kept f.sound f.moment f.left_since met.only_now met.earlier first old.medium
+    old.len old.closed events s held parts same there.0 may there.1)
+    (c.in-Ok.ensures.stands made (like_made f.shows f.kept f.sound f.moment f.left_since met.only_now
+    met.earlier first old.medium old.len old.closed events s held parts same there.0 may there.1))
+    c.values-values.ensures c.in-Ok.ensures.saved
+    (c.in-Ok-roll.ensures.leaves events h.saved h.parts made h.late
+    (still_these f.shows f.kept f.sound f.moment f.left_since met.only_now met.earlier first old.medium
+    (record (old.medium) { folder = c.write_saved.new.folder }) old.len old.closed events s held
+    parts same may c.if-self.false refl
+    c.write_saved.ensures.stays)
+    rolls c.if-self.false)
+
+pub returns-clause-leaves : goal.returns-clause-leaves
+returns-clause-leaves g c events parts may opened =
+    let f = g.F.Folder in
+    let met = g.met.F.Folder in
+    let old = c.args.self.now.events.journal in
+    let s = c.args.snapshot.now in
+    let held = c.args.held.now in
+    let same = c.args.same in
+    let first = g.N.Beginning.first in
+    let there = c.in-Ok.ensures.there in
+    let made = take same parts ++ there.0 in
+    let places = places_from c.args.next (length s.blocks - same) in
+    let rolls =
+    may_roll f.shows f.kept f.sound f.moment f.left_since met.only_now met.earlier first old.medium
+    (record (old.medium) { folder = c.write_saved.new.folder }) old.len old.closed events s held
+    parts same places there.0 c.values-values.result c.in-Ok.head may c.if-self.false refl
+    c.write_saved.ensures.stays there.1 there.2 c.values-values.ensures c.in-Ok.ensures.saved in
+    let h = may.holds.0 in
+    saving_leaves f.shows f.kept f.sound f.moment f.left_since met.only_now met.earlier first old.medium
+    c.write_saved.new.folder c.roll.new.self.events.journal.medium.folder old.len old.closed events s
+    held parts same first.values c.values-values.result (take same held ++ places) made c.in-Ok.head may
+    opened c.write_saved.ensures.stays
+    (like_made f.shows f.kept f.sound f.moment f.left_since met.only_now met.earlier first old.medium
+    old.len old.closed events s held parts same there.0 may there.1)
+    (c.in-Ok.ensures.stands made (like_made f.shows f.kept f.sound f.moment f.left_since met.only_now
+    met.earlier first old.medium old.len old.closed events s held parts same there.0 may there.1))
+    c.values-values.ensures c.in-Ok.ensures.saved
+    (c.in-Err-roll.ensures.leaves events h.saved h.parts made h.late
+    (still_these f.shows f.kept f.sound f.moment f.left_since met.only_now met.earlier first old.medium
+    (record (old.medium) { folder = c.write_saved.new.folder }) old.len old.closed events s held
+    parts same may c.if-self.false refl
+    c.write_saved.ensures.stays)
+    rolls c.if-self.false)
 
 pub returns-in-Ok-roll-clause-len : goal.returns-in-Ok-roll-clause-len
 returns-in-Ok-roll-clause-len g c =

@@ -1,5 +1,8 @@
 use Rattle.std.proofs.Common.{inl}
 use Rattle.data_folder.proofs.Foreign.{foreign_rests}
+use Rattle.data_folder.proofs.Moments.{joined, weaker}
+use Rattle.store_folder.specs.Saving.{IsOldOrSaved}
+use Rattle.store_folder.specs.States.{IsState}
 use Rattle.store_folder.proofs.Rolls.{finds_on}
 use Rattle.store_folder.proofs.store_journal.StoreJournal.sweep_after.Goals as goal
 
@@ -42,3 +45,16 @@ returns-then-self-clause-blocks g c files among there = there
 pub returns-clause-blocks : goal.returns-clause-blocks
 returns-clause-blocks g c files among there =
     c.sweep_blocks.ensures.kept.files files among there
+
+pub returns-then-self-clause-leaves : goal.returns-then-self-clause-leaves
+returns-then-self-clause-leaves g c events saved parts late values s before t is leaves = leaves
+
+pub returns-clause-leaves : goal.returns-clause-leaves
+returns-clause-leaves g c events saved parts late values s before t is leaves =
+    let f = g.F.Folder in
+    let old = c.args.self.now.events.journal.medium.folder in
+    let new = c.sweep_blocks.new.self.events.journal.medium.folder in
+    let P = IsOldOrSaved saved parts late values s in
+    joined f.moment f.left_since before old new P leaves
+    (weaker f.moment f.left_since old new (IsState saved parts late) P (λ left state. inl state)
+    (c.sweep_blocks.ensures.leaves events saved parts late (t c.if-self.false) is))

@@ -1,7 +1,7 @@
 use Rattle.std.proofs.Common.{refl}
 use Rattle.data_folder.proofs.Foreign.{foreign_kept}
 use Rattle.store_folder.specs.Sweeps.{names_at}
-use Rattle.store_folder.proofs.Swept.{holds_swept, swept_finds}
+use Rattle.store_folder.proofs.Swept.{holds_swept, swept_finds, these_leave}
 use Rattle.store_folder.proofs.store_journal.StoreJournal.sweep_blocks.Goals as goal
 
 pub sweep_apart-requires : goal.sweep_apart-requires
@@ -36,3 +36,12 @@ returns-clause-foreign g c =
 
 pub returns-clause-kept : goal.returns-clause-kept
 returns-clause-kept g c = c.sweep_apart.ensures.kept
+
+pub returns-clause-leaves : goal.returns-clause-leaves
+returns-clause-leaves g c events saved parts late t is =
+    let f = g.F.Folder in
+    let met = g.met.F.Folder in
+    let old = c.args.self.now.events.journal in
+    these_leave f.shows f.kept f.sound f.moment f.left_since met.only_now met.earlier
+    g.N.Beginning.first old.medium c.sweep_apart.new.folder old.len old.closed events saved parts late
+    c.args.places.now t c.requires.open is c.sweep_apart.ensures.kept
