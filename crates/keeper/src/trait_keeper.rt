@@ -1,7 +1,7 @@
 //! Where events are kept before they are published.
 
 ghost use Rattle.std.specs.Prelude.{◌≡◌, ◌⊎◌, ◌++◌, ℕ, Bool, List, true, false, Err, OnOk};
-ghost use Rattle.std.specs.Prelude.{None, OnErr, IfOk, IsErrOf, Ok};
+ghost use Rattle.std.specs.Prelude.{◌≤◌, None, OnErr, IfOk, IsErrOf, Ok};
 ghost use Rattle.head.specs.Heads.{SnapshotParts, world_of};
 ghost use Rattle.head.specs.Worlds.{Event as Change, World};
 ghost use Rattle.keeper.specs.Finding.{AreAll, AreAllAndMore, AreAllAndSome, IsOfAll};
@@ -159,6 +159,10 @@ pub trait Keeper {
         ensures lost { closed self.new ≡ true
             → (closed self.old ≡ true) ⊎ (failed self.new ≡ true) };
 
+    /// What may be left since a moment may be left since an earlier one.
+    ghost earlier: { (k : Self) (t u : ℕ) (left : Left) → t ≤ u → u ≤ moment k
+        → left_since k u left → left_since k t left };
+
     /// A crash at this moment leaves all that it keeps, and more at most, though it be closed.
     ghost now: { (k : Self) (events : List Change) (left : Left) → holds k events
         → left_since k (moment k) left → StandsForSome stands (AreAllAndMore events) left };
@@ -244,6 +248,8 @@ impl Keeper for NoKeeper {
     ) -> Result<Option<usize>, KeepError> {
         Ok(None)
     }
+
+    ghost earlier = { λ k t u left le fits none. none };
 
     ghost now = { λ k events left held none. absurd none };
 

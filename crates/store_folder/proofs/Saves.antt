@@ -226,10 +226,11 @@ module _ {F : Type 0} (shows : F → List ℕ → Option (List ℕ) → Type 0)
       → Stays (names_at held) old.folder new.folder → AreRewritten (drop same s.blocks) news
       → AreAt shows kept places news new.folder → values ≡ first.values
       → saved ≡ save values s (take same held ++ places)
+      → ((made : List BlockPart) → AreLike s.blocks made → MayStand (started saved made))
       → MayRoll shows kept sound moment left_since first new len closed events saved
       (take same parts ++ news)
   may_roll first old new len closed events s held parts same places news values saved may opened
-      named stays anew at means is =
+      named stays anew at means is stands =
       let holds = still_held first old new len closed events s held parts same may opened named
       stays in
       subst (λ (x : Saved). MayRoll shows kept sound moment left_since first new len closed events x
@@ -241,6 +242,8 @@ module _ {F : Type 0} (shows : F → List ℕ → Option (List ℕ) → Type 0)
             (have_same s.blocks (take same parts ++ news)
             (made_like same s.blocks parts news may.front anew)) refl refl may.world;
         values = means;
+        may = subst (λ (x : Saved). MayStand (started x (take same parts ++ news))) is
+            (stands (take same parts ++ news) (made_like same s.blocks parts news may.front anew));
         blocks = at_joined shows kept (take same held) places (take same parts) news new.folder
             (at_first shows kept same held parts new.folder
             (held_blocks first new len closed events held parts holds)) at;

@@ -1,6 +1,6 @@
 -- What the meta.json of blocks says, while a store is saved.
 use Rattle.std.proofs.Common.{◌≡◌, ◌≢◌, ℕ, zero, suc, Bool, true, false, List, [], ◌∷◌, ◌++◌, Option}
-use Rattle.std.proofs.Common.{Some, length, refl, subst, take}
+use Rattle.std.proofs.Common.{Some, ap, append_assoc, length, refl, subst, sym, take, ◌∙◌}
 use Rattle.std.proofs.Common.{◌⊎◌, inl, inr, ⊎_elim}
 use Rattle.std.specs.Prelude.{◌||◌, codes, decimal}
 use Rattle.std.specs.List.{AllByRecursion}
@@ -13,9 +13,10 @@ use Rattle.data_folder.specs.States.{AreThere, IsApart, Named}
 use Rattle.data_folder.specs.Sweeping.{AreAmong, is_among}
 use Rattle.head_record.specs.Saved.{Place}
 use Rattle.store_folder.specs.Blocks.{name_in}
-use Rattle.store_folder.specs.Sweeps.{names_at}
+use Rattle.store_folder.specs.Sweeps.{names_at, names_of}
 use Rattle.store_folder.specs.Writing.{EachSays, Says, places_from}
 use Rattle.store_folder.proofs.Rolls.{begins_so, joined}
+use Rattle.store_folder.proofs.Swept.{among_more}
 use Rattle.store_folder.proofs.Writes.{says_still}
 
 or_either : (a b : Bool) → (a || b) ≡ true → (a ≡ true) ⊎ (b ≡ true)
@@ -60,6 +61,25 @@ files_apart places (file ∷ files) among = (
   of_one IsNoJournal (names_at places) file.0 (names_apart places) among.0,
   files_apart places files among.1,
 )
+
+-- the files of the last of some places are among those of all
+
+more_among : (names : List (List ℕ)) (rest : List (List ℕ)) (files : List Named) → AreAmong rest files
+    → AreAmong (names ++ rest) files
+more_among [] rest files h = h
+more_among (name ∷ names) rest files h = among_more name (names ++ rest) files (more_among names rest files h)
+
+names_joined : (first last : List Place) → names_at (first ++ last) ≡ names_at first ++ names_at last
+names_joined [] last = refl
+names_joined (p ∷ first) last =
+    ap (λ (x : List (List ℕ)). names_of p ++ x) (names_joined first last)
+    ∙ sym (append_assoc (names_of p) (names_at first) (names_at last))
+
+pub among_last : (first last : List Place) (files : List Named) (all : List Place)
+    → all ≡ first ++ last → AreAmong (names_at last) files → AreAmong (names_at all) files
+among_last first last files all is h =
+    subst (λ (x : List (List ℕ)). AreAmong x files) (sym (ap names_at is ∙ names_joined first last))
+    (more_among (names_at first) (names_at last) files h)
 
 module _ {F : Type 0} (shows : F → List ℕ → Option (List ℕ) → Type 0)
     (kept : F → List ℕ → ℕ → Type 0) where

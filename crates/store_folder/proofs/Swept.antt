@@ -48,7 +48,7 @@ after : (other name : List ℕ) (names : List (List ℕ)) → is_among names nam
     → is_among (other ∷ names) name ≡ true
 after other name names h = or_second (bytes_eq other name) (is_among names name) h
 
-among_more : (other : List ℕ) (names : List (List ℕ)) (files : List Named)
+pub among_more : (other : List ℕ) (names : List (List ℕ)) (files : List Named)
     → AreAmong names files → AreAmong (other ∷ names) files
 among_more other names [] h = tt
 among_more other names (file ∷ files) h =

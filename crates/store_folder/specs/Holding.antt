@@ -89,7 +89,8 @@ HoldsAt shows kept sound moment left_since first m len closed events places part
     (h : HoldsAfterHead shows kept sound moment left_since first m len closed events)
     × (h.saved.places ≡ places) × (h.parts ≡ parts)
 
--- the same, and these are the head, its blocks, and the events after the head
+-- the folder keeps the events since the first world: after this head, of these blocks, these late
+-- ones
 abbrev pub HoldsThese : {F : Type 0} → (F → List ℕ → Option (List ℕ) → Type 0)
     → (F → List ℕ → ℕ → Type 0) → (F → Bool) → (F → ℕ) → (F → ℕ → Left → Type 0) → Origin
     → JournalFile F → ℕ → Bool → List Event → Saved → List BlockPart → List Event → Type 0

@@ -5,6 +5,7 @@ use Rattle.data_folder.specs.Folders.{HasFile, Left}
 use Rattle.data_folder.specs.JournalFile.{journal_name}
 use Rattle.event_journal.specs.Holding.{contents_with}
 use Rattle.head.specs.Heads.{BlockPart, world_of}
+use Rattle.head.specs.Resuming.{MayStand}
 use Rattle.head.specs.Worlds.{Event, replayed}
 use Rattle.head_record.specs.Saved.{Saved}
 use Rattle.head_record.specs.Spelling.{head_texts}
@@ -14,8 +15,8 @@ use Rattle.store_folder.specs.Journals.{IsJournalOf}
 use Rattle.store_folder.specs.Origins.{Origin}
 use Rattle.store_folder.specs.States.{started}
 
--- the events are held, the head says their world and what the values mean, and the files of its
--- blocks are there for good
+-- the events are held, the head says their world and what the values mean, it may be a snapshot with
+-- its blocks, and their files are there for good
 pub record MayRoll {F : Type 0} (shows : F → List ℕ → Option (List ℕ) → Type 0)
     (kept : F → List ℕ → ℕ → Type 0) (sound : F → Bool) (moment : F → ℕ)
     (left_since : F → ℕ → Left → Type 0) (first : Origin) (m : JournalFile F) (len : ℕ)
@@ -24,6 +25,7 @@ pub record MayRoll {F : Type 0} (shows : F → List ℕ → Option (List ℕ) �
   pub holds : HoldsStore shows kept sound moment left_since first m len closed events
   pub world : replayed first.world events ≡ Ok (world_of (started saved parts))
   pub values : saved.values ≡ first.values
+  pub may : MayStand (started saved parts)
   pub blocks : AreAt shows kept saved.places parts m.folder
 
 -- the file of a journal of this head and no events

@@ -34,9 +34,9 @@ IsAbove n places =
 abbrev pub AreBelow : ℕ → List Place → Type 0
 AreBelow n places = AllByRecursion (λ (p : Place). p.0 < n) places
 
--- what is left is the store of this head, these blocks and these events after the head; or what is
--- saved of the snapshot, with blocks like its own at some places, and no events: a start makes a
--- snapshot of it
+-- what is left is the store of this head, these blocks and these events after the head; or it is
+-- that of what is saved of the snapshot, with blocks like its own at some places, and no events,
+-- which may be a snapshot
 abbrev pub IsOldOrSaved : Saved → List BlockPart → List Event → Values → SnapshotParts → Left
     → Type 0
 IsOldOrSaved saved parts events values s left =

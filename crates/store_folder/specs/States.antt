@@ -98,7 +98,8 @@ Means values left =
     AreBytes left → (saved : Saved) (parts : List BlockPart) (events : List Event)
     → IsState saved parts events left → saved.values ≡ values
 
--- if these are files of bytes and a store, a start makes a snapshot of its head and its blocks
+-- if these are files of bytes and a store, no start refuses its head and its blocks: they may be a
+-- snapshot
 abbrev pub MayStart : Left → Type 0
 MayStart left =
     AreBytes left → (saved : Saved) (parts : List BlockPart) (events : List Event)

@@ -138,7 +138,7 @@ impl<N: Beginning, F: Folder + Drop> StoreKeeper<N, F> {
             → self.old.store.events.journal.closed ≡ false
             → StartFinds F.moment F.left_since self.old.store.events.journal.medium.folder
             self.new.store.events.journal.medium.folder N.first events }
-        // It leaves the store as it was, or what is saved of the snapshot, and no events.
+        // Such a crash leaves the store as it was, or what is saved of the snapshot, and no events.
         ensures leaves { (events : List Change)
             → (h : HoldsLike F.shows F.kept F.sound F.moment F.left_since N.first
             self.old.store.events.journal.medium self.old.store.events.journal.len
@@ -164,12 +164,16 @@ impl<N: Beginning, F: Folder + Drop> StoreKeeper<N, F> {
               len = self.old.store.events.journal.len;
               blocks = length snapshot.now.blocks;
             }) }
-        // What is written lies in folders of the least numbers that are above those before.
+        // What is written lies in folders of the least numbers that are above those before, and its
+        // `meta.json` says what the values mean.
         ensures numbers { OnOk result ((same next : ℕ) × (1 ≤ next)
             × IsAbove next self.old.places.items
             × ((n : ℕ) → 1 ≤ n → AreBelow n self.old.places.items → next ≤ n)
             × (self.new.places.items ≡ take same self.old.places.items
-            ++ places_from next (length snapshot.now.blocks - same))) }
+            ++ places_from next (length snapshot.now.blocks - same))
+            × EachSays F.shows F.kept N.first.values
+            (places_from next (length snapshot.now.blocks - same))
+            self.new.store.events.journal.medium.folder) }
         // What is none of the store's stays.
         ensures foreign { KeepsForeign F.shows F.kept self.old.store.events.journal.medium.folder
             self.new.store.events.journal.medium.folder }

@@ -63,7 +63,7 @@ impl<N: Beginning, F: Folder + Drop> Keeper for StoreKeeper<N, F> {
     ghost use Rattle.store_folder.specs.KeeperLaws.{as_store, finds_no_other, finds_world};
     ghost use Rattle.store_folder.specs.KeeperLaws.{now_kept, settled_kept};
     ghost use Rattle.store_folder.specs.States.{StartsWith, started};
-    ghost use Rattle.store_folder.specs.Writing.{AreLike};
+    ghost use Rattle.store_folder.specs.Writing.{AreLike, EachSays};
 
     ghost first = { N.first.world };
 
@@ -211,7 +211,7 @@ impl<N: Beginning, F: Folder + Drop> Keeper for StoreKeeper<N, F> {
             → LeavesEvents ⟦<StoreKeeper<N, F> as Keeper>⟧.moment
             ⟦<StoreKeeper<N, F> as Keeper>⟧.left_since
             ⟦<StoreKeeper<N, F> as Keeper>⟧.stands self.old self.new (AreAll events) }
-        // A crash leaves the store as it was, or what is saved of the snapshot, and no events.
+        // Such a crash leaves the store as it was, or what is saved of the snapshot, and no events.
         ensures leaves { (events : List Change)
             → (h : HoldsLike F.shows F.kept F.sound F.moment F.left_since N.first
             self.old.store.events.journal.medium self.old.store.events.journal.len
@@ -262,6 +262,11 @@ impl<N: Beginning, F: Folder + Drop> Keeper for StoreKeeper<N, F> {
         ensures foreign { KeepsForeign F.shows F.kept
             self.old.store.events.journal.medium.folder
             self.new.store.events.journal.medium.folder }
+        // Once the `meta.json` of each block says what the values mean, it does so from then on.
+        ensures says { EachSays F.shows F.kept N.first.values self.old.places.items
+            self.old.store.events.journal.medium.folder
+            → EachSays F.shows F.kept N.first.values self.new.places.items
+            self.new.store.events.journal.medium.folder }
     {
         if self.store.events.journal.closed {
             return Ok(None);
@@ -275,6 +280,11 @@ impl<N: Beginning, F: Folder + Drop> Keeper for StoreKeeper<N, F> {
             Err(fault) => Err(kept_error(fault)),
         }
     }
+
+    ghost earlier = { λ k t u left le fits had. (
+      F.earlier k.store.events.journal.medium.folder t u left le fits had.0,
+      had.1,
+    ) };
 
     ghost now = { λ k events left held had. now_kept F.shows F.kept F.sound F.moment F.left_since
         (λ f name x n left shown kept since. F.only_now f name x n left shown kept since) N.first

@@ -22,8 +22,7 @@ pub fn one_meaning()
         → StandsFor first events left → Means first.values left }
 {}
 
-/// A start makes a snapshot of what is left of a store, if the store's head and its blocks may be
-/// one.
+/// No start refuses the head and the blocks of what is left of a store, if they may be a snapshot.
 pub fn may_start()
     ensures { (saved : Saved) (parts : List BlockPart) (events : List Change) (left : Left)
         → IsState saved parts events left → MayStand (started saved parts) → MayStart left }

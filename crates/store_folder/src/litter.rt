@@ -124,7 +124,7 @@ impl<N: Beginning, F: Folder + Drop> StoreJournal<N, F> {
             self.old.events.journal.closed events places.now parts
             → StartFinds F.moment F.left_since self.old.events.journal.medium.folder
             self.new.events.journal.medium.folder N.first events }
-        // It leaves the same head, with its blocks and the events after it.
+        // Such a crash leaves the same head, with its blocks and the events after it.
         ensures leaves { (events : List Change) (saved : Saved) (parts : List BlockPart)
             (late : List Change)
             → HoldsThese F.shows F.kept F.sound F.moment F.left_since N.first
@@ -182,7 +182,7 @@ impl<N: Beginning, F: Folder + Drop> StoreJournal<N, F> {
             N.first events
             → StartFinds F.moment F.left_since before self.new.events.journal.medium.folder
             N.first events }
-        // What it leaves since a folder is so as before it.
+        // Such a crash leaves what one before the call may leave.
         ensures leaves { (events : List Change) (saved : Saved) (parts : List BlockPart)
             (late : List Change) (values : Values) (s : SnapshotParts) (before : F)
             → (self.old.events.journal.closed ≡ false

@@ -24,7 +24,8 @@ use std::alloc::Global;
 
 impl<N: Beginning, F: Folder + Drop> StoreJournal<N, F> {
     /// Begins the journal anew with this head, which says the world of all events so far and what
-    /// the values mean. The files of its blocks lie in the folder. No event may be kept meanwhile.
+    /// the values mean. The files of its blocks lie in the folder, and a start makes a snapshot of it
+    /// and of them. No event may be kept meanwhile.
     ///
     /// The journal goes on as it was unless the error is `Lost`: then it is closed.
     pub fn roll(&mut self, alloc: Global, head: &HeadRecord) -> Result<(), RollFault>
@@ -66,7 +67,7 @@ impl<N: Beginning, F: Folder + Drop> StoreJournal<N, F> {
             → self.old.events.journal.closed ≡ false
             → StartFinds F.moment F.left_since self.old.events.journal.medium.folder
             self.new.events.journal.medium.folder N.first events }
-        // It leaves the store as it was, or the new head with its blocks and no events.
+        // Such a crash leaves the store as it was, or the new head with its blocks and no events.
         ensures leaves { (events : List Change) (saved : Saved) (parts blocks : List BlockPart)
             (late : List Change)
             → HoldsThese F.shows F.kept F.sound F.moment F.left_since N.first

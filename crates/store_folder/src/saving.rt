@@ -155,7 +155,7 @@ impl<N: Beginning, F: Folder + Drop> StoreJournal<N, F> {
             → self.old.events.journal.closed ≡ false
             → StartFinds F.moment F.left_since self.old.events.journal.medium.folder
             self.new.events.journal.medium.folder N.first events }
-        // It leaves the store as it was, or what is saved of the snapshot, and no events.
+        // Such a crash leaves the store as it was, or what is saved of the snapshot, and no events.
         ensures leaves { (events : List Change) (parts : List BlockPart)
             → (m : MaySave F.shows F.kept F.sound F.moment F.left_since N.first
             self.old.events.journal.medium self.old.events.journal.len
@@ -190,8 +190,12 @@ impl<N: Beginning, F: Folder + Drop> StoreJournal<N, F> {
         ensures blocks { (files : List Named) → AreAmong (names_at held.now) files
             → AreThere F.shows F.kept files self.old.events.journal.medium.folder
             → AreThere F.shows F.kept files self.new.events.journal.medium.folder }
-        // If the `meta.json` of each of these says what the values mean, then so does that of each
-        // block that the head names.
+        // The `meta.json` of each block that is written says what the values mean.
+        ensures written { OnOk result (EachSays F.shows F.kept N.first.values
+            (places_from next (length snapshot.now.blocks - same))
+            self.new.events.journal.medium.folder) }
+        // If that of each held block says so too, then so does that of each block that the head
+        // names.
         ensures says { IfOk result (λ places.
             EachSays F.shows F.kept N.first.values held.now
             self.old.events.journal.medium.folder

@@ -1,11 +1,12 @@
 //! How a store goes on, and how one begins.
 
-ghost use Rattle.std.specs.Prelude.{◌≡◌, ◌⊎◌, List, [], None, Ok, IfOk, IfErr, MatchResult};
+ghost use Rattle.std.specs.Prelude.{◌≡◌, ◌⊎◌, List, [], None, Ok, IfOk, IfErr, MatchResult, OnOk};
 ghost use Rattle.std.specs.Prelude.{false, length, map, true};
 ghost use Rattle.data_folder.specs.Folders.{KeepsOthers, LeavesOnly};
 ghost use Rattle.data_folder.specs.JournalFile.{journal_name, next_name};
 ghost use Rattle.head.specs.Blocks.{part_in};
 ghost use Rattle.head.specs.Heads.{BlockPart, world_of};
+ghost use Rattle.head.specs.Resuming.{MayStand};
 ghost use Rattle.head.specs.Worlds.{replayed};
 ghost use Rattle.journal.specs.declared.error.JournalError.TheVariants.{Memory as NoRecord};
 ghost use Rattle.store_folder.specs.Codes.{cause_of};
@@ -16,7 +17,7 @@ ghost use Rattle.store_folder.specs.Starting.{IsNoneOrNothing, IsNoRefusal, IsRe
 ghost use Rattle.store_folder.specs.Starting.{StartFinds, nothing_saved, nothing_with};
 ghost use Rattle.store_folder.specs.Refusals.{IsRefusal};
 ghost use Rattle.store_folder.specs.Origins.{beginning};
-ghost use Rattle.store_folder.specs.States.{HasWorld, IsState, origin_of};
+ghost use Rattle.store_folder.specs.States.{HasWorld, IsState, origin_of, started};
 ghost use Rattle.store_folder.specs.Terms.{begun_len};
 ghost use Rattle.store_folder.specs.declared.error.ReadError.TheVariants.{Journal as Records};
 ghost use Rattle.store_folder.specs.declared.error.StartCause.TheVariants.{Refused};
@@ -76,6 +77,8 @@ fn snapshot_of(
 ) -> Result<Snapshot, StartError>
     ensures world { IfOk result (λ s. HasWorld journal.now.head (map part_in blocks.items)
         journal.now.events.items (world_of s)) }
+    ensures stands { OnOk result (MayStand
+        (started journal.now.head (map part_in blocks.items))) }
     ensures refused { IfErr result (λ e. DeniesStart journal.now.head (map part_in blocks.items)
         journal.now.events.items e) }
 {
@@ -198,7 +201,7 @@ impl<N: Beginning, F: Folder + Drop> StoreJournal<N, F> {
             journal.now.events.items)
             (λ e. StartFinds F.moment F.left_since folder e.1 N.first
             journal.now.events.items) }
-        // It leaves the head and the events that were found.
+        // Such a crash leaves the head and the events that were found.
         ensures leaves { (parts : List BlockPart)
             → IsFoundStore F.shows F.kept journal.now parts folder → MatchResult result
             (λ k. LeavesOnly F.moment F.left_since folder k.events.journal.medium.folder
@@ -238,6 +241,7 @@ pub fn begin_store<N: Beginning, F: Folder + Drop>(
         N.first x.keeper.store.events.journal.medium x.keeper.store.events.journal.len
         x.keeper.store.events.journal.closed x.journal.events.items x.keeper.places.items
         (map part_in x.keeper.blocks.items) x.snapshot) }
+    // The journal has the head of a store that has nothing, and no events, and takes more.
     ensures alone { IfOk result (λ x. HoldsThese F.shows F.kept F.sound F.moment F.left_since
         N.first x.keeper.store.events.journal.medium x.keeper.store.events.journal.len
         x.keeper.store.events.journal.closed [] (nothing_with values) [] []) }
@@ -314,6 +318,9 @@ pub fn resume_store<N: Beginning, F: Folder + Drop>(
         N.first x.keeper.store.events.journal.medium x.keeper.store.events.journal.len
         x.keeper.store.events.journal.closed x.journal.events.items x.keeper.places.items
         (map part_in x.keeper.blocks.items) x.snapshot) }
+    // They may be a snapshot: else the start is refused.
+    ensures stands { OnOk result (MayStand
+        (started found.journal.head (map part_in found.blocks.items))) }
     // The keeper's blocks lie where the head says.
     ensures places { IfOk result (λ x.
         x.keeper.places.items ≡ found.journal.head.places) }
@@ -341,7 +348,7 @@ pub fn resume_store<N: Beginning, F: Folder + Drop>(
         (λ x. StartFinds F.moment F.left_since folder
         x.keeper.store.events.journal.medium.folder N.first found.journal.events.items)
         (λ e. StartFinds F.moment F.left_since folder e.1 N.first found.journal.events.items) }
-    // It leaves the head and the events that were found.
+    // Such a crash leaves the head and the events that were found.
     ensures leaves { MatchResult result
         (λ x. LeavesOnly F.moment F.left_since folder
         x.keeper.store.events.journal.medium.folder (IsState found.journal.head

@@ -43,6 +43,9 @@ returns-in-Ok-resume-clause-any_moment g c =
     c.in-Ok-resume.ensures.any_moment (map part_in c.args.found.blocks.items) c.requires.found
     c.requires.first
 
+pub returns-in-Ok-resume-clause-stands : goal.returns-in-Ok-resume-clause-stands
+returns-in-Ok-resume-clause-stands g c = c.in-Ok-snapshot_of.ensures.stands
+
 pub returns-in-Ok-resume-clause-head : goal.returns-in-Ok-resume-clause-head
 returns-in-Ok-resume-clause-head g c =
     let parts = map part_in c.args.found.blocks.items in

@@ -14,7 +14,7 @@ use Rattle.store_folder.specs.Writing.{EachSays, places_from}
 use Rattle.store_folder.proofs.Fronts.{failed_like, may_save, open_like, saved_like}
 use Rattle.store_folder.proofs.HeadsAlone.{head_stays}
 use Rattle.store_folder.proofs.Rolls.{at_these, finds_on, state_rests, stays_so}
-use Rattle.store_folder.proofs.Says.{says_on}
+use Rattle.store_folder.proofs.Says.{among_last, says_on}
 use Rattle.store_folder.proofs.keeping.StoreKeeper.roll.Goals as goal
 
 pub save-requires : goal.save-requires
@@ -347,6 +347,9 @@ returns-in-Ok-save-clause-stands g c = c.in-Ok-save.ensures.stands
 
 pub returns-in-Ok-save-clause-numbers : goal.returns-in-Ok-save-clause-numbers
 returns-in-Ok-save-clause-numbers g c =
+    let f = g.F.Folder in
+    let mid = c.save.new.self.events.journal.medium.folder in
+    let new = c.sweep_blocks.new.self.events.journal.medium.folder in
     let same = c.same_blocks-same.result in
     let next = c.next_number-next.result in
     let more = places_from next (length c.args.snapshot.now.blocks - same) in (
@@ -359,4 +362,9 @@ returns-in-Ok-save-clause-numbers g c =
           (subst (λ (ps : List Place). AreBelow n ps) (sym c.deref-2.ensures.value) below),
       c.in-Ok-save.ensures.numbers
           ∙ ap (λ (ps : List Place). take same ps ++ more) c.deref-3.ensures.value,
+      says_on f.shows f.kept g.N.Beginning.first.values more mid new
+          (λ files among there. c.sweep_blocks.ensures.kept.files files
+          (among_last (take same c.deref-3.result.now) more files c.deref-in-Ok-save.result.now
+          (c.deref-in-Ok-save.ensures.value ∙ c.in-Ok-save.ensures.numbers) among) there)
+          c.in-Ok-save.ensures.written,
     )

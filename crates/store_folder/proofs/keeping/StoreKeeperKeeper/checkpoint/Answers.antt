@@ -111,3 +111,17 @@ returns-in-Ok-clause-stands g c = c.in-Ok.ensures.stands
 
 pub returns-in-Ok-clause-counted : goal.returns-in-Ok-clause-counted
 returns-in-Ok-clause-counted g c = c.in-Ok.ensures.counted
+
+-- what the meta.json of blocks says
+
+pub returns-then-self-clause-says : goal.returns-then-self-clause-says
+returns-then-self-clause-says g c says = says
+
+pub returns-then-not-are_met-clause-says : goal.returns-then-not-are_met-clause-says
+returns-then-not-are_met-clause-says g c says = says
+
+pub returns-in-Ok-clause-says : goal.returns-in-Ok-clause-says
+returns-in-Ok-clause-says g c says = c.roll.ensures.says says
+
+pub returns-in-Err-clause-says : goal.returns-in-Err-clause-says
+returns-in-Err-clause-says g c says = c.roll.ensures.says says

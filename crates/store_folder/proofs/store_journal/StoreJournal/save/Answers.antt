@@ -161,7 +161,7 @@ roll-requires g c =
     (places_from c.args.next (length s.blocks - same)) there.0 c.values-values.result
     c.in-Ok.head given.2 c.if-self.false refl c.write_saved.ensures.stays there.1 there.2
     c.values-values.ensures
-    c.in-Ok.ensures.saved in
+    c.in-Ok.ensures.saved c.in-Ok.ensures.stands in
     (given.0, made, rolls)
 
 pub returns-in-Ok-roll-clause-held : goal.returns-in-Ok-roll-clause-held
@@ -182,7 +182,7 @@ returns-in-Ok-roll-clause-held g c events parts may =
     (places_from c.args.next (length s.blocks - same)) there.0 c.values-values.result
     c.in-Ok.head may c.if-self.false refl c.write_saved.ensures.stays there.1 there.2
     c.values-values.ensures
-    c.in-Ok.ensures.saved in
+    c.in-Ok.ensures.saved c.in-Ok.ensures.stands in
     c.in-Ok-roll.ensures.held events made rolls
 
 pub returns-in-Ok-roll-clause-places : goal.returns-in-Ok-roll-clause-places
@@ -203,7 +203,7 @@ returns-in-Ok-roll-clause-places g c events parts may =
     (places_from c.args.next (length s.blocks - same)) there.0 c.values-values.result
     c.in-Ok.head may c.if-self.false refl c.write_saved.ensures.stays there.1 there.2
     c.values-values.ensures
-    c.in-Ok.ensures.saved in
+    c.in-Ok.ensures.saved c.in-Ok.ensures.stands in
     let now = c.roll.new.self.events.journal in
     let named = c.in-Ok-from_slice.ensures.items ∙ c.places.ensures in
     let is =
@@ -236,7 +236,7 @@ returns-in-Ok-roll-clause-any_moment g c events parts may opened =
     (places_from c.args.next (length s.blocks - same)) there.0 c.values-values.result
     c.in-Ok.head may c.if-self.false refl c.write_saved.ensures.stays there.1 there.2
     c.values-values.ensures
-    c.in-Ok.ensures.saved in
+    c.in-Ok.ensures.saved c.in-Ok.ensures.stands in
     finds_on f.moment f.left_since first events old.medium.folder c.write_saved.new.folder
     c.roll.new.self.events.journal.medium.folder
     (writing_finds f.shows f.kept f.sound f.moment f.left_since met.only_now met.earlier first old.medium
@@ -263,7 +263,7 @@ returns-clause-held g c events parts may =
     (places_from c.args.next (length s.blocks - same)) there.0 c.values-values.result
     c.in-Ok.head may c.if-self.false refl c.write_saved.ensures.stays there.1 there.2
     c.values-values.ensures
-    c.in-Ok.ensures.saved in
+    c.in-Ok.ensures.saved c.in-Ok.ensures.stands in
     c.in-Err-roll.ensures.held events made rolls
 
 pub returns-clause-same : goal.returns-clause-same
@@ -300,7 +300,7 @@ returns-clause-any_moment g c events parts may opened =
     (places_from c.args.next (length s.blocks - same)) there.0 c.values-values.result
     c.in-Ok.head may c.if-self.false refl c.write_saved.ensures.stays there.1 there.2
     c.values-values.ensures
-    c.in-Ok.ensures.saved in
+    c.in-Ok.ensures.saved c.in-Ok.ensures.stands in
     finds_on f.moment f.left_since first events old.medium.folder c.write_saved.new.folder
     c.roll.new.self.events.journal.medium.folder
     (writing_finds f.shows f.kept f.sound f.moment f.left_since met.only_now met.earlier first old.medium
@@ -325,7 +325,8 @@ returns-in-Ok-roll-clause-leaves g c events parts may opened =
     may_roll f.shows f.kept f.sound f.moment f.left_since met.only_now met.earlier first old.medium
     (record (old.medium) { folder = c.write_saved.new.folder }) old.len old.closed events s held
     parts same places there.0 c.values-values.result c.in-Ok.head may c.if-self.false refl
-    c.write_saved.ensures.stays there.1 there.2 c.values-values.ensures c.in-Ok.ensures.saved in
+    c.write_saved.ensures.stays there.1 there.2 c.values-values.ensures c.in-Ok.ensures.saved
+    c.in-Ok.ensures.stands in
     let h = may.holds.0 in
     saving_leaves f.shows f.kept f.sound f.moment f.left_since met.only_now met.earlier first old.medium
     c.write_saved.new.folder c.roll.new.self.events.journal.medium.folder old.len old.closed events s
@@ -359,7 +360,8 @@ returns-clause-leaves g c events parts may opened =
     may_roll f.shows f.kept f.sound f.moment f.left_since met.only_now met.earlier first old.medium
     (record (old.medium) { folder = c.write_saved.new.folder }) old.len old.closed events s held
     parts same places there.0 c.values-values.result c.in-Ok.head may c.if-self.false refl
-    c.write_saved.ensures.stays there.1 there.2 c.values-values.ensures c.in-Ok.ensures.saved in
+    c.write_saved.ensures.stays there.1 there.2 c.values-values.ensures c.in-Ok.ensures.saved
+    c.in-Ok.ensures.stands in
     let h = may.holds.0 in
     saving_leaves f.shows f.kept f.sound f.moment f.left_since met.only_now met.earlier first old.medium
     c.write_saved.new.folder c.roll.new.self.events.journal.medium.folder old.len old.closed events s
@@ -502,3 +504,14 @@ returns-in-Ok-roll-clause-says g c says =
     (says_on f.shows f.kept values places mid new
     (λ files among there. there_beside f.shows f.kept places files mid new c.roll.ensures.others among there)
     written)
+
+pub returns-in-Ok-roll-clause-written : goal.returns-in-Ok-roll-clause-written
+returns-in-Ok-roll-clause-written g c =
+    let f = g.F.Folder in
+    let mid = c.write_saved.new.folder in
+    let new = c.roll.new.self.events.journal.medium.folder in
+    let places = places_from c.args.next (length c.args.snapshot.now.blocks - c.args.same) in
+    says_on f.shows f.kept g.N.Beginning.first.values places mid new
+    (λ files among there. there_beside f.shows f.kept places files mid new c.roll.ensures.others among there)
+    (subst (λ (v : Values). EachSays f.shows f.kept v places mid) c.values-values.ensures
+    c.in-Ok.ensures.says)
