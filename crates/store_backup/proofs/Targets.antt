@@ -33,7 +33,7 @@ use Rattle.store_folder.proofs.Rolls.{apart_both, files_at, lie_at, there_at}
 use Rattle.store_joiner.specs.Finds.{Finds, FindsNow}
 use Rattle.store_joiner.proofs.Joins.{IsNext, begun_anew, next_head, now_at}
 use Rattle.store_backup.specs.declared.copying.Copied.{Copied}
-use Rattle.store_backup.specs.Copies.{Begins, IsCopied, MayBegin, NoneOrFinds, NoneOrWhole}
+use Rattle.store_backup.specs.Copies.{Begins, IsCopied, MayBegin, NoneOrCopy, NoneOrWhole}
 use Rattle.store_backup.specs.Copies.{copy_of}
 
 -- in what stands for no events a start finds the first world
@@ -124,10 +124,10 @@ module _ {F : Type 0} (shows : F → List ℕ → Option (List ℕ) → Type 0)
   still_none : (first : Origin) (old new : F)
       → KeepsStore shows kept sound moment left_since [] old new
       → shows old journal_name None → kept old journal_name 0
-      → LeavesOnly moment left_since old new (NoneOrFinds first)
+      → LeavesOnly moment left_since old new (NoneOrCopy first)
   still_none first old new stays none durable =
       weaker moment left_since old new (λ (left : Left). left journal_name ≡ None)
-      (NoneOrFinds first) (λ left nothing. inl nothing)
+      (NoneOrCopy first) (λ left nothing. inl nothing)
       (stays.absent journal_name refl none durable)
 
   pub only_written : (first : Origin) (old new : F)
@@ -142,7 +142,7 @@ module _ {F : Type 0} (shows : F → List ℕ → Option (List ℕ) → Type 0)
       → KeepsStore shows kept sound moment left_since [] old mid → Begun first mid new
       → Begun first old new
   begins_later first old mid new before b = record {
-    any_moment = λ none durable. joined moment left_since old mid new (NoneOrFinds first)
+    any_moment = λ none durable. joined moment left_since old mid new (NoneOrCopy first)
         (still_none first old mid before none durable)
         (b.any_moment (before.lasting journal_name None refl none)
         (before.durable journal_name 0 refl durable));
@@ -183,7 +183,7 @@ module _ {F : Type 0} (shows : F → List ℕ → Option (List ℕ) → Type 0)
   whole_finds : (first : Origin) (f : F) (saved : Saved) (made : List BlockPart) (left : Left)
       (next : Next first f saved made) → MayStand (started saved made)
       → NoneOrWhole (files_at shows kept saved.places made f next.blocks)
-      (contents_with (head_texts saved) []) left → NoneOrFinds first left
+      (contents_with (head_texts saved) []) left → NoneOrCopy first left
   whole_finds first f saved made left next may is =
       ⊎_elim (λ none. inl none)
       (λ has. (let state : IsState saved made [] left =
@@ -217,7 +217,7 @@ module _ {F : Type 0} (shows : F → List ℕ → Option (List ℕ) → Type 0)
       let files = files_at shows kept saved.places made mid next.blocks in
       begins_later shows kept sound moment left_since only_now first old mid new stays (record {
         any_moment = λ none durable. weaker moment left_since mid new (NoneOrWhole files contents)
-            (NoneOrFinds first) (λ left is. whole_finds first mid saved made left next may is)
+            (NoneOrCopy first) (λ left is. whole_finds first mid saved made left next may is)
             (leaves contents files whole
             (apart_both shows kept [] saved.places [] made mid tt next.blocks)
             (there_at shows kept saved.places made mid next.blocks));

@@ -24,9 +24,9 @@ abbrev pub NoneOrWhole : List Named → List (List ℕ) → Left → Type 0
 NoneOrWhole files contents left = (left journal_name ≡ None) ⊎ HasFilesOf files contents left
 
 -- what is left has no journal; or a start finds this world in it, in which the values mean this,
--- and makes a snapshot of it
-abbrev pub NoneOrFinds : Origin → Left → Type 0
-NoneOrFinds first left =
+-- and does not refuse the head and the blocks
+abbrev pub NoneOrCopy : Origin → Left → Type 0
+NoneOrCopy first left =
     (left journal_name ≡ None)
     ⊎ (Finds first.values (λ (v : World). v ≡ first.world) left × MayStart left)
 
@@ -36,7 +36,7 @@ pub record Begins {F : Type 0} (shows : F → List ℕ → Option (List ℕ) →
     (kept : F → List ℕ → ℕ → Type 0) (moment : F → ℕ)
     (left_since : F → ℕ → Left → Type 0) (first : Origin) (old new : F) : Type 0 where
   pub any_moment : shows old journal_name None → kept old journal_name 0
-      → LeavesOnly moment left_since old new (NoneOrFinds first)
+      → LeavesOnly moment left_since old new (NoneOrCopy first)
   pub foreign : KeepsForeign shows kept old new
 
 -- these events of a store are accepted, and this is the world that they make

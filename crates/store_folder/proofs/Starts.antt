@@ -3,7 +3,7 @@ use Rattle.std.proofs.Common.{◌≡◌, ℕ, zero, suc, ◌≤◌, Bool, true, 
 use Rattle.std.proofs.Common.{None, Some, length, take, Result, Ok, Err, refl, sym, ap, subst, subst₂, ◌∙◌}
 use Rattle.std.proofs.Common.{◌≢◌, arith, inl, inr, ⊎_elim, ℤ, Vec}
 use Rattle.std.specs.declared.alloc.Global.{Global}
-use Rattle.std.specs.Prelude.{IfOk, IfErr}
+use Rattle.std.specs.Prelude.{IfOk, IfErr, OnOk}
 use Rattle.std.proofs.lemmas.List.{append-nil}
 use Rattle.block_folder.specs.declared.values.Values.{Values}
 use Rattle.data_folder.specs.declared.journal_file.JournalFile.{JournalFile}
@@ -90,6 +90,14 @@ pub denied : (saved : Saved) (parts : List BlockPart) (floor : ℤ) (head : List
 denied saved parts floor head e h floors heads =
     subst (λ (s : SnapshotParts). Denies e (MayStand s))
     (is_started saved parts floor head (resumed parts floor head) refl floors heads) h
+
+pub stands_started : {A E : Type 0} (r : Result A E) (saved : Saved) (parts : List BlockPart)
+    (floor : ℤ) (head : List HeadSeries) → MayStand (resumed parts floor head)
+    → floor ≡ saved.floor → head ≡ saved.head → OnOk r (MayStand (started saved parts))
+stands_started (Ok x) saved parts floor head h floors heads =
+    subst (λ (s : SnapshotParts). MayStand s)
+    (is_started saved parts floor head (resumed parts floor head) refl floors heads) h
+stands_started (Err e) saved parts floor head h floors heads = tt
 
 -- what a folder has, between two runs
 

@@ -15,8 +15,8 @@ use Rattle.store_folder.specs.Journals.{IsJournalOf}
 use Rattle.store_folder.specs.Origins.{Origin}
 use Rattle.store_folder.specs.States.{started}
 
--- the events are held, the head says their world and what the values mean, it may be a snapshot with
--- its blocks, and their files are there for good
+-- the events are held, the head says their world and what the values mean, it may be a snapshot
+-- with its blocks, and their files are there for good
 pub record MayRoll {F : Type 0} (shows : F → List ℕ → Option (List ℕ) → Type 0)
     (kept : F → List ℕ → ℕ → Type 0) (sound : F → Bool) (moment : F → ℕ)
     (left_since : F → ℕ → Left → Type 0) (first : Origin) (m : JournalFile F) (len : ℕ)

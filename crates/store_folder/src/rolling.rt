@@ -24,8 +24,8 @@ use std::alloc::Global;
 
 impl<N: Beginning, F: Folder + Drop> StoreJournal<N, F> {
     /// Begins the journal anew with this head, which says the world of all events so far and what
-    /// the values mean. The files of its blocks lie in the folder, and a start makes a snapshot of it
-    /// and of them. No event may be kept meanwhile.
+    /// the values mean. The files of its blocks lie in the folder, and a start makes a snapshot of
+    /// it and of them. No event may be kept meanwhile.
     ///
     /// The journal goes on as it was unless the error is `Lost`: then it is closed.
     pub fn roll(&mut self, alloc: Global, head: &HeadRecord) -> Result<(), RollFault>

@@ -12,6 +12,7 @@ use Rattle.data_folder.proofs.Moments.{joined, weaker}
 use Rattle.head.specs.Blocks.{part_in}
 use Rattle.head.specs.Heads.{BlockPart, SnapshotParts, world_of}
 use Rattle.head.specs.Refusals.{Refusal}
+use Rattle.head.specs.Resuming.{MayStand}
 use Rattle.head.specs.Worlds.{Event, World, replayed}
 use Rattle.head_record.specs.Saved.{Place, Saved}
 use Rattle.store_folder.specs.declared.journals.FoundJournal.{FoundJournal}
@@ -24,7 +25,7 @@ use Rattle.store_folder.specs.Holding.{AreAt}
 use Rattle.store_folder.specs.Origins.{Origin, beginning}
 use Rattle.store_folder.specs.Plain.{DeniesText, HasEither, StandsAlone}
 use Rattle.store_folder.specs.Starting.{GoesOn, IsNoneOrNothing, StartFinds, nothing_saved}
-use Rattle.store_folder.specs.States.{IsAfter, StandsFor, origin_of, started}
+use Rattle.store_folder.specs.States.{IsAfter, MayStart, StandsFor, origin_of, started}
 use Rattle.store_joiner.specs.Finds.{FindsNow, other_of}
 use Rattle.store_folder.specs.Sweeps.{ListsNumber, has_number}
 use Rattle.store_joiner.specs.Stores.{Changes, HasBlocks, HasStoreFor, IsSame, LeavesNow}
@@ -39,8 +40,9 @@ pub changes_found : {F : Type 0} (shows : F → List ℕ → Option (List ℕ) �
     (P : World → World → Type 0) (old mid new : F) (j : FoundJournal) (parts : List BlockPart)
     → Untouched shows kept moment left_since old mid → IsFoundStore shows kept j parts mid
     → StaysOrFinds moment left_since mid new (origin_of j.head parts) j.events.items P
+    → (MayStand (started j.head parts) → LeavesOnly moment left_since mid new MayStart)
     → Changes shows kept moment left_since P old new
-changes_found shows kept moment left_since P old mid new j parts before is after = record {
+changes_found shows kept moment left_since P old mid new j parts before is after starts = record {
   opened = mid;
   saved = j.head;
   parts = parts;
@@ -48,6 +50,7 @@ changes_found shows kept moment left_since P old mid new j parts before is after
   untouched = before;
   store = record { file = is.file; has = is.has; journal = is.journal.is; blocks = is.blocks };
   stays = after;
+  starts = starts;
 }
 
 -- a journal of events alone

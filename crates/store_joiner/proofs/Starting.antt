@@ -1,5 +1,6 @@
 -- That a start takes what is left of a store, while the store is changed.
-use Rattle.std.proofs.Common.{⊎_elim, inl, inr, ℕ, ◌≤◌, Bool, List, [], Option, None, Result, arith}
+use Rattle.std.proofs.Common.{⊎_elim, inl, inr, ℕ, ◌≤◌, Bool, List, [], Option, None, Result, Ok}
+use Rattle.std.proofs.Common.{Err, arith}
 use Rattle.std.specs.Prelude.{MatchResult}
 use Rattle.block_folder.specs.declared.values.Values.{Values}
 use Rattle.block_folder.specs.declared.values.Values.TheVariants.{Whole}
@@ -64,6 +65,16 @@ module _ {F : Type 0} (moment : F → ℕ) (left_since : F → ℕ → Left → 
   each_starts r of kept old mid one two =
       match_so r _ _ _ _ (λ x. starts_on old mid (of x) one)
       (λ e. starts_on old mid (kept e) one) two
+
+  -- and also what else is so of it
+  pub so_and_starts : {A E : Type 0} (r : Result A E) (may : Type 0) (of : A → F) (kept : E → F)
+      (mid : F) (P Q : A → Type 0) (R S : E → Type 0)
+      → ((x : A) → P x → (may → Starts mid (of x)) → Q x)
+      → ((e : E) → R e → (may → Starts mid (kept e)) → S e) → MatchResult r P R
+      → (may → MatchResult r (λ x. Starts mid (of x)) (λ e. Starts mid (kept e)))
+      → MatchResult r Q S
+  so_and_starts (Ok x) may of kept mid P Q R S f g p starts = f x p starts
+  so_and_starts (Err e) may of kept mid P Q R S f g p starts = g e p starts
 
   -- a store that is begun
   pub begun_starts : (old new : F) (values : Values)

@@ -59,7 +59,7 @@ StaysOrFinds moment left_since old new first events P =
 
 -- From old to new the store that lies in the folder was changed: it was opened, before which
 -- nothing was changed; and a crash since then leaves what stands for its events, or a store of a
--- world that is so to theirs.
+-- world that is so to theirs. If its head and blocks may be a snapshot, so may those that are left.
 pub record Changes {F : Type 0} (shows : F → List ℕ → Option (List ℕ) → Type 0)
     (kept : F → List ℕ → ℕ → Type 0) (moment : F → ℕ) (left_since : F → ℕ → Left → Type 0)
     (P : World → World → Type 0) (old new : F) : Type 0 where
@@ -70,6 +70,7 @@ pub record Changes {F : Type 0} (shows : F → List ℕ → Option (List ℕ) �
   pub untouched : Untouched shows kept moment left_since old opened
   pub store : HasStore shows kept saved parts events opened
   pub stays : StaysOrFinds moment left_since opened new (origin_of saved parts) events P
+  pub starts : MayStand (started saved parts) → LeavesOnly moment left_since opened new MayStart
 
 -- nothing was changed, or the store that lies in the folder was
 abbrev pub MayChange : {F : Type 0} → (F → List ℕ → Option (List ℕ) → Type 0)
@@ -87,8 +88,8 @@ PlainOrFinds file P left =
     ⊎ ((events : List Event) × StandsAlone file events
     × StandsOrFinds (beginning Whole) events P left)
 
--- What is left has the journal of events alone as it was, or with a head in front of them; or a
--- start makes a snapshot of it.
+-- What is left has the journal of events alone as it was, or with a head in front of them; or no
+-- start refuses the head and the blocks that are left.
 abbrev pub PlainOrStarts : List ℕ → Left → Type 0
 PlainOrStarts file left = HasEither file left ⊎ MayStart left
 

@@ -333,8 +333,8 @@ pub fn add_to_store<F: Folder + Drop>(
         events (IsAddedTo opening.now.blocks opening.now.floor))
         (λ e. StaysOrFinds F.moment F.left_since folder e.1 (origin_of saved parts)
         events (IsAddedTo opening.now.blocks opening.now.floor)) }
-    // If a start makes a snapshot of the head and the blocks, it makes one of those that such a
-    // crash leaves.
+    // If the head and the blocks may be a snapshot, then so may those that such a crash leaves: no
+    // start refuses them.
     ensures starts { TellsFiles F.shows → (saved : Saved) (parts : List BlockPart)
         (events : List Change) → (s : HasStore F.shows F.kept saved parts events folder)
         → begins_plain s.file ≡ false → MayStand (started saved parts)
@@ -400,7 +400,8 @@ pub fn add_to_store<F: Folder + Drop>(
         (PlainOrFinds file (IsAddedTo opening.now.blocks opening.now.floor)))
         (λ e. LeavesOnly F.moment F.left_since folder e.1
         (PlainOrFinds file (IsAddedTo opening.now.blocks opening.now.floor))) }
-    // Where it does not leave the journal so, a start makes a snapshot of what is left.
+    // Where it does not leave the journal so, no start refuses the head and the blocks that are
+    // left.
     ensures plain_starts { TellsFiles F.shows → (file : List ℕ)
         → HasFile F.shows F.kept journal_name file folder → begins_plain file ≡ true
         → MatchResult result
@@ -441,7 +442,7 @@ pub fn add_to_store<F: Folder + Drop>(
         (NoneOrFinds (IsAddedTo opening.now.blocks opening.now.floor)))
         (λ e. LeavesOnly F.moment F.left_since folder e.1
         (NoneOrFinds (IsAddedTo opening.now.blocks opening.now.floor))) }
-    // Of what it leaves a start makes a snapshot, if there is a journal.
+    // No start refuses the head and the blocks that are left.
     ensures first_starts { TellsFiles F.shows → F.shows folder journal_name None
         → F.kept folder journal_name 0 → MatchResult result
         (λ x. LeavesOnly F.moment F.left_since folder x.1 MayStart)

@@ -69,8 +69,8 @@ fn sweep<N: Beginning, F: Folder + Drop>(
         found.store.journal.events.items)
         (λ e. StartFinds F.moment F.left_since found.folder e.1 N.first
         found.store.journal.events.items) }
-    // If a start makes a snapshot of what was found, it makes one of what a crash at any moment of
-    // the call leaves.
+    // If the head and the blocks that were found may be a snapshot, then so may those that a crash
+    // at any moment of the call leaves.
     ensures starts { MayStand (started found.store.journal.head
         (map part_in found.store.blocks.items))
         → MatchResult result
@@ -246,8 +246,8 @@ pub fn join_store<F: Folder + Drop>(
         events IsJoinedTo)
         (λ e. StaysOrFinds F.moment F.left_since folder e.1 (origin_of saved parts)
         events IsJoinedTo) }
-    // If a start makes a snapshot of the head and the blocks, it makes one of those that such a
-    // crash leaves.
+    // If the head and the blocks may be a snapshot, then so may those that such a crash leaves: no
+    // start refuses them.
     ensures starts { TellsFiles F.shows → (saved : Saved) (parts : List BlockPart)
         (events : List Change) → (s : HasStore F.shows F.kept saved parts events folder)
         → begins_plain s.file ≡ false → MayStand (started saved parts)
@@ -316,7 +316,8 @@ pub fn join_store<F: Folder + Drop>(
         → MatchResult result
         (λ y. LeavesOnly F.moment F.left_since folder y.1 (PlainOrFinds file IsJoinedTo))
         (λ e. LeavesOnly F.moment F.left_since folder e.1 (PlainOrFinds file IsJoinedTo)) }
-    // Where it does not leave the journal so, a start makes a snapshot of what is left.
+    // Where it does not leave the journal so, no start refuses the head and the blocks that are
+    // left.
     ensures plain_starts { TellsFiles F.shows → (file : List ℕ)
         → HasFile F.shows F.kept journal_name file folder → begins_plain file ≡ true
         → MatchResult result

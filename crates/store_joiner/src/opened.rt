@@ -81,8 +81,8 @@ fn save_events<N: Beginning, F: Folder + Drop>(
         found.store.journal.events.items)
         (λ e. StartFinds F.moment F.left_since found.folder e.1 N.first
         found.store.journal.events.items) }
-    // If a start makes a snapshot of what was found, it makes one of what a crash at any moment of
-    // the call leaves.
+    // If the head and the blocks that were found may be a snapshot, then so may those that a crash
+    // at any moment of the call leaves.
     ensures starts { MayStand (started found.store.journal.head
         (map part_in found.store.blocks.items))
         → MatchResult result
@@ -147,8 +147,8 @@ pub(crate) fn save<F: Folder + Drop>(
         (λ e. StartFinds F.moment F.left_since found.folder e.1
         (origin_of found.store.journal.head (map part_in found.store.blocks.items))
         found.store.journal.events.items) }
-    // If a start makes a snapshot of what was found, it makes one of what a crash at any moment of
-    // the call leaves.
+    // If the head and the blocks that were found may be a snapshot, then so may those that a crash
+    // at any moment of the call leaves.
     ensures starts { MayStand (started found.store.journal.head
         (map part_in found.store.blocks.items))
         → MatchResult result

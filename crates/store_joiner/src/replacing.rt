@@ -39,8 +39,8 @@ pub(crate) fn replace<N: Beginning, F: Folder + Drop>(
         (world_of next.now))
         (λ e. FindsEither F.moment F.left_since found.folder e.1 N.first
         (world_of next.now)) }
-    // If a start makes a snapshot of what was found, it makes one of what a crash at any moment of
-    // the call leaves.
+    // If the head and the blocks that were found may be a snapshot, then so may those that a crash
+    // at any moment of the call leaves.
     ensures starts { MayStand (started found.store.journal.head
         (map part_in found.store.blocks.items))
         → MatchResult result

@@ -54,8 +54,8 @@ pub fn replace_store<N: Beginning, F: Folder + Drop>(
         (world_of next.now))
         (λ e. FindsEither F.moment F.left_since store.events.journal.medium.folder e.1 N.first
         (world_of next.now)) }
-    // If a start makes a snapshot of the store, it makes one of what a crash at any moment of the
-    // call leaves.
+    // If the head and its blocks may be a snapshot, then so may those that a crash at any moment of
+    // the call leaves.
     ensures starts { (saved : Saved) (parts : List BlockPart) (late : List Event)
         → HoldsThese F.shows F.kept F.sound F.moment F.left_since N.first
         store.events.journal.medium store.events.journal.len store.events.journal.closed []

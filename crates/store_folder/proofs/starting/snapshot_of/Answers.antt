@@ -1,6 +1,6 @@
 use Rattle.std.proofs.Common.{map, rules}
 use Rattle.head.specs.Blocks.{part_in}
-use Rattle.store_folder.proofs.Starts.{denied, does_not_go_on, goes_on}
+use Rattle.store_folder.proofs.Starts.{denied, does_not_go_on, goes_on, stands_started}
 use Rattle.store_folder.proofs.starting.snapshot_of.Goals as goal
 
 pub returns-in-Ok-clause-world : goal.returns-in-Ok-clause-world
@@ -19,3 +19,8 @@ pub returns-in-Err-clause-refused : goal.returns-in-Err-clause-refused
 returns-in-Err-clause-refused c =
     denied c.args.journal.now.head (map part_in c.args.blocks.items) _ _ c.in-Err.error
     c.in-Err.ensures.refused (search rules) c.series.ensures
+
+pub returns-in-Ok-clause-stands : goal.returns-in-Ok-clause-stands
+returns-in-Ok-clause-stands c =
+    stands_started c.after_events.result c.args.journal.now.head (map part_in c.args.blocks.items) _ _
+    c.in-Ok.ensures.stands (search rules) c.series.ensures

@@ -36,7 +36,7 @@ use Rattle.head.specs.Resuming.{MayStand}
 use Rattle.store_folder.specs.States.{started}
 use Rattle.store_folder.proofs.Standing.{nothing_stands}
 use Rattle.store_joiner.proofs.Starting.{each_starts, none_starts, plain_starts, plain_waits}
-use Rattle.store_joiner.proofs.Starting.{untouched_starts}
+use Rattle.store_joiner.proofs.Starting.{so_and_starts, untouched_starts}
 use Rattle.store_joiner.proofs.adding.add_to_store.Goals as goal
 
 abbrev found : Option FoundStore → Result (Option FoundStore) StartError
@@ -142,12 +142,13 @@ returns-in-Some-clause-safe g c tells file shown other =
     let parts = map part_in s.blocks.items in
     let is : IsFoundStore f.shows f.kept s.journal parts mid = search rules in
     let before = c.open_store.ensures.whole tells (Some file) shown other in
-    match_so c.add_found.result _ _ _ _
-    (λ y leaves. changes_found f.shows f.kept f.moment f.left_since
-    (IsAddedTo c.args.opening.now.blocks c.args.opening.now.floor) old mid y.1 s.journal parts before is leaves)
-    (λ e leaves. inr (changes_found f.shows f.kept f.moment f.left_since
-    (IsAddedTo c.args.opening.now.blocks c.args.opening.now.floor) old mid e.1 s.journal parts before is leaves))
-    (c.add_found.ensures.any_moment tells)
+    so_and_starts f.moment f.left_since c.add_found.result (MayStand (started s.journal.head parts))
+    (λ y. y.1) (λ e. e.1) mid _ _ _ _
+    (λ y leaves starts. changes_found f.shows f.kept f.moment f.left_since
+    (IsAddedTo c.args.opening.now.blocks c.args.opening.now.floor) old mid y.1 s.journal parts before is leaves starts)
+    (λ e leaves starts. inr (changes_found f.shows f.kept f.moment f.left_since
+    (IsAddedTo c.args.opening.now.blocks c.args.opening.now.floor) old mid e.1 s.journal parts before is leaves starts))
+    (c.add_found.ensures.any_moment tells) (c.add_found.ensures.starts tells)
 
 pub returns-in-Err-clause-safe : goal.returns-in-Err-clause-safe
 returns-in-Err-clause-safe g c tells file shown other =

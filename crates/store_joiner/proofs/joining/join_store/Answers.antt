@@ -32,7 +32,8 @@ use Rattle.store_joiner.proofs.Says.{has_all, say_now, says_all}
 use Rattle.block_folder.specs.declared.values.Values.TheVariants.{Whole}
 use Rattle.store_folder.specs.States.{started}
 use Rattle.store_folder.proofs.Standing.{nothing_stands}
-use Rattle.store_joiner.proofs.Starting.{each_starts, plain_starts, plain_waits, untouched_starts}
+use Rattle.store_joiner.proofs.Starting.{each_starts, plain_starts, plain_waits, so_and_starts}
+use Rattle.store_joiner.proofs.Starting.{untouched_starts}
 use Rattle.store_joiner.proofs.joining.join_store.Goals as goal
 
 abbrev found : Option FoundStore → Result (Option FoundStore) StartError
@@ -135,12 +136,13 @@ returns-in-Some-clause-safe g c tells x shown other =
     let parts = map part_in s.blocks.items in
     let is : IsFoundStore f.shows f.kept s.journal parts mid = search rules in
     let before = c.open_store.ensures.whole tells x shown other in
-    match_so c.join_found.result _ _ _ _
-    (λ y leaves. changes_found f.shows f.kept f.moment f.left_since
-    IsJoinedTo old mid y.1 s.journal parts before is leaves)
-    (λ e leaves. inr (changes_found f.shows f.kept f.moment f.left_since
-    IsJoinedTo old mid e.1 s.journal parts before is leaves))
-    (c.join_found.ensures.any_moment tells)
+    so_and_starts f.moment f.left_since c.join_found.result (MayStand (started s.journal.head parts))
+    (λ y. y.1) (λ e. e.1) mid _ _ _ _
+    (λ y leaves starts. changes_found f.shows f.kept f.moment f.left_since
+    IsJoinedTo old mid y.1 s.journal parts before is leaves starts)
+    (λ e leaves starts. inr (changes_found f.shows f.kept f.moment f.left_since
+    IsJoinedTo old mid e.1 s.journal parts before is leaves starts))
+    (c.join_found.ensures.any_moment tells) (c.join_found.ensures.starts tells)
 
 pub returns-in-Err-clause-safe : goal.returns-in-Err-clause-safe
 returns-in-Err-clause-safe g c tells x shown other =
