@@ -17,14 +17,14 @@ pub like_all : (blocks : List BlockPart) → AreLike blocks blocks
 like_all [] = tt
 like_all (b ∷ blocks) = (record { min = refl; max = refl; points = refl }, like_all blocks)
 
-like_taken : (n : ℕ) (a b : List BlockPart) → AreLike a b → AreLike (take n a) (take n b)
+pub like_taken : (n : ℕ) (a b : List BlockPart) → AreLike a b → AreLike (take n a) (take n b)
 like_taken zero a b l = tt
 like_taken (suc n) [] [] l = tt
 like_taken (suc n) [] (y ∷ b) l = absurd l
 like_taken (suc n) (x ∷ a) [] l = absurd l
 like_taken (suc n) (x ∷ a) (y ∷ b) l = (l.0, like_taken n a b l.1)
 
-length_like : (a b : List BlockPart) → AreLike a b → length a ≡ length b
+pub length_like : (a b : List BlockPart) → AreLike a b → length a ≡ length b
 length_like [] [] l = refl
 length_like [] (y ∷ b) l = absurd l
 length_like (x ∷ a) [] l = absurd l
@@ -33,7 +33,7 @@ length_like (x ∷ a) (y ∷ b) l = ap suc (length_like a b l.1)
 module _ {F : Type 0} (shows : F → List ℕ → Option (List ℕ) → Type 0)
     (kept : F → List ℕ → ℕ → Type 0) (sound : F → Bool) (moment : F → ℕ)
     (left_since : F → ℕ → Left → Type 0) where
-  as_many : (places : List Place) (parts : List BlockPart) (f : F)
+  pub as_many : (places : List Place) (parts : List BlockPart) (f : F)
       → AreAt shows kept places parts f → length places ≡ length parts
   as_many [] [] f at = refl
   as_many [] (b ∷ parts) f at = absurd at

@@ -1,4 +1,4 @@
-use Rattle.std.proofs.Common.{map, refl}
+use Rattle.std.proofs.Common.{inl, map, refl}
 use Rattle.data_folder.proofs.Foreign.{foreign_rests}
 use Rattle.head.specs.Blocks.{part_in}
 use Rattle.keeper.specs.Finding.{AreAll}
