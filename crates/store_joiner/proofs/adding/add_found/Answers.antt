@@ -134,3 +134,13 @@ returns-then-not-has_values-clause-starts g c tells may =
     let store = c.args.found.store in
     found_starts f.shows f.kept f.sound f.moment f.left_since met.only_now met.earlier
     c.args.found.folder store.journal (map part_in store.blocks.items) c.requires.found may
+
+-- what was found was not saved
+
+pub returns-in-Err-clause-any_moment : goal.returns-in-Err-clause-any_moment
+returns-in-Err-clause-any_moment g c tells =
+    let f = g.F.Folder in
+    let s = c.args.found.store in
+    stays f.moment f.left_since c.args.found.folder c.in-Err.fault.1
+    (origin_of s.journal.head (map part_in s.blocks.items)) s.journal.events.items
+    (IsAddedTo c.args.opening.now.blocks c.args.opening.now.floor) c.in-Err.ensures.any_moment

@@ -4,8 +4,8 @@ use Rattle.head.specs.Heads.{world_of}
 use Rattle.store_folder.specs.States.{origin_of, started}
 use Rattle.store_joiner.specs.Joins.{with_blocks}
 use Rattle.store_joiner.specs.Stores.{IsJoinedTo}
-use Rattle.store_joiner.proofs.Stores.{finds_then, if_both, if_err, match_so, means_so}
-use Rattle.store_joiner.proofs.Stores.{then_finds}
+use Rattle.store_joiner.proofs.Stores.{finds_then, if_both, if_err, match_so, means_so, stays}
+use Rattle.store_joiner.proofs.Stores.{stays_now, then_finds}
 use Rattle.data_folder.proofs.Foreign.{foreign_then}
 use Rattle.store_joiner.proofs.Starting.{each_starts}
 use Rattle.store_joiner.proofs.joining.join_found.Goals as goal
@@ -87,3 +87,22 @@ returns-in-Ok-clause-starts g c tells may =
 
 pub returns-in-Err-clause-starts : goal.returns-in-Err-clause-starts
 returns-in-Err-clause-starts g c tells may = c.in-Err.ensures.starts may
+
+-- what was found was not saved
+
+pub returns-in-Err-clause-any_moment : goal.returns-in-Err-clause-any_moment
+returns-in-Err-clause-any_moment g c tells =
+    let f = g.F.Folder in
+    let s = c.args.found.store in
+    stays f.moment f.left_since c.args.found.folder c.in-Err.fault.1
+    (origin_of s.journal.head (map part_in s.blocks.items)) s.journal.events.items IsJoinedTo
+    c.in-Err.ensures.any_moment
+
+pub returns-in-Err-clause-stays : goal.returns-in-Err-clause-stays
+returns-in-Err-clause-stays g c tells unless =
+    let f = g.F.Folder in
+    let met = g.met.F.Folder in
+    let s = c.args.found.store in
+    stays_now f.shows f.kept f.sound f.moment f.left_since met.only_now met.earlier
+    c.args.found.folder c.in-Err.fault.1 (origin_of s.journal.head (map part_in s.blocks.items))
+    s.journal.events.items c.in-Err.ensures.any_moment
