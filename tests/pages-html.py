@@ -520,17 +520,21 @@ def kept():
     place = "event 3 of 3, mark 228f27dc:3."
     right = f"It is right of the store at {place}"
     wrong = f"It is right of no state of the store that was sought. It was judged at {place}"
+    plain_place = "event 3 of 3,\nmark 228f27dc:3.\n"
+    plain_right = f"It is right of the store at {plain_place}"
+    plain_wrong = f"It is right of no state of the store that was sought.\nIt was judged at {plain_place}"
     lines = has("block 0: valid, numbered otherwise", "head: valid", "rows: valid")
     yield Case("kept", answer, words, checks=[
         says(ALL_JUDGED, "ok", right, "not for how few its intervals are: block 0."), lines,
         lacks("Not judged", "did not judge")])
-    yield Case("text-kept", answer, [*words, "--text"], checks=[has(ALL_JUDGED, "few its intervals are: block 0.")])
+    yield Case("text-kept", answer, [*words, "--text"], checks=[
+        has(ALL_JUDGED, plain_right, "not for how few its intervals are:\n  block 0\n")])
     hidden = json.loads(answer)
     hidden["parts"][1].update(rows=[], intervals=[{"from": 1, "until": END, "verdict": "none"}])
     hidden["rows"] = []
     says_no = says(NOT_SHOWN, "bad", "The auditor found a flaw: head: F8")
     yield Case("kept-hidden", hidden, words, status=1, checks=[says_no, has("head: F8", wrong)])
-    yield Case("text-kept-hidden", hidden, [*words, "--text"], status=1)
+    yield Case("text-kept-hidden", hidden, [*words, "--text"], status=1, checks=[has(plain_wrong)])
 
 
 def half_judged(answer, words):

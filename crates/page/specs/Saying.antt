@@ -127,11 +127,42 @@ unfoldable pub state_text : Option StateSaid → List ℕ
 state_text None = []
 state_text (Some said) = state_paragraph said
 
--- of which state it is claimed, on a line
-unfoldable pub state_line : StateSaid → List ℕ
-state_line said = state_words said.mark.now said ++ codes "\n"
+-- The same for a terminal of 80 columns. A number has at most 20 digits, and the text of a mark at
+-- most 29 characters, so that the longest of these lines has 79.
+
+-- that the reply is right of a state, or of none, on lines of which the last is open still
+unfoldable pub front_lines : StateSaid → List ℕ
+front_lines said =
+    if is_right_of_state said then codes "It is right of the store at "
+    else codes "It is right of no state of the store that was sought.\nIt was judged at "
+
+-- which state a reply was held against: the end of a line, and a line for its mark
+unfoldable pub place_lines : StateSaid → List ℕ
+place_lines said =
+    codes "event " ++ decimal said.told ++ codes " of " ++ decimal said.events
+    ++ codes ",\nmark " ++ said.mark.now ++ codes ".\n"
+
+-- a block on a line of its own
+abbrev pub name_line : PartName → List ℕ
+name_line name = codes "  " ++ subject_text (Part name) ++ codes "\n"
+
+-- some blocks whose series had other numbers than their files have, each on a line
+unfoldable pub otherwise_list : List PartName → List ℕ
+otherwise_list names =
+    codes "Judged for what is missing, and not for how few its intervals are:\n"
+    ++ flat_map name_line names
+
+-- the same; nothing, if there are none
+unfoldable pub otherwise_lines : List PartName → List ℕ
+otherwise_lines [] = []
+otherwise_lines (name ∷ names) = otherwise_list (name ∷ names)
+
+-- of which state it is claimed, on lines
+unfoldable pub state_lines : StateSaid → List ℕ
+state_lines said =
+    front_lines said ++ place_lines said ++ otherwise_lines (otherwise_of said.lines.now)
 
 -- the same; nothing, if no store was looked at
 unfoldable pub plain_state : Option StateSaid → List ℕ
 plain_state None = []
-plain_state (Some said) = state_line said
+plain_state (Some said) = state_lines said

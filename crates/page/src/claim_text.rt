@@ -10,7 +10,8 @@ ghost use Rattle.page.specs.Saying.{first_name, later_name, unjudged_names, unju
 ghost use Rattle.page.specs.Saying.{mark_front, claim_box, plain_note, plain_claim};
 ghost use Rattle.page.specs.Saying.{otherwise_front, first_otherwise, otherwise_names};
 ghost use Rattle.page.specs.Saying.{otherwise_words, state_front, state_place, state_words};
-ghost use Rattle.page.specs.Saying.{state_paragraph, state_text, state_line, plain_state};
+ghost use Rattle.page.specs.Saying.{state_paragraph, state_text, otherwise_list, otherwise_lines};
+ghost use Rattle.page.specs.Saying.{front_lines, place_lines, name_line, state_lines, plain_state};
 ghost use Rattle.page_escape.specs.Escaping.{word_text};
 ghost use Rattle.state_claims.specs.Claiming.{otherwise_of};
 
@@ -355,15 +356,94 @@ pub(crate) fn append_state(
     }
 }
 
-#[tactic(auto, unfolding(crate::specs::Saying::state_line))]
-fn append_line(alloc: Global, out: &mut Vec<u8>, said: &StateSaid<'_>) -> Result<(), AllocError>
-    ensures { OnOk result (out.new.items ≡ out.old.items ++ state_line said.now) }
+/// That a reply is right of a state, or of none, for a terminal.
+#[tactic(auto, unfolding(crate::specs::Saying::front_lines))]
+fn front_lines(said: &StateSaid<'_>) -> &'static [u8]
+    ensures { result.now ≡ front_lines said.now }
 {
-    append_state_words(alloc, out, said.mark.as_bytes(), said)?;
+    if is_right_of_state(said) {
+        b"It is right of the store at "
+    } else {
+        b"It is right of no state of the store that was sought.\nIt was judged at "
+    }
+}
+
+/// Appends which state a reply was held against, for a terminal.
+#[tactic(auto, unfolding(crate::specs::Saying::place_lines))]
+fn append_place_lines(
+    alloc: Global,
+    out: &mut Vec<u8>,
+    said: &StateSaid<'_>,
+) -> Result<(), AllocError>
+    ensures { OnOk result (out.new.items ≡ out.old.items ++ place_lines said.now) }
+{
+    let (told, events, mark) = (said.told, said.events, said.mark);
+    let place = format!(in alloc; "event {told} of {events},\nmark {mark}.\n")?;
+    out.extend_from_slice(place.as_bytes())
+}
+
+/// Appends the name of a part on a line of its own.
+fn append_name_line(alloc: Global, out: &mut Vec<u8>, name: PartName) -> Result<(), AllocError>
+    ensures { OnOk result (out.new.items ≡ out.old.items ++ name_line name) }
+{
+    out.extend_from_slice(b"  ")?;
+    append_name(alloc, out, name)?;
     out.extend_from_slice(b"\n")
 }
 
-/// Appends the same on a line.
+/// Appends the names of parts, each on a line of its own.
+fn append_name_lines(alloc: Global, out: &mut Vec<u8>, names: &[PartName]) -> Result<(), AllocError>
+    ensures { OnOk result (out.new.items ≡ out.old.items ++ flat_map name_line names.now) }
+{
+    for name in names {
+        append_name_line(alloc, out, *name)?;
+    }
+    Ok(())
+}
+
+/// Appends which blocks, of which there are some, were judged under other numbers, for a terminal.
+#[tactic(auto, unfolding(crate::specs::Saying::otherwise_list))]
+fn append_otherwise_list(
+    alloc: Global,
+    out: &mut Vec<u8>,
+    names: &[PartName],
+) -> Result<(), AllocError>
+    ensures { OnOk result (out.new.items ≡ out.old.items ++ otherwise_list names.now) }
+{
+    out.extend_from_slice(b"Judged for what is missing, and not for how few its intervals are:\n")?;
+    append_name_lines(alloc, out, names)
+}
+
+/// Appends which blocks were judged under other numbers, for a terminal.
+#[tactic(auto, unfolding(crate::specs::Saying::otherwise_lines))]
+fn append_otherwise_lines(
+    alloc: Global,
+    out: &mut Vec<u8>,
+    names: &[PartName],
+) -> Result<(), AllocError>
+    ensures { OnOk result (out.new.items ≡ out.old.items ++ otherwise_lines names.now) }
+{
+    match names.split_first() {
+        None => Ok(()),
+        Some(_) => append_otherwise_list(alloc, out, names),
+    }
+}
+
+#[tactic(auto, unfolding(crate::specs::Saying::state_lines))]
+fn append_state_lines(
+    alloc: Global,
+    out: &mut Vec<u8>,
+    said: &StateSaid<'_>,
+) -> Result<(), AllocError>
+    ensures { OnOk result (out.new.items ≡ out.old.items ++ state_lines said.now) }
+{
+    let otherwise = otherwise_of(alloc, said.lines)?;
+    out.extend_from_slice(front_lines(said))?;
+    append_place_lines(alloc, out, said)?;
+    append_otherwise_lines(alloc, out, otherwise.as_slice())
+}
+
+/// Appends the same for a terminal of 80 columns.
 #[tactic(auto, unfolding(crate::specs::Saying::plain_state))]
 pub(crate) fn append_plain_state(
     alloc: Global,
@@ -375,6 +455,6 @@ pub(crate) fn append_plain_state(
 {
     match state {
         None => Ok(()),
-        Some(said) => append_line(alloc, out, said),
+        Some(said) => append_state_lines(alloc, out, said),
     }
 }
