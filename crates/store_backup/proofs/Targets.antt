@@ -26,7 +26,7 @@ use Rattle.journal.specs.Group.{IsJournalText}
 use Rattle.store_folder.specs.Holding.{AreAt}
 use Rattle.store_folder.specs.KeeperLaws.{finds_world, state_stands}
 use Rattle.store_folder.specs.Origins.{Origin}
-use Rattle.store_folder.specs.States.{IsState, StandsFor, started}
+use Rattle.store_folder.specs.States.{IsState, StandsFor, started as started_with}
 use Rattle.store_folder.specs.StoreLaws.{may_start, one_meaning}
 use Rattle.store_folder.specs.Writing.{AreRewritten}
 use Rattle.store_folder.proofs.Rolls.{apart_both, files_at, lie_at, there_at}
@@ -181,7 +181,7 @@ module _ {F : Type 0} (shows : F → List ℕ → Option (List ℕ) → Type 0)
       (record { folder = f; names = [] }) s values saved places made refl is head anew at
 
   whole_finds : (first : Origin) (f : F) (saved : Saved) (made : List BlockPart) (left : Left)
-      (next : Next first f saved made) → MayStand (started saved made)
+      (next : Next first f saved made) → MayStand (started_with saved made)
       → NoneOrWhole (files_at shows kept saved.places made f next.blocks)
       (contents_with (head_texts saved) []) left → NoneOrCopy first left
   whole_finds first f saved made left next may is =
@@ -208,7 +208,7 @@ module _ {F : Type 0} (shows : F → List ℕ → Option (List ℕ) → Type 0)
 
   pub begins_so : (first : Origin) (old mid new : F) (saved : Saved) (made : List BlockPart)
       (text : List ℕ) → KeepsStore shows kept sound moment left_since [] old mid
-      → Next first mid saved made → MayStand (started saved made)
+      → Next first mid saved made → MayStand (started_with saved made)
       → IsJournalText (contents_with (head_texts saved) []) text
       → Leaves mid new text → KeepsOthers shows kept next_name journal_name mid new
       → Begins shows kept moment left_since first old new
