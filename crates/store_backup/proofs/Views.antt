@@ -1,5 +1,5 @@
 -- A copy that is begun again.
-use Rattle.std.proofs.Common.{◌≡◌, ℕ, ◌≤◌, ◌<◌, List, Option, length, arith, sym, subst, ◌≢◌, ◌∙◌}
+use Rattle.std.proofs.Common.{◌≡◌, ℕ, ◌<◌, List, Option, length, arith, sym, subst, ◌≢◌, ◌∙◌}
 use Rattle.std.proofs.Common.{get_or, slice_set, ◌+◌, inl, inr}
 use Rattle.std.proofs.lemmas.List.{get_or-set_other, get_or-set_same, get_or_read}
 use Rattle.data_folder.specs.Folders.{Left, Untouched}

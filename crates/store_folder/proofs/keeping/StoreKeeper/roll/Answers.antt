@@ -221,8 +221,13 @@ returns-in-Ok-save-clause-leaves g c events h world opened =
     joined f.moment f.left_since j.medium.folder mid new P
     (c.in-Ok-save.ensures.leaves events h.0.parts may opened)
     (weaker f.moment f.left_since mid new (IsState saved placed.0 []) P
-    (λ left state. inr (places, placed.0, placed.1, state,
-    c.in-Ok-save.ensures.stands placed.0 placed.1))
+    (λ left state. inr (
+      places,
+      placed.0,
+      placed.1,
+      state,
+      c.in-Ok-save.ensures.stands placed.0 placed.1,
+    ))
     (c.sweep_blocks.ensures.leaves events saved placed.0 [] placed.2
     (sym c.deref-in-Ok-save.ensures.value)))
 
