@@ -37,9 +37,10 @@ use Rattle.store_joiner.proofs.Stores.{as_found, has_open}
 -- a store was found, before which nothing was changed
 pub changes_found : {F : Type 0} (shows : F → List ℕ → Option (List ℕ) → Type 0)
     (kept : F → List ℕ → ℕ → Type 0) (moment : F → ℕ) (left_since : F → ℕ → Left → Type 0)
-    (P : World → World → Type 0) (old mid new : F) (j : FoundJournal) (parts : List BlockPart)
+    (P : Origin → World → World → Type 0) (old mid new : F) (j : FoundJournal) (parts : List BlockPart)
     → Untouched shows kept moment left_since old mid → IsFoundStore shows kept j parts mid
-    → StaysOrFinds moment left_since mid new (origin_of j.head parts) j.events.items P
+    → StaysOrFinds moment left_since mid new (origin_of j.head parts) j.events.items
+    (P (origin_of j.head parts))
     → (MayStand (started j.head parts) → LeavesOnly moment left_since mid new MayStart)
     → Changes shows kept moment left_since P old new
 changes_found shows kept moment left_since P old mid new j parts before is after starts = record {
@@ -82,19 +83,21 @@ module _ {F : Type 0} (moment : F → ℕ) (left_since : F → ℕ → Left → 
       leaves
 
   pub plain_changed : (old mid new : F) (file : List ℕ) (s : FoundStore)
-      (P : World → World → Type 0) → LeavesOnly moment left_since old mid (HasEither file)
+      (P : Origin → World → World → Type 0) → LeavesOnly moment left_since old mid (HasEither file)
       → StandsAlone file s.journal.events.items
       → IsStoreOf nothing_saved [] s.journal.events.items s
       → StaysOrFinds moment left_since mid new
-      (origin_of s.journal.head (map part_in s.blocks.items)) s.journal.events.items P
-      → LeavesOnly moment left_since old new (PlainOrFinds file P)
+      (origin_of s.journal.head (map part_in s.blocks.items)) s.journal.events.items
+      (P (origin_of s.journal.head (map part_in s.blocks.items)))
+      → LeavesOnly moment left_since old new (PlainOrFinds file (P (beginning Whole)))
   plain_changed old mid new file s P before stands is after =
       let events = s.journal.events.items in
-      joined moment left_since old mid new (PlainOrFinds file P)
-      (plain_rests old mid file P before)
-      (weaker moment left_since mid new (StandsOrFinds (beginning Whole) events P)
-      (PlainOrFinds file P) (λ left x. inr (events, stands, x))
-      (as_found (λ (o : Origin) (es : List Event). StaysOrFinds moment left_since mid new o es P)
+      let Q = P (beginning Whole) in
+      joined moment left_since old mid new (PlainOrFinds file Q)
+      (plain_rests old mid file Q before)
+      (weaker moment left_since mid new (StandsOrFinds (beginning Whole) events Q)
+      (PlainOrFinds file Q) (λ left x. inr (events, stands, x))
+      (as_found (λ (o : Origin) (es : List Event). StaysOrFinds moment left_since mid new o es (P o))
       nothing_saved [] events s is after))
 
   pub plain_same : (f : F) (file : List ℕ) (s : FoundStore)
@@ -143,17 +146,18 @@ module _ {F : Type 0} (moment : F → ℕ) (left_since : F → ℕ → Left → 
       weaker moment left_since old new NoneOrStands (NoneOrFinds P)
       (λ left x. ⊎_elim (λ none. inl none) (λ s. inr (inl s)) x) leaves
 
-  pub first_changed : (old mid new : F) (P : World → World → Type 0) (first : Origin)
+  pub first_changed : (old mid new : F) (P : Origin → World → World → Type 0) (first : Origin)
       (events : List Event) → LeavesOnly moment left_since old mid NoneOrStands
       → first ≡ beginning Whole → events ≡ []
-      → StaysOrFinds moment left_since mid new first events P
-      → LeavesOnly moment left_since old new (NoneOrFinds P)
+      → StaysOrFinds moment left_since mid new first events (P first)
+      → LeavesOnly moment left_since old new (NoneOrFinds (P (beginning Whole)))
   first_changed old mid new P first events before is none after =
-      joined moment left_since old mid new (NoneOrFinds P) (first_rests old mid P before)
-      (weaker moment left_since mid new (StandsOrFinds (beginning Whole) [] P) (NoneOrFinds P)
+      let Q = P (beginning Whole) in
+      joined moment left_since old mid new (NoneOrFinds Q) (first_rests old mid Q before)
+      (weaker moment left_since mid new (StandsOrFinds (beginning Whole) [] Q) (NoneOrFinds Q)
       (λ left x. inr x)
-      (subst (λ (o : Origin). StaysOrFinds moment left_since mid new o [] P) is
-      (subst (λ (es : List Event). StaysOrFinds moment left_since mid new first es P) none
+      (subst (λ (o : Origin). StaysOrFinds moment left_since mid new o [] (P o)) is
+      (subst (λ (es : List Event). StaysOrFinds moment left_since mid new first es (P first)) none
       after)))
 
   pub first_same : (f : F) (first : Origin) (events : List Event) → first ≡ beginning Whole

@@ -62,20 +62,21 @@ StaysOrFinds moment left_since old new first events P =
 -- world that is so to theirs. If its head and blocks may be a snapshot, so may those that are left.
 pub record Changes {F : Type 0} (shows : F → List ℕ → Option (List ℕ) → Type 0)
     (kept : F → List ℕ → ℕ → Type 0) (moment : F → ℕ) (left_since : F → ℕ → Left → Type 0)
-    (P : World → World → Type 0) (old new : F) : Type 0 where
+    (P : Origin → World → World → Type 0) (old new : F) : Type 0 where
   pub opened : F
   pub saved : Saved
   pub parts : List BlockPart
   pub events : List Event
   pub untouched : Untouched shows kept moment left_since old opened
   pub store : HasStore shows kept saved parts events opened
-  pub stays : StaysOrFinds moment left_since opened new (origin_of saved parts) events P
+  pub stays : StaysOrFinds moment left_since opened new (origin_of saved parts) events
+      (P (origin_of saved parts))
   pub starts : MayStand (started saved parts) → LeavesOnly moment left_since opened new MayStart
 
 -- nothing was changed, or the store that lies in the folder was
 abbrev pub MayChange : {F : Type 0} → (F → List ℕ → Option (List ℕ) → Type 0)
     → (F → List ℕ → ℕ → Type 0) → (F → ℕ) → (F → ℕ → Left → Type 0)
-    → (World → World → Type 0) → F → F → Type 0
+    → (Origin → World → World → Type 0) → F → F → Type 0
 MayChange shows kept moment left_since P old new =
     Untouched shows kept moment left_since old new
     ⊎ Changes shows kept moment left_since P old new
@@ -161,9 +162,14 @@ SaysOne shows kept f =
 abbrev pub IsJoinedTo : World → World → Type 0
 IsJoinedTo w v = v ≡ with_blocks v.blocks w
 
--- the same world, or the one laid over these blocks
-abbrev pub IsAddedTo : List BlockPart → ℤ → World → World → Type 0
-IsAddedTo blocks floor w v = (v ≡ w) ⊎ (v ≡ with_beneath blocks floor w)
+-- wherever the store began
+abbrev pub IsJoinedHere : Origin → World → World → Type 0
+IsJoinedHere first w v = IsJoinedTo w v
+
+-- the same world; or, if the values of both mean the same, the one laid over these blocks
+abbrev pub IsAddedTo : Values → List BlockPart → ℤ → Origin → World → World → Type 0
+IsAddedTo values blocks floor first w v =
+    (v ≡ w) ⊎ ((first.values ≡ values) × (v ≡ with_beneath blocks floor w))
 
 -- a fault after the store of a folder was opened
 abbrev pub IsLater : ChangeFault → Type 0

@@ -125,11 +125,13 @@ fn add_found<F: Folder + Drop>(
         (λ x. StaysOrFinds F.moment F.left_since found.folder x.1
         (origin_of found.store.journal.head (map part_in found.store.blocks.items))
         found.store.journal.events.items
-        (IsAddedTo opening.now.blocks opening.now.floor))
+        (IsAddedTo values opening.now.blocks opening.now.floor
+        (origin_of found.store.journal.head (map part_in found.store.blocks.items))))
         (λ e. StaysOrFinds F.moment F.left_since found.folder e.1
         (origin_of found.store.journal.head (map part_in found.store.blocks.items))
         found.store.journal.events.items
-        (IsAddedTo opening.now.blocks opening.now.floor)) }
+        (IsAddedTo values opening.now.blocks opening.now.floor
+        (origin_of found.store.journal.head (map part_in found.store.blocks.items)))) }
     ensures starts { TellsFiles F.shows → MayStand (started found.store.journal.head
         (map part_in found.store.blocks.items))
         → MatchResult result
@@ -281,9 +283,9 @@ fn add_first<F: Folder + Drop>(
         → (F.failed e.1 ≡ true) ⊎ ListsNumber F.lists e.1 true) }
     ensures any_moment { TellsFiles F.shows → MatchResult result
         (λ x. LeavesOnly F.moment F.left_since folder x.1
-        (NoneOrFinds (IsAddedTo opening.now.blocks opening.now.floor)))
+        (NoneOrFinds (IsAddedTo values opening.now.blocks opening.now.floor (beginning Whole))))
         (λ e. LeavesOnly F.moment F.left_since folder e.1
-        (NoneOrFinds (IsAddedTo opening.now.blocks opening.now.floor))) }
+        (NoneOrFinds (IsAddedTo values opening.now.blocks opening.now.floor (beginning Whole)))) }
     ensures starts { TellsFiles F.shows → MatchResult result
         (λ x. LeavesOnly F.moment F.left_since folder x.1 MayStart)
         (λ e. LeavesOnly F.moment F.left_since folder e.1 MayStart) }
@@ -330,9 +332,9 @@ pub fn add_to_store<F: Folder + Drop>(
         (events : List Change) → (s : HasStore F.shows F.kept saved parts events folder)
         → begins_plain s.file ≡ false → MatchResult result
         (λ x. StaysOrFinds F.moment F.left_since folder x.1 (origin_of saved parts)
-        events (IsAddedTo opening.now.blocks opening.now.floor))
+        events (IsAddedTo values opening.now.blocks opening.now.floor (origin_of saved parts)))
         (λ e. StaysOrFinds F.moment F.left_since folder e.1 (origin_of saved parts)
-        events (IsAddedTo opening.now.blocks opening.now.floor)) }
+        events (IsAddedTo values opening.now.blocks opening.now.floor (origin_of saved parts))) }
     // If the head and the blocks may be a snapshot, then so may those that such a crash leaves: no
     // start refuses them.
     ensures starts { TellsFiles F.shows → (saved : Saved) (parts : List BlockPart)
@@ -388,18 +390,20 @@ pub fn add_to_store<F: Folder + Drop>(
         → F.shows folder journal_name (Some file) → begins_plain file ≡ false
         → MatchResult result
         (λ y. Changes F.shows F.kept F.moment F.left_since
-        (IsAddedTo opening.now.blocks opening.now.floor) folder y.1)
+        (IsAddedTo values opening.now.blocks opening.now.floor) folder y.1)
         (λ e. MayChange F.shows F.kept F.moment F.left_since
-        (IsAddedTo opening.now.blocks opening.now.floor) folder e.1) }
+        (IsAddedTo values opening.now.blocks opening.now.floor) folder e.1) }
     // Of a journal of events alone, a crash at any moment of the call leaves it as it was or with a
     // head; or a start finds the world of its events, or it laid over the blocks.
     ensures plain { TellsFiles F.shows → (file : List ℕ)
         → HasFile F.shows F.kept journal_name file folder → begins_plain file ≡ true
         → MatchResult result
         (λ y. LeavesOnly F.moment F.left_since folder y.1
-        (PlainOrFinds file (IsAddedTo opening.now.blocks opening.now.floor)))
+        (PlainOrFinds file (IsAddedTo values opening.now.blocks opening.now.floor
+        (beginning Whole))))
         (λ e. LeavesOnly F.moment F.left_since folder e.1
-        (PlainOrFinds file (IsAddedTo opening.now.blocks opening.now.floor))) }
+        (PlainOrFinds file (IsAddedTo values opening.now.blocks opening.now.floor
+        (beginning Whole)))) }
     // Where it does not leave the journal so, no start refuses the head and the blocks that are
     // left.
     ensures plain_starts { TellsFiles F.shows → (file : List ℕ)
@@ -439,9 +443,9 @@ pub fn add_to_store<F: Folder + Drop>(
     ensures first { TellsFiles F.shows → F.shows folder journal_name None
         → F.kept folder journal_name 0 → MatchResult result
         (λ x. LeavesOnly F.moment F.left_since folder x.1
-        (NoneOrFinds (IsAddedTo opening.now.blocks opening.now.floor)))
+        (NoneOrFinds (IsAddedTo values opening.now.blocks opening.now.floor (beginning Whole))))
         (λ e. LeavesOnly F.moment F.left_since folder e.1
-        (NoneOrFinds (IsAddedTo opening.now.blocks opening.now.floor))) }
+        (NoneOrFinds (IsAddedTo values opening.now.blocks opening.now.floor (beginning Whole)))) }
     // No start refuses the head and the blocks that are left.
     ensures first_starts { TellsFiles F.shows → F.shows folder journal_name None
         → F.kept folder journal_name 0 → MatchResult result

@@ -20,7 +20,8 @@ ghost use Rattle.store_folder.specs.States.{MayStart, origin_of, started};
 ghost use Rattle.store_folder.specs.Writing.{EachSays};
 ghost use Rattle.store_joiner.specs.Finds.{BlocksSay, Finds, FindsNow, other_of};
 ghost use Rattle.store_joiner.specs.Joins.{with_blocks};
-ghost use Rattle.store_joiner.specs.Stores.{Changes, HasStore, IsJoinedTo, IsLater, IsSame};
+ghost use Rattle.store_joiner.specs.Stores.{Changes, HasStore, IsJoinedHere, IsJoinedTo, IsLater};
+ghost use Rattle.store_joiner.specs.Stores.{IsSame};
 ghost use Rattle.store_joiner.specs.Stores.{LeavesNow, MayChange, MayChangePlain, PlainOrFinds};
 ghost use Rattle.store_joiner.specs.Stores.{PlainOrStarts, SaysOne, StaysNow, StaysOrFinds};
 
@@ -307,8 +308,8 @@ pub fn join_store<F: Folder + Drop>(
     // without a file of a block that it names, stays as it is.
     ensures safe { TellsFiles F.shows → (x : Option (List ℕ)) → F.shows folder journal_name x
         → may_be_plain x ≡ false → MatchResult result
-        (λ y. Changes F.shows F.kept F.moment F.left_since IsJoinedTo folder y.1)
-        (λ e. MayChange F.shows F.kept F.moment F.left_since IsJoinedTo folder e.1) }
+        (λ y. Changes F.shows F.kept F.moment F.left_since IsJoinedHere folder y.1)
+        (λ e. MayChange F.shows F.kept F.moment F.left_since IsJoinedHere folder e.1) }
     // Of a journal of events alone, a crash at any moment of the call leaves it as it was or with a
     // head; or a start finds the world of its events.
     ensures plain { TellsFiles F.shows → (file : List ℕ)

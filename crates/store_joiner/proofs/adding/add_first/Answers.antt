@@ -23,10 +23,10 @@ returns-in-Ok-clause-any_moment g c tells =
     let is = origin_again (beginning Whole) head parts (c.in-Ok.ensures.after tells) in
     match_so c.add_found.result _ _ _ _
     (λ y leaves. first_changed f.moment f.left_since c.args.folder x.folder y.1
-    (IsAddedTo o.blocks o.floor) (origin_of head parts) x.store.journal.events.items
+    (IsAddedTo c.args.values o.blocks o.floor) (origin_of head parts) x.store.journal.events.items
     c.in-Ok.ensures.any_moment is c.in-Ok.ensures.saved leaves)
     (λ e leaves. first_changed f.moment f.left_since c.args.folder x.folder e.1
-    (IsAddedTo o.blocks o.floor) (origin_of head parts) x.store.journal.events.items
+    (IsAddedTo c.args.values o.blocks o.floor) (origin_of head parts) x.store.journal.events.items
     c.in-Ok.ensures.any_moment is c.in-Ok.ensures.saved leaves)
     (c.add_found.ensures.any_moment tells)
 
@@ -86,7 +86,7 @@ returns-then-not-is_same-clause-any_moment g c tells =
     let f = g.F.Folder in
     let old = c.args.folder in
     first_rests f.moment f.left_since old old
-    (IsAddedTo c.args.opening.now.blocks c.args.opening.now.floor)
+    (IsAddedTo c.args.values c.args.opening.now.blocks c.args.opening.now.floor (beginning Whole))
     (none_left f.shows f.kept f.moment f.left_since g.met.F.Folder.only_now old old c.requires.none.0
     c.requires.none.1 (untouched f.shows f.kept f.moment f.left_since old))
 

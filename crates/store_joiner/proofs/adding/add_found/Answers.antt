@@ -1,10 +1,10 @@
-use Rattle.std.proofs.Common.{map, refl}
+use Rattle.std.proofs.Common.{◌≡◌, inl, inr, map, refl, rules}
 use Rattle.head.specs.Blocks.{part_in}
 use Rattle.head.specs.Heads.{world_of}
 use Rattle.store_folder.specs.States.{origin_of, started}
 use Rattle.store_joiner.specs.Adds.{with_beneath}
 use Rattle.store_joiner.specs.Stores.{IsAddedTo}
-use Rattle.store_joiner.proofs.Stores.{finds_then, if_both, if_err, match_so, means_so}
+use Rattle.store_joiner.proofs.Stores.{either_so, finds_then, if_both, if_err, match_so, means_so}
 use Rattle.store_folder.proofs.Starts.{stays_found}
 use Rattle.store_joiner.proofs.Stores.{stays, stays_now, then_finds}
 use Rattle.data_folder.proofs.Foreign.{foreign_rests, foreign_then}
@@ -15,20 +15,25 @@ use Rattle.store_joiner.proofs.adding.add_found.Goals as goal
 pub returns-in-Ok-clause-any_moment : goal.returns-in-Ok-clause-any_moment
 returns-in-Ok-clause-any_moment g c tells =
     let f = g.F.Folder in
+    let o = c.args.opening.now in
     let s = c.args.found.store in
     let first = origin_of s.journal.head (map part_in s.blocks.items) in
     let x = c.in-Ok.saved in
     let head = x.store.journal.head in
     let parts = map part_in x.store.blocks.items in
+    let w = world_of (started head parts) in
+    let P = IsAddedTo c.args.values o.blocks o.floor first in
+    let means : s.journal.head.values ≡ c.args.values = search rules in
     match_so c.add_saved.result _ _ _ _
-    (λ y leaves. then_finds f.moment f.left_since c.args.found.folder x.folder y.1 first head
-    parts s.journal.events.items (IsAddedTo c.args.opening.now.blocks c.args.opening.now.floor)
-    c.in-Ok.ensures.any_moment (c.in-Ok.ensures.after tells)
-    leaves)
-    (λ e leaves. then_finds f.moment f.left_since c.args.found.folder x.folder e.1 first head
-    parts s.journal.events.items (IsAddedTo c.args.opening.now.blocks c.args.opening.now.floor)
-    c.in-Ok.ensures.any_moment (c.in-Ok.ensures.after tells)
-    leaves) c.add_saved.ensures.any_moment
+    (λ y leaves. then_finds f.moment f.left_since c.args.found.folder x.folder y.1 first head parts
+    s.journal.events.items P c.in-Ok.ensures.any_moment (c.in-Ok.ensures.after tells)
+    (either_so f.moment f.left_since x.folder y.1 (origin_of head parts)
+    (with_beneath o.blocks o.floor w) (P w) (inl refl) (inr (means, refl)) leaves))
+    (λ e leaves. then_finds f.moment f.left_since c.args.found.folder x.folder e.1 first head parts
+    s.journal.events.items P c.in-Ok.ensures.any_moment (c.in-Ok.ensures.after tells)
+    (either_so f.moment f.left_since x.folder e.1 (origin_of head parts)
+    (with_beneath o.blocks o.floor w) (P w) (inl refl) (inr (means, refl)) leaves))
+    c.add_saved.ensures.any_moment
 
 pub returns-in-Ok-clause-finds : goal.returns-in-Ok-clause-finds
 returns-in-Ok-clause-finds g c tells =
@@ -78,7 +83,9 @@ returns-then-not-has_values-clause-any_moment g c tells =
     let s = c.args.found.store in
     let parts = map part_in s.blocks.items in
     stays f.moment f.left_since c.args.found.folder c.args.found.folder (origin_of s.journal.head parts)
-    s.journal.events.items (IsAddedTo c.args.opening.now.blocks c.args.opening.now.floor)
+    s.journal.events.items
+    (IsAddedTo c.args.values c.args.opening.now.blocks c.args.opening.now.floor
+    (origin_of s.journal.head parts))
     (stays_found f.shows f.kept f.sound f.moment f.left_since g.met.F.Folder.only_now
     (origin_of s.journal.head parts) c.args.found.folder s.journal parts c.requires.found refl)
 
@@ -143,4 +150,5 @@ returns-in-Err-clause-any_moment g c tells =
     let s = c.args.found.store in
     stays f.moment f.left_since c.args.found.folder c.in-Err.fault.1
     (origin_of s.journal.head (map part_in s.blocks.items)) s.journal.events.items
-    (IsAddedTo c.args.opening.now.blocks c.args.opening.now.floor) c.in-Err.ensures.any_moment
+    (IsAddedTo c.args.values c.args.opening.now.blocks c.args.opening.now.floor
+    (origin_of s.journal.head (map part_in s.blocks.items))) c.in-Err.ensures.any_moment

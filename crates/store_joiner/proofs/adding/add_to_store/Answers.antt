@@ -3,7 +3,7 @@ use Rattle.head.specs.Worlds.{Event}
 use Rattle.data_folder.specs.Folders.{LeavesOnly}
 use Rattle.std.specs.Prelude.{List, Ok, Option, Result}
 use Rattle.store_folder.specs.Faults.{GivesStore, IsStoreOf}
-use Rattle.store_folder.specs.Origins.{Origin}
+use Rattle.store_folder.specs.Origins.{Origin, beginning}
 use Rattle.store_folder.specs.Plain.{DeniesFolder}
 use Rattle.store_folder.specs.States.{origin_of}
 use Rattle.store_folder.specs.declared.error.StartError.{StartError}
@@ -60,13 +60,13 @@ returns-in-Some-clause-any_moment g c tells saved parts events h plain =
     (c.open_store.ensures.whole tells (Some h.file) h.has.shown plain) in
     match_so c.add_found.result _ _ _ _
     (λ x leaves. then_stays f.moment f.left_since old mid x.1 first events
-    (IsAddedTo c.args.opening.now.blocks c.args.opening.now.floor) before
+    (IsAddedTo c.args.values c.args.opening.now.blocks c.args.opening.now.floor first) before
     (as_found (λ (w : Origin) (es : List Event). LeavesOnly f.moment f.left_since mid x.1
-    (StandsOrFinds w es (IsAddedTo c.args.opening.now.blocks c.args.opening.now.floor))) saved parts events c.in-Some.store is leaves))
+    (StandsOrFinds w es (IsAddedTo c.args.values c.args.opening.now.blocks c.args.opening.now.floor w))) saved parts events c.in-Some.store is leaves))
     (λ e leaves. then_stays f.moment f.left_since old mid e.1 first events
-    (IsAddedTo c.args.opening.now.blocks c.args.opening.now.floor) before
+    (IsAddedTo c.args.values c.args.opening.now.blocks c.args.opening.now.floor first) before
     (as_found (λ (w : Origin) (es : List Event). LeavesOnly f.moment f.left_since mid e.1
-    (StandsOrFinds w es (IsAddedTo c.args.opening.now.blocks c.args.opening.now.floor))) saved parts events c.in-Some.store is leaves))
+    (StandsOrFinds w es (IsAddedTo c.args.values c.args.opening.now.blocks c.args.opening.now.floor w))) saved parts events c.in-Some.store is leaves))
     (c.add_found.ensures.any_moment tells)
 
 pub returns-in-Some-clause-stays : goal.returns-in-Some-clause-stays
@@ -91,7 +91,7 @@ returns-in-Err-clause-any_moment g c tells saved parts events h plain =
     let old = c.args.folder in
     let new = c.open_store.new.folder in
     stays f.moment f.left_since old new first events
-    (IsAddedTo c.args.opening.now.blocks c.args.opening.now.floor)
+    (IsAddedTo c.args.values c.args.opening.now.blocks c.args.opening.now.floor first)
     (untouched_finds f.shows f.kept f.sound f.moment f.left_since met.only_now met.earlier first
     events old new (has_for f.shows f.kept saved parts events old h)
     (c.open_store.ensures.whole tells (Some h.file) h.has.shown plain))
@@ -145,9 +145,9 @@ returns-in-Some-clause-safe g c tells file shown other =
     so_and_starts f.moment f.left_since c.add_found.result (MayStand (started s.journal.head parts))
     (λ y. y.1) (λ e. e.1) mid _ _ _ _
     (λ y leaves starts. changes_found f.shows f.kept f.moment f.left_since
-    (IsAddedTo c.args.opening.now.blocks c.args.opening.now.floor) old mid y.1 s.journal parts before is leaves starts)
+    (IsAddedTo c.args.values c.args.opening.now.blocks c.args.opening.now.floor) old mid y.1 s.journal parts before is leaves starts)
     (λ e leaves starts. inr (changes_found f.shows f.kept f.moment f.left_since
-    (IsAddedTo c.args.opening.now.blocks c.args.opening.now.floor) old mid e.1 s.journal parts before is leaves starts))
+    (IsAddedTo c.args.values c.args.opening.now.blocks c.args.opening.now.floor) old mid e.1 s.journal parts before is leaves starts))
     (c.add_found.ensures.any_moment tells) (c.add_found.ensures.starts tells)
 
 pub returns-in-Err-clause-safe : goal.returns-in-Err-clause-safe
@@ -170,16 +170,16 @@ returns-in-Some-clause-plain g c tells file has plain =
     let before = c.open_store.ensures.any_moment tells file has in
     match_so c.add_found.result _ _ _ _
     (λ y leaves. plain_changed f.moment f.left_since old mid y.1 file s
-    (IsAddedTo c.args.opening.now.blocks c.args.opening.now.floor) before found.0 store leaves)
+    (IsAddedTo c.args.values c.args.opening.now.blocks c.args.opening.now.floor) before found.0 store leaves)
     (λ e leaves. plain_changed f.moment f.left_since old mid e.1 file s
-    (IsAddedTo c.args.opening.now.blocks c.args.opening.now.floor) before found.0 store leaves)
+    (IsAddedTo c.args.values c.args.opening.now.blocks c.args.opening.now.floor) before found.0 store leaves)
     (c.add_found.ensures.any_moment tells)
 
 pub returns-in-Err-clause-plain : goal.returns-in-Err-clause-plain
 returns-in-Err-clause-plain g c tells file has plain =
     let f = g.F.Folder in
     plain_rests f.moment f.left_since c.args.folder c.open_store.new.folder file
-    (IsAddedTo c.args.opening.now.blocks c.args.opening.now.floor)
+    (IsAddedTo c.args.values c.args.opening.now.blocks c.args.opening.now.floor (beginning Whole))
     (c.open_store.ensures.any_moment tells file has)
 
 pub returns-in-Some-clause-plain_stays : goal.returns-in-Some-clause-plain_stays
@@ -285,7 +285,7 @@ pub returns-in-Err-clause-first : goal.returns-in-Err-clause-first
 returns-in-Err-clause-first g c tells shown durable =
     let f = g.F.Folder in
     first_rests f.moment f.left_since c.args.folder c.open_store.new.folder
-    (IsAddedTo c.args.opening.now.blocks c.args.opening.now.floor)
+    (IsAddedTo c.args.values c.args.opening.now.blocks c.args.opening.now.floor (beginning Whole))
     (none_left f.shows f.kept f.moment f.left_since g.met.F.Folder.only_now c.args.folder c.open_store.new.folder
     shown durable (c.open_store.ensures.whole tells None shown refl))
 
@@ -349,15 +349,15 @@ returns-in-None-clause-first g c tells shown durable =
     let old = c.args.folder in
     let mid = c.open_store.new.folder in
     let before = first_rests f.moment f.left_since old mid
-    (IsAddedTo c.args.opening.now.blocks c.args.opening.now.floor)
+    (IsAddedTo c.args.values c.args.opening.now.blocks c.args.opening.now.floor (beginning Whole))
     (none_left f.shows f.kept f.moment f.left_since g.met.F.Folder.only_now old mid shown durable
     (c.open_store.ensures.whole tells None shown refl)) in
     match_so c.add_first.result _ _ _ _
     (λ x k. joined f.moment f.left_since old mid x.1
-    (NoneOrFinds (IsAddedTo c.args.opening.now.blocks c.args.opening.now.floor))
+    (NoneOrFinds (IsAddedTo c.args.values c.args.opening.now.blocks c.args.opening.now.floor (beginning Whole)))
     before k)
     (λ e k. joined f.moment f.left_since old mid e.1
-    (NoneOrFinds (IsAddedTo c.args.opening.now.blocks c.args.opening.now.floor))
+    (NoneOrFinds (IsAddedTo c.args.values c.args.opening.now.blocks c.args.opening.now.floor (beginning Whole)))
     before k)
     (c.add_first.ensures.any_moment tells)
 

@@ -8,7 +8,7 @@ use Rattle.store_folder.specs.Plain.{DeniesFolder}
 use Rattle.store_folder.specs.States.{origin_of, started}
 use Rattle.store_folder.specs.declared.error.StartError.{StartError}
 use Rattle.store_folder.specs.declared.reading.FoundStore.{FoundStore}
-use Rattle.store_joiner.specs.Stores.{IsJoinedTo, StandsOrFinds, StaysNow}
+use Rattle.store_joiner.specs.Stores.{IsJoinedHere, IsJoinedTo, StandsOrFinds, StaysNow}
 use Rattle.store_joiner.proofs.Stores.{as_found, has_for, if_err, match_so, now_in, stays, stays_now}
 use Rattle.store_joiner.proofs.Stores.{then_stays, untouched_finds}
 use Rattle.std.proofs.Common.{◌≡◌, [], inl, inr, map, rules, subst₂, sym, ◌∙◌}
@@ -139,9 +139,9 @@ returns-in-Some-clause-safe g c tells x shown other =
     so_and_starts f.moment f.left_since c.join_found.result (MayStand (started s.journal.head parts))
     (λ y. y.1) (λ e. e.1) mid _ _ _ _
     (λ y leaves starts. changes_found f.shows f.kept f.moment f.left_since
-    IsJoinedTo old mid y.1 s.journal parts before is leaves starts)
+    IsJoinedHere old mid y.1 s.journal parts before is leaves starts)
     (λ e leaves starts. inr (changes_found f.shows f.kept f.moment f.left_since
-    IsJoinedTo old mid e.1 s.journal parts before is leaves starts))
+    IsJoinedHere old mid e.1 s.journal parts before is leaves starts))
     (c.join_found.ensures.any_moment tells) (c.join_found.ensures.starts tells)
 
 pub returns-in-Err-clause-safe : goal.returns-in-Err-clause-safe
@@ -164,9 +164,9 @@ returns-in-Some-clause-plain g c tells file has plain =
     let before = c.open_store.ensures.any_moment tells file has in
     match_so c.join_found.result _ _ _ _
     (λ y leaves. plain_changed f.moment f.left_since old mid y.1 file s
-    IsJoinedTo before found.0 store leaves)
+    IsJoinedHere before found.0 store leaves)
     (λ e leaves. plain_changed f.moment f.left_since old mid e.1 file s
-    IsJoinedTo before found.0 store leaves)
+    IsJoinedHere before found.0 store leaves)
     (c.join_found.ensures.any_moment tells)
 
 pub returns-in-Err-clause-plain : goal.returns-in-Err-clause-plain
