@@ -20,11 +20,13 @@ use Rattle.page_text.specs.declared.value.Values.{Values}
 use Rattle.page_text.specs.declared.value.Values.TheVariants.{Whole, Doubles}
 use Rattle.page.specs.declared.shown.Shown.{Shown}
 use Rattle.page.specs.declared.write.Page.{Page}
-use Rattle.state_claims.specs.declared.said.StateSaid.{StateSaid}
+use Rattle.state_claims.specs.Said.{ShowsState}
+use Rattle.state_claims.specs.declared.found.FoundState.{FoundState}
 use Rattle.kept_folder.specs.Folders.{IsStoreAt}
 use Rattle.kept_folder.specs.declared.reading.FoundStore.{FoundStore}
 use Rattle.store_audit.specs.declared.judging.StateReport.{StateReport}
 use Rattle.store_audit.specs.declared.judging.StoreJudgement.TheVariants.{Told as Said}
+use Rattle.store_command.specs.Asking.{NamesBoth, NamesOne}
 use Rattle.store_command.specs.Judging.{IsFolderFault, IsJudged, IsJudgingFault}
 use Rattle.store_command.specs.Marks.{mark_at, mark_text}
 use Rattle.store_command.specs.Printing.{has_refused, refused_lines}
@@ -36,7 +38,6 @@ use Rattle.audit_command.specs.Walking.{AreTablesAt, IsFirstFault}
 use Rattle.audit_command.specs.declared.fault.Fault.{Fault as AuditFault}
 use Rattle.explain.specs.Series.{IsSeriesFault}
 use Rattle.explain.specs.declared.answer.Found.{Found}
-use Rattle.explain.specs.declared.judging.FoundState.{FoundState}
 use Rattle.explain.specs.declared.judging.Judged.{Judged}
 use Rattle.explain.specs.declared.command.Asked.{Asked}
 use Rattle.explain.specs.declared.fault.Fault.{Fault}
@@ -90,13 +91,12 @@ store_of asked = option_map (λ text. text.now) asked.store
 
 -- a store is named, and directories too
 pub record IsBeside (asked : Asked) (fault : Fault) : Type 0 where
-  pub store : is_some asked.store ≡ true
-  pub directories : directories_of asked.audit ≡ [] → ⊥
+  pub both : NamesBoth (store_of asked) (directories_of asked.audit)
   pub fault_is : fault ≡ Beside
 
 -- it names a store, or directories, or neither
 abbrev pub IsOneAim : Asked → Type 0
-IsOneAim asked = (asked.store ≡ None) ⊎ (directories_of asked.audit ≡ [])
+IsOneAim asked = NamesOne (store_of asked) (directories_of asked.audit)
 
 -- what was done with each part of the reply that the text says, its answers and its rows
 pub record IsToldIn (text : List ℕ) (told : Told) : Type 0 where
@@ -169,20 +169,6 @@ pub record HasRead (reads : Host) (input : Option (List ℕ)) (asked : Asked) (f
   pub is_told : IsToldIn found.text.items found.told
   pub one_aim : IsOneAim asked
   pub is_judged : IsJudgedBy (store_of asked) reads asked found.query found.text.items found.judged
-
--- what is shown of a state is what was found
-pub record IsSaidOf (state : FoundState) (said : StateSaid) : Type 0 where
-  pub lines : said.lines.now ≡ state.lines.items
-  pub found : said.is_found ≡ state.is_found
-  pub told : said.told ≡ state.told
-  pub events : said.events ≡ state.events
-  pub mark : said.mark.now ≡ string_bytes state.mark
-
-abbrev pub ShowsState : Option FoundState → Option StateSaid → Type 0
-ShowsState None None = ⊤
-ShowsState None (Some said) = ⊥
-ShowsState (Some state) None = ⊥
-ShowsState (Some state) (Some said) = IsSaidOf state said
 
 -- what is shown is what was read, with the length and the SHA-256 of the reply
 pub record Shows (asked : Asked) (found : Found) (shown : Shown) : Type 0 where

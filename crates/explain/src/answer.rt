@@ -5,13 +5,13 @@ ghost use Rattle.asked_series.specs.Series.{IsSeries};
 ghost use Rattle.audit_command.specs.Auditing.{IsTextFault};
 ghost use Rattle.explain.specs.Series.{IsSeriesFault};
 ghost use Rattle.explain.specs.Showing.{IsAbout, IsAboutFault, IsAuditFault, IsToldIn};
-ghost use Rattle.explain.specs.Showing.{IsBeside, IsOneAim, IsSaidOf, IsShownAs, HasRead};
+ghost use Rattle.explain.specs.Showing.{IsBeside, IsOneAim, IsShownAs, HasRead};
 ghost use Rattle.explain.specs.Showing.{IsPageOfFound, Shows, IsAnswer, IsAnswerFault, values_of};
-ghost use Rattle.explain.specs.Showing.{IsNoMeaning, ShowsState};
+ghost use Rattle.explain.specs.Showing.{IsNoMeaning};
 
 use crate::command::Asked;
 use crate::fault::Fault;
-use crate::judging::{FoundState, Judged, judge_reply};
+use crate::judging::{Judged, judge_reply};
 use asked_series::{SeriesError, series_of};
 use audit_command::{Fault as AuditFault, ReadFiles, all_of, query_of, reply_of};
 use labels::LabelSet;
@@ -20,9 +20,10 @@ use page::{Page, Shown, write_page, write_text};
 use page_claims::Told;
 use page_text::Values;
 use sha2::{Digest, Sha256};
-use state_claims::StateSaid;
+use state_claims::said_in;
 use std::alloc::{AllocError, Global};
 use std::io::Read;
+use store_command::{Beside, check_names};
 
 /// The label set of a series that is written as a selector is, with `=` alone.
 fn series_in(alloc: Global, text: &str) -> Result<LabelSet, Fault>
@@ -78,15 +79,9 @@ fn check_aim(asked: &Asked<'_>) -> Result<(), Fault>
     ensures ok { IfOk result (λ _. IsOneAim asked.now) }
     ensures err { IfErr result (λ fault. IsBeside asked.now fault) }
 {
-    match asked.store {
-        None => Ok(()),
-        Some(_) => {
-            if asked.audit.directories.as_slice().is_empty() {
-                Ok(())
-            } else {
-                Err(Fault::Beside)
-            }
-        }
+    match check_names(asked.store, &asked.audit) {
+        Ok(()) => Ok(()),
+        Err(Beside) => Err(Fault::Beside),
     }
 }
 
@@ -155,33 +150,11 @@ fn write_found(
     write_shown(alloc, asked.text, shown)
 }
 
-/// What is said over a state of a store, lent.
-fn said_of<'a>(state: &'a FoundState) -> StateSaid<'a>
-    ensures { IsSaidOf state.now result }
-{
-    StateSaid {
-        lines: state.lines.as_slice(),
-        is_found: state.is_found,
-        told: state.told,
-        events: state.events,
-        mark: state.mark.as_str(),
-    }
-}
-
-fn said_in<'a>(judged: &'a Judged) -> Option<StateSaid<'a>>
-    ensures { ShowsState judged.now.state result }
-{
-    match &judged.state {
-        Some(state) => Some(said_of(state)),
-        None => None,
-    }
-}
-
 /// The page of what was read, with the length and the SHA-256 of the reply.
 fn page_of(alloc: Global, asked: &Asked<'_>, found: &Found) -> Result<Page, AllocError>
     ensures { IfOk result (λ page. IsPageOfFound asked.now found.now page) }
 {
-    let said = said_in(&found.judged);
+    let said = said_in(&found.judged.state);
     let shown = Shown {
         selector: asked.audit.selector,
         query: &found.query,

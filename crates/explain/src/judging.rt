@@ -15,20 +15,12 @@ use audit_command::{ReadFiles, reply_of, tables_at};
 use auditor::{BlockTable, Line, Reply, judge};
 use kept_folder::FoundStore;
 use matchers::Query;
+use state_claims::FoundState;
 use std::alloc::{AllocError, Global};
 use store_audit::{StateReport, StoreJudgement, judge_store};
-use store_command::{Fault as StoreFault, Mark, has_refused, read_folder, refused_lines, walked};
-use whole_audit::StateLine;
-
-/// The lines of a reply over a state of a store, and which state it is.
-#[derive(Drop)]
-pub struct FoundState {
-    pub lines: Vec<StateLine>,
-    pub is_found: bool,
-    pub told: usize,
-    pub events: usize,
-    pub mark: String,
-}
+use store_command::{
+    Fault as StoreFault, has_refused, mark_of, read_folder, refused_lines, walked,
+};
 
 /// What is said of a reply: over directories, what is known of the blocks and the auditor's lines;
 /// over a store, the lines over a state, or those of the blocks whose files are refused.
@@ -83,7 +75,7 @@ fn judge_blocks<F: ReadFiles>(
 fn state_of(alloc: Global, head: u32, report: StateReport) -> Result<FoundState, AllocError>
     ensures { IfOk result (λ state. IsStateOf head report state) }
 {
-    let mark = Mark::at(head, report.told).text(alloc)?;
+    let mark = mark_of(alloc, head, &report)?;
     Ok(FoundState {
         lines: report.lines,
         is_found: report.found.is_some(),

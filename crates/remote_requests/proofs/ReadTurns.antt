@@ -25,7 +25,8 @@ use Rattle.remote_requests.specs.declared.reads.NoQuery.TheVariants.{Memory, Fau
 use Rattle.remote_requests.specs.declared.refusal.QueryFault.TheVariants as faults
 use Rattle.remote_requests.specs.NoQueries.{OrMemory}
 use Rattle.remote_requests.specs.Queries.{IsMatcherOf, IsMatcherFault, HasMatcherFault}
-use Rattle.remote_requests.specs.Queries.{IsReadingOf, IsQueryFault, HasQueryFault, from_of, to_of}
+use Rattle.asked_times.specs.Times.{first_time, last_time}
+use Rattle.remote_requests.specs.Queries.{IsReadingOf, IsQueryFault, HasQueryFault}
 use Rattle.remote_requests.specs.Queries.{op_of, AsksPattern}
 
 pub matcher_fault : (sent front back : List MatcherValue) (first : MatcherValue)
@@ -80,8 +81,8 @@ cut_high end true e = refl
 cut_high end false e = e
 
 -- a range with a time of the store is one of a query
-pub range_is : (start end : ℤ) → int_lt (to_of end) (from_of start) ≡ false
-    → is_query_range (from_of start) (to_of end) ≡ true
+pub range_is : (start end : ℤ) → int_lt (last_time end) (first_time start) ≡ false
+    → is_query_range (first_time start) (last_time end) ≡ true
 range_is start end e =
     rw (
       cut_low start (int_lt start (negsuc 4611686018427387903)) refl,
@@ -89,16 +90,16 @@ range_is start end e =
       cut_high end (int_lt (pos 4611686018427387903) end) refl,
     ) refl
 
-pub no_query : (e : QueryError) (a b start end : ℤ) (ms : List MatcherView) → a ≡ from_of start
-    → b ≡ to_of end → int_lt b a ≡ false → length ms ≤ 64
+pub no_query : (e : QueryError) (a b start end : ℤ) (ms : List MatcherView) → a ≡ first_time start
+    → b ≡ last_time end → int_lt b a ≡ false → length ms ≤ 64
     → (IsErrOf {T = QueryView} (Err e) BadRange → is_query_range a b ≡ false)
     → (IsErrOf {T = QueryView} (Err e) TooManyMatchers → (is_query_range a b ≡ true)
     × (64 < length ms)) → ⊥
 no_query BadRange a b start end ms low high order few bad many =
-    let first : int_lt b (from_of start) ≡ false =
+    let first : int_lt b (first_time start) ≡ false =
     subst (λ (p : ℤ). int_lt b p ≡ false) low order in
-    let both : int_lt (to_of end) (from_of start) ≡ false =
-    subst (λ (p : ℤ). int_lt p (from_of start) ≡ false) high first in
+    let both : int_lt (last_time end) (first_time start) ≡ false =
+    subst (λ (p : ℤ). int_lt p (first_time start) ≡ false) high first in
     true≢false (sym (range_is start end both) ∙ (rw (low, high) at (bad refl)))
 no_query TooManyMatchers a b start end ms low high order few bad many =
     omega (arith, few, (many refl).1)

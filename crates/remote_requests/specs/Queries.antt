@@ -1,9 +1,10 @@
 -- What a query of a read comes to: a query of the store, or why it is refused.
-use Rattle.std.specs.Prelude.{◌≡◌, ◌<◌, ◌≤◌, ℕ, ℤ, pos, negsuc, Bool, true, false, ◌&&◌, ◌==◌, List}
+use Rattle.std.specs.Prelude.{◌≡◌, ◌<◌, ◌≤◌, ℕ, ℤ, Bool, true, false, ◌&&◌, ◌==◌, List}
 use Rattle.std.specs.Prelude.{◌∷◌, ◌++◌, length, codes, int_lt, Option, None, Some}
 use Rattle.std.specs.Prelude.{if◌then◌else◌}
 use Rattle.std.specs.List.{AllZip}
 use Rattle.std.specs.Str.{bytes_eq, is_utf8}
+use Rattle.asked_times.specs.Times.{first_time, last_time}
 use Rattle.labels.specs.Names.{is_name}
 use Rattle.matchers.specs.declared.matcher.Op.{Op}
 use Rattle.matchers.specs.declared.matcher.Op.TheVariants as ops
@@ -70,20 +71,11 @@ pub record HasMatcherFault (sent : List MatcherValue) (why : QueryFault) : Type 
   pub before : AllZip IsMatcherOf front made
   pub fault : IsMatcherFault first why
 
--- the first time that is asked for, from -2^62 on
-abbrev pub from_of : ℤ → ℤ
-from_of start =
-    if int_lt start (negsuc 4611686018427387903) then negsuc 4611686018427387903 else start
-
--- the last time that is asked for, up to 2^62 - 1
-abbrev pub to_of : ℤ → ℤ
-to_of end = if int_lt (pos 4611686018427387903) end then pos 4611686018427387903 else end
-
 -- the query of these matchers over the times of the store in a range, if it has one
 abbrev pub query_over : List MatcherView → ℤ → ℤ → Option QueryView
 query_over matchers start end =
-    if int_lt (to_of end) (from_of start) then None
-    else Some (record { matchers = matchers; from = from_of start; to = to_of end })
+    if int_lt (last_time end) (first_time start) then None
+    else Some (record { matchers = matchers; from = first_time start; to = last_time end })
 
 -- whether label sets alone are asked for
 abbrev pub asks_names : List ℕ → Bool

@@ -4,7 +4,7 @@ ghost use Rattle.std.specs.Prelude.{◌≡◌, ◌≤◌, length, map, MatchResu
 ghost use Rattle.std.specs.List.{AllZip};
 ghost use Rattle.remote_read.specs.Reading.{matcher_seen, query_seen};
 ghost use Rattle.remote_requests.specs.Writing.{Told};
-ghost use Rattle.remote_requests.specs.Queries.{op_of, from_of, to_of, query_over};
+ghost use Rattle.remote_requests.specs.Queries.{op_of, query_over};
 ghost use Rattle.remote_requests.specs.Queries.{IsMatcherOf, IsMatcherFault, HasMatcherFault};
 ghost use Rattle.remote_requests.specs.Queries.{IsReadingOf, IsQueryFault, HasQueryFault};
 ghost use Rattle.remote_requests.specs.NoQueries.{OrMemory};
@@ -12,7 +12,7 @@ ghost use Rattle.remote_requests.specs.Reading.{ReadMeans};
 
 use crate::body::{misspelled, unpacked};
 use crate::{Asked, QueryFault, ReadError, Reading, Refusal};
-use labels::{MAX_TIME, MIN_TIME};
+use asked_times::{first_time, last_time};
 use matchers::{Limits, Matcher, MatcherError, Op, Query};
 use remote_read::read_queries;
 use std::alloc::{AllocError, AllocFailed, Global};
@@ -103,27 +103,13 @@ fn matchers_of(alloc: Global, sent: &[remote_read::Matcher<'_>]) -> Result<Vec<M
     Ok(matchers)
 }
 
-/// The first time that is asked for, from [`MIN_TIME`] on.
-fn from_of(start: i64) -> i64
-    ensures { result ≡ from_of start }
-{
-    if start < MIN_TIME { MIN_TIME } else { start }
-}
-
-/// The last time that is asked for, up to [`MAX_TIME`].
-fn to_of(end: i64) -> i64
-    ensures { result ≡ to_of end }
-{
-    if MAX_TIME < end { MAX_TIME } else { end }
-}
-
 /// The query of these matchers over the times of the store in a range, if it has one.
 pub fn query_over(matchers: Vec<Matcher>, start: i64, end: i64) -> Option<Query>
     requires { length matchers.items ≤ 64 }
     ensures { result ≡ query_over matchers.items start end }
 {
-    let from = from_of(start);
-    let to = to_of(end);
+    let from = first_time(start);
+    let to = last_time(end);
     if to < from {
         return None;
     }

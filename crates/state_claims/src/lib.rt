@@ -15,7 +15,9 @@
 #![tactic(auto)]
 
 mod claim;
+mod found;
 mod said;
 
 pub use claim::{find_state_claim, is_right_of_state, otherwise_of};
+pub use found::{FoundState, said_in};
 pub use said::{StateSaid, grade_of};

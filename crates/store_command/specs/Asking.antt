@@ -1,7 +1,7 @@
 -- The command line: what words want of a store, what `clap` reads from them, and what that asks
 -- for.
-use Rattle.std.specs.Prelude.{◌≡◌, Bool, true, false, List, [], ◌∷◌, Option, None, Some}
-use Rattle.std.specs.Prelude.{codes, option_map, unwrap_or, if◌then◌else◌, ◌||◌, ◌==◌}
+use Rattle.std.specs.Prelude.{◌≡◌, ◌⊎◌, Bool, true, false, List, [], ◌∷◌, Option, None, Some}
+use Rattle.std.specs.Prelude.{codes, is_some, option_map, unwrap_or, if◌then◌else◌, ◌||◌, ◌==◌}
 use Rattle.std.specs.List.{before_first}
 use Rattle.std.specs.Str.{bytes_eq}
 use Rattle.clap.specs.Words.{App, Row, Rule, Text, new_rule, with_rule, first_of, matches_of}
@@ -32,6 +32,14 @@ aim_of words =
     if has_option (codes "--mark") words then Some aims.Mark
     else if has_option (codes "--store") words then Some aims.Audit
     else None
+
+-- a store is named, or directories, or neither
+abbrev pub NamesOne : Option Text → List Text → Type 0
+NamesOne store directories = (store ≡ None) ⊎ (directories ≡ [])
+
+-- a store is named, and directories too
+abbrev pub NamesBoth : Option Text → List Text → Type 0
+NamesBoth store directories = (is_some store ≡ true) × (directories ≡ [] → ⊥)
 
 -- the folder of the store, which must stand there
 abbrev pub store_rule : Rule

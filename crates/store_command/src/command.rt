@@ -1,13 +1,14 @@
 //! The command line.
 
 ghost use Rattle.std.specs.Prelude.{◌≡◌, codes, false, option_map, unwrap_or, [], IfOk};
+ghost use Rattle.std.specs.Prelude.{MatchResult};
 ghost use Rattle.clap.specs.Matches.{found_of};
 ghost use Rattle.clap.specs.Words.{app_of, rule_of, rows_of, first_of, matches_of};
 ghost use Rattle.clap.specs.Words.{fault_of, FailsBy};
-ghost use Rattle.audit_command.specs.Asking.{named_app, texts_of};
+ghost use Rattle.audit_command.specs.Asking.{directories_of, named_app, texts_of};
 ghost use Rattle.store_command.specs.Asking.{aim_of, app_for, audit_app, has_option, option_in};
 ghost use Rattle.store_command.specs.Asking.{mark_app, mark_rule, since_rule, store_rule};
-ghost use Rattle.store_command.specs.Asking.{IsAskedIn, IsTaskBy, IsTaskIn};
+ghost use Rattle.store_command.specs.Asking.{IsAskedIn, IsTaskBy, IsTaskIn, NamesBoth, NamesOne};
 
 use audit_command::{Asked as AuditAsked, asked_in as audit_in, with_query};
 use clap::{Arg, ArgAction, ArgMatches, Command, Error};
@@ -31,6 +32,28 @@ pub struct Asked<'a> {
     pub store: &'a str,
     /// A mark that the reply is not from before.
     pub since: Option<&'a str>,
+}
+
+/// Directories are named beside a store.
+#[derive(Clone, Copy, Debug, PartialEq, Eq, Drop)]
+pub struct Beside;
+
+/// Finds that directories are not named beside a store.
+pub fn check_names(store: Option<&str>, audit: &AuditAsked<'_>) -> Result<(), Beside>
+    ensures { MatchResult result
+        (λ _. NamesOne (option_map (λ text. text.now) store) (directories_of audit.now))
+        (λ _. NamesBoth (option_map (λ text. text.now) store) (directories_of audit.now)) }
+{
+    match store {
+        None => Ok(()),
+        Some(_) => {
+            if audit.directories.as_slice().is_empty() {
+                Ok(())
+            } else {
+                Err(Beside)
+            }
+        }
+    }
 }
 
 /// What words ask for.

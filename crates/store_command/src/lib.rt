@@ -24,10 +24,10 @@ mod mark;
 mod program;
 mod report;
 
-pub use command::Aim;
+pub use command::{Aim, Beside, check_names};
 pub use fault::Fault;
 pub use judging::read_folder;
 pub use laws::{earlier_replies, right_replies};
 pub use mark::Mark;
 pub use program::run_by;
-pub use report::{has_refused, refused_lines, walked};
+pub use report::{has_refused, mark_of, refused_lines, walked};

@@ -2,7 +2,7 @@
 
 ghost use Rattle.std.specs.Prelude.{◌≡◌, false, IfOk, map, string_bytes};
 ghost use Rattle.whole_audit.specs.StateLines.{are_right_lines};
-ghost use Rattle.store_command.specs.Marks.{first_of};
+ghost use Rattle.store_command.specs.Marks.{first_of, mark_at, mark_text};
 ghost use Rattle.store_command.specs.Printing.{IsRefusedReport, IsTold, ending_text, has_refused};
 ghost use Rattle.store_command.specs.Printing.{is_right, lines_text, note_of, refused_lines};
 ghost use Rattle.store_command.specs.Printing.{right_text, wrong_text};
@@ -52,11 +52,18 @@ fn lines_text(alloc: Global, lines: &[StateLine]) -> Result<String, AllocError>
     Ok(text)
 }
 
+/// The text of the mark of the state that a report is of.
+pub fn mark_of(alloc: Global, head: u32, said: &StateReport) -> Result<String, AllocError>
+    ensures { IfOk result (λ text. string_bytes text ≡ mark_text (mark_at head said.now.told)) }
+{
+    Mark::at(head, said.told).text(alloc)
+}
+
 /// Of which state a reply is right.
 fn right_text(alloc: Global, head: u32, said: &StateReport) -> Result<String, AllocError>
     ensures { IfOk result (λ text. string_bytes text ≡ right_text head said.now) }
 {
-    let mark = Mark::at(head, said.told).text(alloc)?;
+    let mark = mark_of(alloc, head, said)?;
     let told = said.told;
     let events = said.events;
     format!(in alloc; "at event {told} of {events}, mark {mark}\n")
@@ -81,7 +88,7 @@ fn wrong_text(
 ) -> Result<String, AllocError>
     ensures { IfOk result (λ text. string_bytes text ≡ wrong_text since head said.now) }
 {
-    let mark = Mark::at(head, said.told).text(alloc)?;
+    let mark = mark_of(alloc, head, said)?;
     let from = since.first();
     let told = said.told;
     let events = said.events;
