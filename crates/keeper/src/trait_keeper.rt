@@ -54,7 +54,7 @@ pub trait Keeper {
     /// It has no room for more.
     ghost full: { Self → Type 0 };
 
-    /// Whether it is worth it to save a snapshot ([`Keeper::checkpoint`]).
+    /// Whether it is worth it to save a snapshot ([`Keeper::roll_if_due`]).
     ghost due: { Self → SnapshotParts → Bool };
 
     /// The moment, as a number that does not fall.
@@ -135,7 +135,11 @@ pub trait Keeper {
     /// to do. The snapshot is what they make, and no event is kept meanwhile. How many blocks were
     /// saved, `None` if it was not worth it. Whatever is answered, it keeps what it kept; after an
     /// `Err` it may be closed.
-    fn checkpoint(&mut self, alloc: Global, snapshot: &Snapshot) -> Result<Option<usize>, KeepError>
+    fn roll_if_due(
+        &mut self,
+        alloc: Global,
+        snapshot: &Snapshot,
+    ) -> Result<Option<usize>, KeepError>
         requires made { idle ≡ false → (events : List Change)
             × holds self.old events × IsOfAll first events (world_of snapshot.now) }
         ensures held { (events : List Change) → holds self.old events
@@ -241,7 +245,7 @@ impl Keeper for NoKeeper {
 
     fn close(&mut self, _last: ()) {}
 
-    fn checkpoint(
+    fn roll_if_due(
         &mut self,
         _alloc: Global,
         _snapshot: &Snapshot,
