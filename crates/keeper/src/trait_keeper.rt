@@ -54,7 +54,7 @@ pub trait Keeper {
     /// It has no room for more.
     ghost full: { Self → Type 0 };
 
-    /// Whether it is worth it to save a snapshot ([`Keeper::roll_if_due`]).
+    /// Whether a roll is worth it ([`Keeper::roll_if_due`]).
     ghost due: { Self → SnapshotParts → Bool };
 
     /// The moment, as a number that does not fall.
@@ -131,10 +131,10 @@ pub trait Keeper {
             (AreAllAndSome events more) }
         ensures closed { idle ≡ false → closed self.new ≡ true };
 
-    /// Saves what the kept events make, in their place, if that is worth it: a start then has less
-    /// to do. The snapshot is what they make, and no event is kept meanwhile. How many blocks were
-    /// saved, `None` if it was not worth it. Whatever is answered, it keeps what it kept; after an
-    /// `Err` it may be closed.
+    /// Rolls, if that is worth it: it saves what the kept events make, in their place, as databases
+    /// take a checkpoint. A start then has less to do. The snapshot is what they make, and no event
+    /// is kept meanwhile. How many blocks were saved, `None` if it was not worth it. Whatever is
+    /// answered, it keeps what it kept; after an `Err` it may be closed.
     fn roll_if_due(
         &mut self,
         alloc: Global,
