@@ -32,5 +32,5 @@ pub use checks::{Checks, checks_of};
 pub use claim::{Claim, Completeness, find_claim};
 pub use counts::{SLOTS, count_in, counts_law, shown_of, slot_of};
 pub use figures::{Figures, figures_of};
-pub use judged::{is_found_silent, is_found_valid, names_each, names_of, same_name};
+pub use judged::{is_found_silent, is_found_valid, names_in_order, names_of, same_name};
 pub use told::{Place, Told};
