@@ -32,8 +32,8 @@ pub record IsShown (matchers : ℕ) (answers : List PartAnswer) (rows : List Row
   pub merged : AreRows rows (last_listed answers)
   pub faultless : are_faultless lines ≡ true
 
--- whether the parts that a reply names are blocks, each once, in order from block 0 on, those with a
--- directory among them, and then the head, and none of them is unjudged
+-- whether the parts that a reply names are blocks, each once, in order from block 0 on, those with
+-- a directory among them, and then the head, and none of them is unjudged
 abbrev pub is_judged : ℕ → List PartName → List PartName → Bool
 is_judged directories names unjudged =
     nat_le directories (length names - 1)

@@ -28,8 +28,8 @@ abbrev pub told_name : ToldPart → PartName
 told_name (parts.Searched answer) = answer.part
 told_name (parts.Skipped number) = Block number
 
--- the parts that a reply names, in its order: those that were searched, whose answers these are, and
--- those that were skipped
+-- the parts that a reply names, in its order: those that were searched, whose answers these are,
+-- and those that were skipped
 abbrev pub names_in : List Place → List PartAnswer → List PartName
 names_in [] answers = map (λ (a : PartAnswer). a.part) answers
 names_in (Searched ∷ places) [] = names_in places []
@@ -61,8 +61,9 @@ abbrev pub names_from : ℕ → ℕ → List PartName
 names_from first zero = Head ∷ []
 names_from first (suc blocks) = Block first ∷ names_from (first + 1) blocks
 
--- Whether the parts that are named are so many blocks, each once, in order from block 0 on, and then
--- the head. In this order a reply's rows are merged: a later part wins at equal times.
+-- Whether the parts that are named are so many blocks, each once, in order from block 0 on, and
+-- then the head. A reply's rows are merged in the order in which it names its parts, where a later
+-- one wins at equal times: so this is the order in which they have to stand.
 abbrev pub names_in_order : ℕ → List PartName → Bool
 names_in_order blocks names = same_names names (names_from 0 blocks)
 

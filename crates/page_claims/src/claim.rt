@@ -139,8 +139,8 @@ fn is_judged(directories: usize, names: &[PartName], unjudged: &[PartName]) -> b
     directories <= blocks && names_in_order(blocks, names) && unjudged.is_empty()
 }
 
-/// Whether there is a directory, the parts that a reply names are the block of each directory, once,
-/// in order, and then the head, and the head alone is unjudged, which has no interval.
+/// Whether there is a directory, the parts that a reply names are the block of each directory,
+/// once, in order, and then the head, and the head alone is unjudged, which has no interval.
 fn are_directories_judged(
     directories: usize,
     names: &[PartName],

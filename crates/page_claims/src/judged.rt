@@ -4,8 +4,9 @@ ghost use Rattle.std.specs.Prelude.{◌≡◌, ◌↔◌, ◌≤◌, not, length
 ghost use Rattle.std.specs.Prelude.{IfOk, IsTrue};
 ghost use Rattle.std.specs.List.{flat_map};
 ghost use Rattle.page_claims.specs.Judging.{names_of, same_name, times_named, names_from};
-ghost use Rattle.page_claims.specs.Judging.{names_in_order, is_of, is_valid, is_skip, is_found_valid};
-ghost use Rattle.page_claims.specs.Judging.{is_told_skipped, is_table, is_found_silent};
+ghost use Rattle.page_claims.specs.Judging.{names_in_order, is_of, is_valid, is_skip};
+ghost use Rattle.page_claims.specs.Judging.{is_found_valid, is_told_skipped, is_table};
+ghost use Rattle.page_claims.specs.Judging.{is_found_silent};
 ghost use Rattle.page_claims.specs.Judging.{unjudged_answer, unjudged_skip, unjudged_of};
 
 use crate::told::{Place, Told};
@@ -24,7 +25,8 @@ fn searched_names(alloc: Global, answers: &[PartAnswer]) -> Result<Vec<PartName>
     Ok(names)
 }
 
-/// The parts that a reply names, in its order: those that were searched, and those that were skipped.
+/// The parts that a reply names, in its order: those that were searched, and those that were
+/// skipped.
 pub fn names_of(alloc: Global, told: &Told) -> Result<Vec<PartName>, AllocError>
     ensures { IfOk result (λ names. names.items ≡ names_of told.now) }
 {
