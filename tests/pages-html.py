@@ -58,8 +58,17 @@ class Case:
 
 
 def files():
-    """The files that lie where the program runs, a block's and a store's."""
-    return {**{name: (TOP / "examples" / name).read_bytes() for name in GOOD}, "kept/journal": journal()}
+    """The files that lie where the program runs, two blocks' and a store's."""
+    good = {name: (TOP / "examples" / name).read_bytes() for name in GOOD}
+    other = {name.replace("good", "other"): content for name, content in good.items()}
+    return {**good, **other, "other/chunks/000001": other_chunks(), "kept/journal": journal()}
+
+
+def other_chunks():
+    """The chunks of `good`, but the sample of up{job="a"} has the value 9 and not 1."""
+    chunks = (TOP / "examples/good/chunks/000001").read_bytes()
+    chunk = chunks[57:75] + b"\x09"
+    return chunks[:57] + chunk + checksum(chunk) + chunks[80:]
 
 
 def run(cases, program):
@@ -588,6 +597,20 @@ def half_judged(answer, words):
         says(DIRECTORIES_JUDGED, "ok", EMPTY_HEAD)))
     yield Case("text-two-of-two", one, [*words, "--text", "good", "good"], **shown(
         has(DIRECTORIES_JUDGED, EMPTY_HEAD)))
+    # Two blocks that say two values of one time: the later wins. A reply that tells of them the other way
+    # round has the earlier block's value, and all of the auditor's lines say yes.
+    two = copy()
+    two["parts"].insert(head, {**copy()["parts"][block], "part": "block 1"})
+    two["parts"][head]["rows"][0]["samples"] = [[10, 9]]
+    for name, order, value, check in (
+        ("in-order", (0, 1, 2), 9, says(DIRECTORIES_JUDGED, "ok", EMPTY_HEAD)),
+        ("out-of-order", (1, 0, 2), 1, says(CERTIFIED, "plain", "Nobody judged: head.")),
+        ("head-first", (2, 0, 1), 9, says(CERTIFIED, "plain", "Nobody judged: head.")),
+    ):
+        one = reply_of([two["parts"][number] for number in order])
+        holds(f"{name}: the value", one["rows"][0]["samples"] == [[10, value]])
+        yield Case(name, one, [*words, "good", "other"], **shown(
+            check, has("block 0: valid", "block 1: valid", "rows: valid")))
 
 
 def given():

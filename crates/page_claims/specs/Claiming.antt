@@ -15,7 +15,7 @@ use Rattle.page_claims.specs.declared.claim.Completeness.TheVariants.{Judged, Di
 use Rattle.page_claims.specs.declared.claim.Completeness.TheVariants.{Certified, NotShown}
 use Rattle.page_claims.specs.declared.told.Told.{Told}
 use Rattle.page_claims.specs.Checking.{is_checked}
-use Rattle.page_claims.specs.Judging.{names_of, same_name, times_named, names_each, unjudged_of}
+use Rattle.page_claims.specs.Judging.{names_of, same_name, times_named, names_in_order, unjudged_of}
 
 -- whether no line names a flaw or a refusal
 abbrev pub are_faultless : List Line → Bool
@@ -32,12 +32,12 @@ pub record IsShown (matchers : ℕ) (answers : List PartAnswer) (rows : List Row
   pub merged : AreRows rows (last_listed answers)
   pub faultless : are_faultless lines ≡ true
 
--- whether the parts that a reply names are the head and each block, once each, those with a
--- directory among them, and none of them is unjudged
+-- whether the parts that a reply names are blocks, each once, in order from block 0 on, those with
+-- a directory among them, and then the head, and none of them is unjudged
 abbrev pub is_judged : ℕ → List PartName → List PartName → Bool
 is_judged directories names unjudged =
     nat_le directories (length names - 1)
-    && (names_each (length names - 1) names && length unjudged == 0)
+    && (names_in_order (length names - 1) names && length unjudged == 0)
 
 -- whether the head, if a part is the head, has no interval
 abbrev pub is_head_empty : List PartAnswer → Bool
@@ -49,12 +49,12 @@ is_head_empty answers =
 abbrev pub is_head_alone : List PartName → Bool
 is_head_alone names = length names == 1 && times_named Head names == 1
 
--- whether there is a directory, the parts that a reply names are the head and the block of each
--- directory, once each, and the head alone is unjudged, which has no interval
+-- whether there is a directory, the parts that a reply names are the block of each directory, once,
+-- in order, and then the head, and the head alone is unjudged, which has no interval
 abbrev pub are_directories_judged : ℕ → List PartName → List PartName → List PartAnswer → Bool
 are_directories_judged directories names unjudged answers =
     nat_lt 0 directories
-    && (names_each directories names && (is_head_alone unjudged && is_head_empty answers))
+    && (names_in_order directories names && (is_head_alone unjudged && is_head_empty answers))
 
 -- how far a reply whose checks hold shows that no series is missing: all parts were judged, or all
 -- but the head, or neither

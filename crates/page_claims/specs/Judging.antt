@@ -1,8 +1,7 @@
 -- Which parts a reply names, and which of them a judge found without a flaw.
-use Rattle.std.specs.Prelude.{ℕ, ◌+◌, ◌-◌, ◌==◌, ◌&&◌, Bool, true, false, nat_lt, List, [], ◌∷◌}
-use Rattle.std.specs.Prelude.{◌++◌}
-use Rattle.std.specs.Prelude.{Option, None, Some, length, map, slice_get, if◌then◌else◌}
-use Rattle.std.specs.List.{list_all, list_any, flat_map}
+use Rattle.std.specs.Prelude.{ℕ, zero, suc, ◌+◌, ◌==◌, ◌&&◌, Bool, true, false, List, [], ◌∷◌, ◌++◌}
+use Rattle.std.specs.Prelude.{Option, None, Some, map, slice_get, if◌then◌else◌}
+use Rattle.std.specs.List.{list_any, flat_map}
 use Rattle.postings.specs.declared.part_name.PartName.{PartName}
 use Rattle.postings.specs.declared.part_name.PartName.TheVariants.{Block, Head}
 use Rattle.cover.specs.declared.part_cover.PartAnswer.{PartAnswer}
@@ -24,15 +23,21 @@ abbrev pub place_of : ToldPart → Place
 place_of (parts.Searched answer) = Searched
 place_of (parts.Skipped number) = Skipped number
 
--- the block that was skipped, if one was
-abbrev pub skipped_in : Place → List PartName
-skipped_in Searched = []
-skipped_in (Skipped number) = Block number ∷ []
+-- what a part of a reply is called
+abbrev pub told_name : ToldPart → PartName
+told_name (parts.Searched answer) = answer.part
+told_name (parts.Skipped number) = Block number
 
--- the parts that a reply names: those that were searched, and those that were skipped
+-- the parts that a reply names, in its order: those that were searched, whose answers these are,
+-- and those that were skipped
+abbrev pub names_in : List Place → List PartAnswer → List PartName
+names_in [] answers = map (λ (a : PartAnswer). a.part) answers
+names_in (Searched ∷ places) [] = names_in places []
+names_in (Searched ∷ places) (answer ∷ answers) = answer.part ∷ names_in places answers
+names_in (Skipped number ∷ places) answers = Block number ∷ names_in places answers
+
 abbrev pub names_of : Told → List PartName
-names_of told =
-    map (λ (a : PartAnswer). a.part) told.answers.items ++ flat_map skipped_in told.places.items
+names_of told = names_in told.places.items told.answers.items
 
 abbrev pub same_name : PartName → PartName → Bool
 same_name (Block m) (Block n) = m == n
@@ -45,17 +50,22 @@ abbrev pub times_named : PartName → List PartName → ℕ
 times_named name [] = 0
 times_named name (n ∷ ns) = (if same_name name n then 1 else 0) + times_named name ns
 
--- whether a part is the head, or one of so many blocks from block 0 on
-abbrev pub is_among : ℕ → PartName → Bool
-is_among blocks (Block number) = nat_lt number blocks
-is_among blocks Head = true
+abbrev pub same_names : List PartName → List PartName → Bool
+same_names [] [] = true
+same_names [] (other ∷ others) = false
+same_names (name ∷ names) [] = false
+same_names (name ∷ names) (other ∷ others) = same_name name other && same_names names others
 
--- whether the parts that are named are the head and so many blocks from block 0 on, each named once
-abbrev pub names_each : ℕ → List PartName → Bool
-names_each blocks names =
-    times_named Head names == 1
-    && (length names - 1 == blocks
-    && list_all (λ name. is_among blocks name && times_named name names == 1) names)
+-- the names of so many blocks, from this number on, and of the head behind them
+abbrev pub names_from : ℕ → ℕ → List PartName
+names_from first zero = Head ∷ []
+names_from first (suc blocks) = Block first ∷ names_from (first + 1) blocks
+
+-- Whether the parts that are named are so many blocks, each once, in order from block 0 on, and
+-- then the head. A reply's rows are merged in the order in which it names its parts, where a later
+-- one wins at equal times: so this is the order in which they have to stand.
+abbrev pub names_in_order : ℕ → List PartName → Bool
+names_in_order blocks names = same_names names (names_from 0 blocks)
 
 abbrev pub is_of : PartName → Subject → Bool
 is_of name (Part other) = same_name name other

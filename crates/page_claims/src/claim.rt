@@ -11,7 +11,7 @@ ghost use Rattle.page_claims.specs.Claiming.{IsFarAs, IsClaimed};
 ghost use Rattle.page_claims.specs.Judging.{same_name, unjudged_of};
 
 use crate::checks::is_checked;
-use crate::judged::{names_each, names_of, same_name, times_named, unjudged_of};
+use crate::judged::{names_in_order, names_of, same_name, times_named, unjudged_of};
 use crate::told::Told;
 use auditor::{BlockTable, Flaw, Line, audit_merge};
 use cover::PartAnswer;
@@ -22,12 +22,12 @@ use std::alloc::{AllocError, Global};
 /// How far a reply shows that no series is missing.
 #[derive(Clone, Copy, Debug, PartialEq, Eq, Drop)]
 pub enum Completeness {
-    /// No series is missing: the reply names the head once and each block once, and a judge found
-    /// no flaw in any.
+    /// No series is missing: the reply names each block once, in order, and then the head, and a
+    /// judge found no flaw in any.
     Judged,
-    /// No series of the blocks with a directory is missing: the reply names each of them once, and
-    /// a judge found no flaw in any. It names one part more, the head. The head is told to have no
-    /// series, and nobody judged that.
+    /// No series of the blocks with a directory is missing: the reply names each of them once, in
+    /// order, and a judge found no flaw in any. It names one part more, last, the head. The head is
+    /// told to have no series, and nobody judged that.
     DirectoriesJudged,
     /// No series is missing, by the certificates: neither of these holds.
     Certified,
@@ -130,17 +130,17 @@ fn is_head_alone(names: &[PartName]) -> bool
     names.len() == 1 && times_named(PartName::Head, names) == 1
 }
 
-/// Whether the parts that a reply names are the head and each block, once each, those with a
-/// directory among them, and none of them is unjudged.
+/// Whether the parts that a reply names are blocks, each once, in order from block 0 on, those with
+/// a directory among them, and then the head, and none of them is unjudged.
 fn is_judged(directories: usize, names: &[PartName], unjudged: &[PartName]) -> bool
     ensures { result ≡ is_judged directories names.now unjudged.now }
 {
     let blocks = names.len().saturating_sub(1);
-    directories <= blocks && names_each(blocks, names) && unjudged.is_empty()
+    directories <= blocks && names_in_order(blocks, names) && unjudged.is_empty()
 }
 
-/// Whether there is a directory, the parts that a reply names are the head and the block of each
-/// directory, once each, and the head alone is unjudged, which has no interval.
+/// Whether there is a directory, the parts that a reply names are the block of each directory,
+/// once, in order, and then the head, and the head alone is unjudged, which has no interval.
 fn are_directories_judged(
     directories: usize,
     names: &[PartName],
@@ -150,7 +150,7 @@ fn are_directories_judged(
     ensures { result ≡ are_directories_judged directories names.now unjudged.now answers.now }
 {
     directories > 0
-        && names_each(directories, names)
+        && names_in_order(directories, names)
         && is_head_alone(unjudged)
         && is_head_empty(answers)
 }

@@ -1,11 +1,12 @@
 //! Which parts a reply names, and which of them nobody judged.
 
-ghost use Rattle.std.specs.Prelude.{◌≡◌, ◌≤◌, ◌==◌, ◌&&◌, not, length, map, option_map, slice_get};
-ghost use Rattle.std.specs.Prelude.{IfOk};
-ghost use Rattle.std.specs.List.{list_all, flat_map};
-ghost use Rattle.page_claims.specs.Judging.{skipped_in, names_of, same_name, times_named, is_among};
-ghost use Rattle.page_claims.specs.Judging.{names_each, is_of, is_valid, is_skip, is_found_valid};
-ghost use Rattle.page_claims.specs.Judging.{is_told_skipped, is_table, is_found_silent};
+ghost use Rattle.std.specs.Prelude.{◌≡◌, ◌↔◌, ◌≤◌, not, length, map, option_map, slice_get};
+ghost use Rattle.std.specs.Prelude.{IfOk, IsTrue};
+ghost use Rattle.std.specs.List.{flat_map};
+ghost use Rattle.page_claims.specs.Judging.{names_of, same_name, times_named, names_from};
+ghost use Rattle.page_claims.specs.Judging.{names_in_order, is_of, is_valid, is_skip};
+ghost use Rattle.page_claims.specs.Judging.{is_found_valid, is_told_skipped, is_table};
+ghost use Rattle.page_claims.specs.Judging.{is_found_silent};
 ghost use Rattle.page_claims.specs.Judging.{unjudged_answer, unjudged_skip, unjudged_of};
 
 use crate::told::{Place, Told};
@@ -24,25 +25,26 @@ fn searched_names(alloc: Global, answers: &[PartAnswer]) -> Result<Vec<PartName>
     Ok(names)
 }
 
-fn skipped_names(alloc: Global, places: &[Place]) -> Result<Vec<PartName>, AllocError>
-    ensures { IfOk result (λ names. names.items ≡ flat_map skipped_in places.now) }
-{
-    let mut names = Vec::new(alloc);
-    for place in places {
-        if let Place::Skipped(number) = *place {
-            names.push(PartName::Block(number))?;
-        }
-    }
-    Ok(names)
-}
-
-/// The parts that a reply names: those that were searched, and those that were skipped.
+/// The parts that a reply names, in its order: those that were searched, and those that were
+/// skipped.
 pub fn names_of(alloc: Global, told: &Told) -> Result<Vec<PartName>, AllocError>
     ensures { IfOk result (λ names. names.items ≡ names_of told.now) }
 {
-    let mut names = searched_names(alloc, told.answers.as_slice())?;
-    let mut skipped = skipped_names(alloc, told.places.as_slice())?;
-    names.append(&mut skipped)?;
+    let mut names = Vec::new(alloc);
+    let mut answers = told.answers.as_slice();
+    for place in &told.places {
+        match *place {
+            Place::Searched => {
+                if let Some((answer, later)) = answers.split_first() {
+                    names.push(answer.part)?;
+                    answers = later;
+                }
+            }
+            Place::Skipped(number) => names.push(PartName::Block(number))?,
+        }
+    }
+    let mut later = searched_names(alloc, answers)?;
+    names.append(&mut later)?;
     Ok(names)
 }
 
@@ -71,37 +73,34 @@ pub(crate) fn times_named(name: PartName, names: &[PartName]) -> usize
     count
 }
 
-/// Whether a part is the head, or one of so many blocks from block 0 on.
-fn is_among(blocks: usize, name: PartName) -> bool
-    ensures { result ≡ is_among blocks name }
+#[tactic(auto, using(crate::proofs::Names::next_named, crate::proofs::Names::last_named, crate::proofs::Names::none_left))]
+fn are_in_order(blocks: usize, names: &[PartName]) -> bool
+    ensures { result ≡ names_in_order blocks names.now }
 {
-    match name {
-        PartName::Block(number) => number < blocks,
-        PartName::Head => true,
-    }
-}
-
-/// Whether each part is the head or one of so many blocks, and named once.
-fn are_among(blocks: usize, names: &[PartName]) -> bool
-    ensures { result ≡ list_all (λ name. is_among blocks name
-        && times_named name names.now == 1) names.now }
-{
-    for name in names {
-        if !(is_among(blocks, *name) && times_named(*name, names) == 1) {
+    let mut rest = names;
+    for number in 0..blocks {
+        let Some((name, later)) = rest.split_first() else {
+            return false;
+        };
+        if !same_name(*name, PartName::Block(number)) {
             return false;
         }
+        rest = later;
     }
-    true
+    match rest.split_first() {
+        Some((name, later)) => same_name(*name, PartName::Head) && later.is_empty(),
+        None => false,
+    }
 }
 
-/// Whether the parts that are named are the head and so many blocks from block 0 on, each named
-/// once.
-pub fn names_each(blocks: usize, names: &[PartName]) -> bool
-    ensures { result ≡ names_each blocks names.now }
+/// Whether the parts that are named are so many blocks, each once, in order from block 0 on, and
+/// then the head.
+#[tactic(auto, using(crate::proofs::Names::same_listed))]
+pub fn names_in_order(blocks: usize, names: &[PartName]) -> bool
+    ensures value { result ≡ names_in_order blocks names.now }
+    ensures listed { IsTrue result ↔ (names.now ≡ names_from 0 blocks) }
 {
-    times_named(PartName::Head, names) == 1
-        && names.len().saturating_sub(1) == blocks
-        && are_among(blocks, names)
+    are_in_order(blocks, names)
 }
 
 fn is_of(name: PartName, subject: Subject) -> bool

@@ -7,7 +7,8 @@
 //! parts, and the auditor, if it was asked, named no flaw (`IsShown`). None of this shows that a
 //! reason is true of the series: that is the auditor's. So the claim says how far it goes
 //! ([`Completeness`]): whether a judge found no flaw in all parts, or in all but the head, or
-//! whether it rests on the certificates alone. Which parts nobody judged stands beside it.
+//! whether it rests on the certificates alone. It goes no further than these if the reply does not
+//! name its parts in order, since the later of two wins. Which parts nobody judged stands beside it.
 //!
 //! ```
 //! let told = Told::of(alloc, Reply::read(alloc, text)?)?;
@@ -32,5 +33,5 @@ pub use checks::{Checks, checks_of};
 pub use claim::{Claim, Completeness, find_claim};
 pub use counts::{SLOTS, count_in, counts_law, shown_of, slot_of};
 pub use figures::{Figures, figures_of};
-pub use judged::{is_found_silent, is_found_valid, names_each, names_of, same_name};
+pub use judged::{is_found_silent, is_found_valid, names_in_order, names_of, same_name};
 pub use told::{Place, Told};

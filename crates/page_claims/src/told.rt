@@ -3,7 +3,7 @@
 ghost use Rattle.std.specs.Prelude.{◌≡◌, map, IfOk};
 ghost use Rattle.std.specs.List.{flat_map};
 ghost use Rattle.auditor.specs.Judgements.{answers_of};
-ghost use Rattle.page_claims.specs.Judging.{place_of};
+ghost use Rattle.page_claims.specs.Judging.{names_of, place_of, told_name};
 
 use auditor::{Reply, ToldPart};
 use cover::PartAnswer;
@@ -28,30 +28,43 @@ pub struct Told {
     pub rows: Vec<Row>,
 }
 
+fn apart(alloc: Global, reply: Reply) -> Result<Told, AllocError>
+    ensures places { IfOk result (λ told. told.places.items ≡ map place_of reply.parts.items) }
+    ensures answers { IfOk result
+        (λ told. told.answers.items ≡ flat_map answers_of reply.parts.items) }
+    ensures rows { IfOk result (λ told. told.rows ≡ reply.rows) }
+{
+    let Reply { parts, rows } = reply;
+    let mut places = Vec::with_capacity(alloc, parts.len())?;
+    let mut answers = Vec::new(alloc);
+    for part in parts {
+        match part {
+            ToldPart::Searched(answer) => {
+                places.push(Place::Searched)?;
+                answers.push(answer)?;
+            }
+            ToldPart::Skipped(number) => places.push(Place::Skipped(number))?,
+        }
+    }
+    Ok(Told {
+        places,
+        answers,
+        rows,
+    })
+}
+
 impl Told {
     /// A reply, taken apart.
+    #[tactic(auto, using(crate::proofs::Names::names_apart))]
     pub fn of(alloc: Global, reply: Reply) -> Result<Told, AllocError>
         ensures places { IfOk result (λ told. told.places.items ≡ map place_of reply.parts.items) }
         ensures answers { IfOk result
             (λ told. told.answers.items ≡ flat_map answers_of reply.parts.items) }
         ensures rows { IfOk result (λ told. told.rows ≡ reply.rows) }
+        ensures names { IfOk result
+            (λ told. names_of told ≡ map told_name reply.parts.items) }
     {
-        let Reply { parts, rows } = reply;
-        let mut places = Vec::with_capacity(alloc, parts.len())?;
-        let mut answers = Vec::new(alloc);
-        for part in parts {
-            match part {
-                ToldPart::Searched(answer) => {
-                    places.push(Place::Searched)?;
-                    answers.push(answer)?;
-                }
-                ToldPart::Skipped(number) => places.push(Place::Skipped(number))?,
-            }
-        }
-        Ok(Told {
-            places,
-            answers,
-            rows,
-        })
+        let told = apart(alloc, reply)?;
+        Ok(told)
     }
 }

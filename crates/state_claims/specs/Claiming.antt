@@ -11,7 +11,7 @@ use Rattle.whole_audit.specs.declared.lines.StateLine.{StateLine}
 use Rattle.whole_audit.specs.declared.lines.StateSubject.{StateSubject}
 use Rattle.whole_audit.specs.declared.lines.StateSubject.TheVariants as of
 use Rattle.page_claims.specs.Claiming.{IsClaimed, is_shown}
-use Rattle.page_claims.specs.Judging.{names_of, same_name, names_each}
+use Rattle.page_claims.specs.Judging.{names_of, same_name, names_in_order}
 use Rattle.page_claims.specs.declared.claim.Completeness.{Completeness}
 use Rattle.page_claims.specs.declared.claim.Completeness.TheVariants.{Judged, Certified, NotShown}
 use Rattle.page_claims.specs.declared.told.Told.{Told}
@@ -65,9 +65,9 @@ otherwise_of lines = flat_map otherwise_in lines
 abbrev pub is_right_of_state : StateSaid → Bool
 is_right_of_state said = said.is_found && are_right_lines said.lines.now
 
--- the reply names the head once and each block once, and a judge found each right
+-- the reply names each block once, in order, and then the head, and a judge found each right
 abbrev pub is_whole : List PartName → List PartName → Bool
-is_whole names unjudged = names_each (length names - 1) names && length unjudged == 0
+is_whole names unjudged = names_in_order (length names - 1) names && length unjudged == 0
 
 -- how far a reply shows that no series is missing, of which this is claimed by itself
 abbrev pub completeness_over : Completeness → StateSaid → List PartName → Completeness
@@ -77,8 +77,8 @@ completeness_over alone said names =
     else NotShown
 
 -- What is claimed of a reply that was judged over a store: nothing, if its own checks do not hold,
--- or if it is right of no state; that no series is missing, if it names the head and each block
--- once, and a judge found each right; and else that by its certificates.
+-- or if it is right of no state; that no series is missing, if it names each block once, in order,
+-- and then the head, and a judge found each right; and else that by its certificates.
 pub record IsStateClaimed (matchers : ℕ) (told : Told) (said : StateSaid)
     (completeness : Completeness) : Type 0 where
   pub alone : Completeness

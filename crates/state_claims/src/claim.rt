@@ -11,7 +11,7 @@ ghost use Rattle.state_claims.specs.Claiming.{otherwise_of, part_in, unjudged_in
 
 use crate::said::{StateSaid, is_of};
 use cover::PartName;
-use page_claims::{Claim, Completeness, Told, find_claim, names_each, names_of};
+use page_claims::{Claim, Completeness, Told, find_claim, names_in_order, names_of};
 use std::alloc::{AllocError, Global};
 use whole_audit::{Grade, StateLine, StateSubject};
 
@@ -96,7 +96,7 @@ pub fn otherwise_of(alloc: Global, lines: &[StateLine]) -> Result<Vec<PartName>,
 fn is_whole(names: &[PartName], unjudged: &[PartName]) -> bool
     ensures { result ≡ is_whole names.now unjudged.now }
 {
-    names_each(names.len().saturating_sub(1), names) && unjudged.is_empty()
+    names_in_order(names.len().saturating_sub(1), names) && unjudged.is_empty()
 }
 
 /// How far a reply shows that no series is missing, of which something is claimed by itself.
@@ -122,8 +122,8 @@ fn completeness_over(
 /// over a kept store.
 ///
 /// That no series is missing is claimed only if the reply's own checks hold, and it is right of a
-/// state of the store. It is claimed as judged if the reply names the head once and each block
-/// once, and a line finds each right.
+/// state of the store. It is claimed as judged if the reply names each block once, in order, and
+/// then the head, and a line finds each right.
 pub fn find_state_claim(
     alloc: Global,
     matchers: usize,

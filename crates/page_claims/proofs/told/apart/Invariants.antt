@@ -3,7 +3,7 @@ use Rattle.std.specs.List.{flat_map}
 use Rattle.std.specs.Vec.Iter.{into_iter_items}
 use Rattle.auditor.specs.Judgements.{answers_of}
 use Rattle.page_claims.specs.Judging.{place_of}
-use Rattle.page_claims.proofs.told.Told.of.Given as goal
+use Rattle.page_claims.proofs.told.apart.Given as goal
 
 abbrev pub invariant-loop-part : goal.invariant-loop-part
 invariant-loop-part l =
