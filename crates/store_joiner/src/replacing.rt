@@ -32,8 +32,8 @@ pub(crate) fn replace<N: Beginning, F: Folder + Drop>(
     requires saved { found.store.journal.events.items ≡ [] }
     requires first { N.first ≡ origin_of found.store.journal.head
         (map part_in found.store.blocks.items) }
-    // A crash at any moment of the call leaves a store: a start finds it as it was, or the other.
-    // The values mean what they meant.
+    // A crash at any moment of the call leaves a store without events: a start finds it as it was,
+    // or the other. The values mean what they meant.
     ensures any_moment { MatchResult result
         (λ folder. FindsEither F.moment F.left_since found.folder folder N.first
         (world_of next.now))
