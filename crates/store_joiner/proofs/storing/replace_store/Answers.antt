@@ -576,9 +576,7 @@ returns-in-Ok-roll-clause-numbers g c =
     let n = length c.args.next.now.blocks - 0 in
     let first = c.next_number.result in (
       first,
-      c.next_number.ensures.some,
-      c.next_number.ensures.above,
-      c.next_number.ensures.least,
+      (c.next_number.ensures.some, c.next_number.ensures.above, c.next_number.ensures.least),
       subst (λ (ps : List Place). ps ≡ places_from first (length ps))
           (sym (c.in-Ok-from_slice.ensures.items ∙ c.places.ensures
           ∙ ap (λ (h : Saved). h.places) c.in-Ok.ensures.saved))
