@@ -38,10 +38,15 @@ ends_block rest =
     || bytes_eq rest (codes "/index") || bytes_eq rest (codes "/chunks")
     || bytes_eq rest (codes "/chunks/000001") || bytes_eq rest (codes "/tombstones")
 
--- whether there is something behind `blocks/`, and it is the number of a block and such an end
+-- whether this is the number of a block, which has a digit at least, and such an end
+abbrev pub is_numbered : List ℕ → Bool
+is_numbered [] = false
+is_numbered (byte ∷ bytes) = is_ascii_digit byte && ends_block (after_digits bytes)
+
+-- whether there is something behind `blocks/`, and it is such a number and end
 abbrev pub is_block_path : Option (List ℕ) → Bool
 is_block_path None = false
-is_block_path (Some path) = ends_block (after_digits path)
+is_block_path (Some path) = is_numbered path
 
 -- whether a name is that of a file of a block, or of a folder of one, as `blocks/7/index`
 abbrev pub is_of_block : List ℕ → Bool

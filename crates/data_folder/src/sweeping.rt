@@ -2,7 +2,8 @@
 
 ghost use Rattle.std.specs.Prelude.{◌≡◌, ◌≤◌, codes, option_map, true};
 ghost use Rattle.data_folder.specs.Sweeping.{KeepsStore, after, after_digits, ends_block, is_among};
-ghost use Rattle.data_folder.specs.Sweeping.{is_kept, is_lasting, is_of_block, names_in};
+ghost use Rattle.data_folder.specs.Sweeping.{is_kept, is_lasting, is_numbered, is_of_block};
+ghost use Rattle.data_folder.specs.Sweeping.{names_in};
 
 use crate::folder::Folder;
 use crate::rolling::NEXT;
@@ -45,6 +46,16 @@ fn ends_block(rest: &[u8]) -> bool
         || rest == b"/tombstones".as_slice()
 }
 
+/// Whether this is the number of a block, which has a digit at least, and such an end.
+fn is_numbered(path: &[u8]) -> bool
+    ensures { result ≡ is_numbered path.now }
+{
+    match path.split_first() {
+        Some((byte, after)) => byte.is_ascii_digit() && ends_block(after_digits(after)),
+        None => false,
+    }
+}
+
 fn after_blocks(name: &[u8]) -> Option<&[u8]>
     ensures { option_map (λ path. path.now) result ≡ after (codes "blocks/") name.now }
 {
@@ -56,7 +67,7 @@ fn is_of_block(name: &str) -> bool
     ensures { result ≡ is_of_block name.now }
 {
     match after_blocks(name.as_bytes()) {
-        Some(path) => ends_block(after_digits(path)),
+        Some(path) => is_numbered(path),
         None => false,
     }
 }

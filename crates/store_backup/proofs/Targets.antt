@@ -24,25 +24,18 @@ use Rattle.head_record.specs.Saved.{Place, Saved, save}
 use Rattle.head_record.specs.Spelling.{head_texts, IsSaved}
 use Rattle.journal.specs.Group.{IsJournalText}
 use Rattle.store_folder.specs.Holding.{AreAt}
-use Rattle.store_folder.specs.KeeperLaws.{finds_world, state_stands}
+use Rattle.store_folder.specs.KeeperLaws.{state_stands}
 use Rattle.store_folder.specs.Origins.{Origin}
-use Rattle.store_folder.specs.States.{IsState, StandsFor, started as started_with}
-use Rattle.store_folder.specs.StoreLaws.{may_start, one_meaning}
+use Rattle.store_folder.specs.States.{IsState, started as started_with}
+use Rattle.store_folder.specs.StoreLaws.{may_start}
 use Rattle.store_folder.specs.Writing.{AreRewritten}
 use Rattle.store_folder.proofs.Rolls.{apart_both, files_at, lie_at, there_at}
-use Rattle.store_joiner.specs.Finds.{Finds, FindsNow}
+use Rattle.store_joiner.specs.Finds.{FindsNow}
 use Rattle.store_joiner.proofs.Joins.{IsNext, begun_anew, next_head, now_at}
+use Rattle.store_joiner.proofs.Stores.{finds_in}
 use Rattle.store_backup.specs.declared.copying.Copied.{Copied}
 use Rattle.store_backup.specs.Copies.{Begins, IsCopied, MayBegin, NoneOrCopy, NoneOrWhole}
 use Rattle.store_backup.specs.Copies.{copy_of}
-
--- in what stands for no events a start finds the first world
-finds_in : (first : Origin) (left : Left) → StandsFor first [] left
-    → Finds first.values (λ (v : World). v ≡ first.world) left
-finds_in first left s = (
-  λ fits. (first.world, finds_world first first.world left [] (fits, s) refl, refl),
-  one_meaning first [] left s,
-)
 
 module _ {F : Type 0} (shows : F → List ℕ → Option (List ℕ) → Type 0)
     (kept : F → List ℕ → ℕ → Type 0) (sound : F → Bool) (moment : F → ℕ)
@@ -193,7 +186,7 @@ module _ {F : Type 0} (shows : F → List ℕ → Option (List ℕ) → Type 0)
         blocks = lie_at shows kept saved.places made f left next.blocks has.files;
       } in
       inr (
-        finds_in first left (state_stands first [] [] [] saved made left refl
+        finds_in first (λ (v : World). v ≡ first.world) left refl (state_stands first [] [] [] saved made left refl
             (record { world = ap (λ (w : World). Ok w) next.world; values = next.values }) state),
         may_start saved made [] left state may,
       )))
@@ -240,11 +233,16 @@ module _ {F : Type 0} (shows : F → List ℕ → Option (List ℕ) → Type 0)
       (record { folder = mid; names = [] }) (record { folder = new; names = [] }) (length text) saved made next
       refl (keeps (contents_with (head_texts saved) []) whole) stay) refl
 
--- how many blocks a world has
+-- how many blocks there are
+pub counted_so : (shown : List Shown) (s : SnapshotParts) → map part_in shown ≡ s.blocks
+    → length shown ≡ length s.blocks
+counted_so shown s is = sym (length-map shown part_in) ∙ ap length is
+
+-- and how many a world has
 pub as_many : (shown : List Shown) (s : SnapshotParts) → map part_in shown ≡ s.blocks
     → length shown ≡ (world_of s).blocks
 unfolding world_of
-as_many shown s is = sym (length-map shown part_in) ∙ ap length is
+as_many shown s is = counted_so shown s is
 
 module _ {F : Type 0} (shows : F → List ℕ → Option (List ℕ) → Type 0)
     (kept : F → List ℕ → ℕ → Type 0) (sound : F → Bool) (moment : F → ℕ)
@@ -267,7 +265,6 @@ module _ {F : Type 0} (shows : F → List ℕ → Option (List ℕ) → Type 0)
     blocks = c.blocks;
     begins = begins_later shows kept sound moment left_since only_now
         (copy_of saved parts c.world) old mid new before c.begins;
-    places = c.places;
     says = c.says;
   }
 

@@ -6,10 +6,11 @@ use Rattle.data_folder.specs.States.{HasStore as HasFilesOf, Named}
 use Rattle.data_folder.specs.Sweeping.{KeepsForeign}
 use Rattle.head.specs.Heads.{BlockPart}
 use Rattle.head.specs.Worlds.{Event, World, replayed}
-use Rattle.head_record.specs.Saved.{Place, Saved}
+use Rattle.head_record.specs.Saved.{Saved}
 use Rattle.store_folder.specs.Origins.{Origin}
 use Rattle.store_folder.specs.Starting.{DeniesStart}
 use Rattle.store_folder.specs.States.{MayStart, origin_of}
+use Rattle.store_folder.specs.Writing.{places_from}
 use Rattle.store_folder.specs.declared.error.RollFault.{RollFault}
 use Rattle.store_folder.specs.declared.error.StartError.{StartError}
 use Rattle.store_joiner.specs.Finds.{Finds, FindsNow, other_of}
@@ -23,8 +24,8 @@ use Rattle.store_backup.specs.Reading.{IsRead}
 abbrev pub NoneOrWhole : List Named → List (List ℕ) → Left → Type 0
 NoneOrWhole files contents left = (left journal_name ≡ None) ⊎ HasFilesOf files contents left
 
--- what is left has no journal; or a start finds this world in it, in which the values mean this,
--- and does not refuse the head and the blocks
+-- what is left has no journal, or one without events; a start finds this world in it, in which the
+-- values mean this, and does not refuse the head and the blocks
 abbrev pub NoneOrCopy : Origin → Left → Type 0
 NoneOrCopy first left =
     (left journal_name ≡ None)
@@ -50,7 +51,7 @@ copy_of saved parts w = other_of (origin_of saved parts) w
 -- The store of this head, these blocks and these events was copied from old to new: the events are
 -- accepted, and a start finds their world, in which the values mean what they meant, as the head
 -- and each block say. What is told is how many events there are, and how many blocks their world
--- has.
+-- has. These lie in folders of the numbers from 1 on.
 pub record IsCopied {F : Type 0} (shows : F → List ℕ → Option (List ℕ) → Type 0)
     (kept : F → List ℕ → ℕ → Type 0) (moment : F → ℕ)
     (left_since : F → ℕ → Left → Type 0) (saved : Saved) (parts : List BlockPart)
@@ -61,8 +62,7 @@ pub record IsCopied {F : Type 0} (shows : F → List ℕ → Option (List ℕ) �
   pub events : told.events ≡ length late
   pub blocks : told.blocks ≡ world.blocks
   pub begins : Begins shows kept moment left_since (copy_of saved parts world) old new
-  pub places : List Place
-  pub says : SaysMeaning shows kept saved.values places new
+  pub says : SaysMeaning shows kept saved.values (places_from 1 told.blocks) new
 
 -- The store was not copied: nothing was changed; or its events are accepted, and the store of their
 -- world was to be begun.

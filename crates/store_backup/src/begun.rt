@@ -7,10 +7,10 @@ ghost use Rattle.data_folder.specs.JournalFile.{journal_name, next_name};
 ghost use Rattle.data_folder.specs.Rolls.{Keeps};
 ghost use Rattle.data_folder.specs.States.{AreThere, IsApart, Named};
 ghost use Rattle.head.specs.Heads.{world_of};
-ghost use Rattle.head_record.specs.Saved.{Place};
 ghost use Rattle.journal.specs.Group.{IsJournalText};
 ghost use Rattle.store_backup.specs.Copies.{Begins, IsOfTarget, NoneOrWhole};
 ghost use Rattle.store_joiner.specs.Finds.{FindsNow};
+ghost use Rattle.store_folder.specs.Writing.{places_from};
 ghost use Rattle.store_joiner.specs.Stores.{SaysMeaning};
 
 use crate::error::CopyFault;
@@ -62,8 +62,8 @@ pub(crate) fn begin_with<F: Folder + Drop>(
     requires none { F.shows folder journal_name None × F.kept folder journal_name 0 }
     ensures finds { IfOk result (λ f. FindsNow F.moment F.left_since f
         (record { world = world_of snapshot.now; values = values })) }
-    ensures says { IfOk result (λ f. (places : List Place)
-        × SaysMeaning F.shows F.kept values places f) }
+    ensures says { IfOk result (λ f. SaysMeaning F.shows F.kept values
+        (places_from 1 (length snapshot.now.blocks)) f) }
     ensures begins { MatchResult result
         (λ f. Begins F.shows F.kept F.moment F.left_since
         (record { world = world_of snapshot.now; values = values }) folder f)

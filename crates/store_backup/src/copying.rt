@@ -187,8 +187,8 @@ pub fn copy_store<F: Folder, G: Folder + Drop>(
         source.old source.new }
     ensures looked { Untouched F.shows F.kept F.moment F.left_since again.old again.new }
     // After `Ok` a store was read, the one that lay there, if the source tells what its files have.
-    // Its events are accepted, and a start of the target finds their world; the `meta.json` of each
-    // block says what the values mean.
+    // Its events are accepted, and a start of the target finds their world; the blocks lie in
+    // folders of the numbers from 1 on, and the `meta.json` of each says what the values mean.
     ensures copied { IfOk result (λ x. (saved : Saved) × (parts : List BlockPart)
         × (events : List Change)
         × IsRead F.shows F.kept saved parts events source.old source.new

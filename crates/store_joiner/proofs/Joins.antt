@@ -23,12 +23,11 @@ use Rattle.name_table.specs.Names.{Label}
 use Rattle.labels.specs.Parts.{Part, laid_over, over, rows_in}
 use Rattle.labels.specs.Rows.{points_of}
 use Rattle.store_folder.specs.Holding.{AreAt, HoldsAfterHead, HoldsAt, HoldsThese}
-use Rattle.store_folder.specs.KeeperLaws.{finds_world, settled_found}
+use Rattle.store_folder.specs.KeeperLaws.{settled_found}
 use Rattle.store_folder.specs.Origins.{Origin}
 use Rattle.store_folder.specs.RewritingLaws.{same_world}
 use Rattle.store_folder.specs.Starting.{StartFinds}
 use Rattle.store_folder.specs.States.{IsEither, MayStart, StandsFor, started}
-use Rattle.store_folder.specs.StoreLaws.{one_meaning}
 use Rattle.store_folder.specs.Sweeps.{names_at}
 use Rattle.store_folder.specs.Writing.{AreRewritten, places_from}
 use Rattle.store_folder.proofs.Rolls.{after_head, apart_both, blocks_rolled, files_at, files_of_both}
@@ -39,17 +38,10 @@ use Rattle.store_folder.proofs.Swept.{holds_swept, swept_finds, these_leave, the
 use Rattle.store_joiner.specs.Finds.{Finds, FindsEither, FindsNow, other_of}
 use Rattle.store_joiner.specs.Joins.{HoldSame, parts_in, with_blocks}
 use Rattle.store_joiner.proofs.Starting.{either_starts, starts_of}
+use Rattle.store_joiner.proofs.Stores.{finds_in}
 
 abbrev fine : World → Result World Refusal
 fine w = Ok w
-
--- in what stands for no events a start finds the first world
-finds_in : (first : Origin) (P : World → Type 0) (left : Left) → P first.world
-    → StandsFor first [] left → Finds first.values P left
-finds_in first P left p s = (
-  λ fits. (first.world, finds_world first first.world left [] (fits, s) refl, p),
-  one_meaning first [] left s,
-)
 
 -- the world of joined blocks
 

@@ -1,5 +1,5 @@
 -- What the meta.json of blocks says while a store is saved and swept.
-use Rattle.std.proofs.Common.{◌≡◌, ℕ, ◌≤◌, ◌++◌, Bool, false, List, [], ◌∷◌, Option, Some, Result, Ok}
+use Rattle.std.proofs.Common.{◌≡◌, ◌⊎◌, ℕ, ◌≤◌, ◌++◌, Bool, false, List, [], ◌∷◌, Option, Some, Result, Ok}
 use Rattle.std.proofs.Common.{Err, IfErr, IfOk, length, refl, subst, subst₂, sym, ◌∙◌}
 use Rattle.std.specs.Prelude.{MatchResult, codes}
 use Rattle.std.specs.List.{AllByRecursion}
@@ -10,7 +10,7 @@ use Rattle.data_folder.specs.JournalFile.{journal_name}
 use Rattle.data_folder.specs.States.{AreThere, Named}
 use Rattle.data_folder.specs.Sweeping.{KeepsStore}
 use Rattle.event_journal.specs.Naming.{Spell}
-use Rattle.head.specs.Heads.{BlockPart}
+use Rattle.head.specs.Heads.{BlockPart, world_of}
 use Rattle.head.specs.Resuming.{MayStand}
 use Rattle.head.specs.Worlds.{Event}
 use Rattle.head_record.specs.Saved.{Place, Saved}
@@ -20,18 +20,20 @@ use Rattle.journal.proofs.Keeping.{itself}
 use Rattle.store_folder.specs.declared.journals.FoundJournal.{FoundJournal}
 use Rattle.store_folder.specs.Blocks.{name_in}
 use Rattle.store_folder.specs.Finding.{IsFoundStore}
-use Rattle.store_folder.specs.Holding.{HoldsAfterHead}
+use Rattle.store_folder.specs.Holding.{AreAt, HoldsAfterHead}
 use Rattle.store_folder.specs.Origins.{Origin}
 use Rattle.store_folder.specs.States.{IsState, started}
 use Rattle.store_folder.specs.StoreLaws.{blocks_left, one_saved, whole_left}
 use Rattle.store_folder.specs.Sweeps.{names_at}
 use Rattle.store_folder.specs.Writing.{EachSays}
 use Rattle.store_folder.proofs.Files as files
+use Rattle.store_folder.proofs.Fronts.{as_many}
 use Rattle.store_folder.proofs.Rolls.{keeps_now}
 use Rattle.store_folder.proofs.Says.{says_on}
 use Rattle.store_folder.proofs.Swept.{blocks_kept}
 use Rattle.store_joiner.specs.Finds.{BlocksSay, SaysIn}
-use Rattle.store_joiner.specs.Stores.{HasStore, LeavesNow, SaysOne}
+use Rattle.store_joiner.specs.Joins.{AreRolled}
+use Rattle.store_joiner.specs.Stores.{HasStore, LeavesNow, SaysAbove, SaysNumbered, SaysOne}
 use Rattle.store_joiner.proofs.Stores.{now_in}
 
 -- answers
@@ -76,6 +78,36 @@ module _ {F : Type 0} (shows : F → List ℕ → Option (List ℕ) → Type 0)
     journal = h.journal;
     blocks = files.blocks_kept shows kept saved.places parts old new k h.blocks;
   }
+
+-- so many blocks lie at the places of a head
+counted_at : {F : Type 0} (shows : F → List ℕ → Option (List ℕ) → Type 0)
+    (kept : F → List ℕ → ℕ → Type 0) (sound : F → Bool) (moment : F → ℕ)
+    (left_since : F → ℕ → Left → Type 0) (head : Saved) (parts : List BlockPart) (f : F)
+    → AreAt shows kept head.places parts f
+    → length head.places ≡ (world_of (started head parts)).blocks
+unfolding world_of
+counted_at shows kept sound moment left_since head parts f at =
+    as_many shows kept sound moment left_since head.places parts f at
+
+-- where the blocks of a store lie that was saved, and then replaced
+pub numbered : {F : Type 0} (shows : F → List ℕ → Option (List ℕ) → Type 0)
+    (kept : F → List ℕ → ℕ → Type 0) (sound : F → Bool) (moment : F → ℕ)
+    (left_since : F → ℕ → Left → Type 0) (others : List Place) (head : Saved)
+    (parts : List BlockPart) (mid new : F)
+    → (head.places ≡ others) ⊎ AreRolled others head.places
+    → AreAt shows kept head.places parts mid → SaysAbove shows kept head.places new
+    → SaysNumbered shows kept others (world_of (started head parts)).blocks new
+numbered shows kept sound moment left_since others head parts mid new begins at says = (
+  says.0,
+  says.1,
+  record {
+    saved = head.places;
+    begins = begins;
+    many = counted_at shows kept sound moment left_since head parts mid at;
+    above = says.2;
+  },
+  says.3,
+)
 
 module _ {F : Type 0} (shows : F → List ℕ → Option (List ℕ) → Type 0)
     (kept : F → List ℕ → ℕ → Type 0) (sound : F → Bool) (moment : F → ℕ)

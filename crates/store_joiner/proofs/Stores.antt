@@ -1,5 +1,5 @@
 -- A store that lies in a folder, while it is opened, saved and changed.
-use Rattle.std.proofs.Common.{◌≡◌, ◌⊎◌, inl, inr, ⊎_elim, ℕ, ◌≤◌, Bool, false, List, []}
+use Rattle.std.proofs.Common.{◌≡◌, ◌⊎◌, inl, inr, ⊎_elim, ℕ, ◌≤◌, Bool, false, List, [], ◌∷◌}
 use Rattle.std.proofs.Common.{◌++◌, Option, Some, Result, Ok, Err, IfOk, IfErr, refl, sym, ap}
 use Rattle.std.proofs.Common.{append-nil, arith, length, map, subst, ◌∙◌}
 use Rattle.std.specs.Prelude.{MatchResult, OnOk}
@@ -21,11 +21,11 @@ use Rattle.journal.proofs.Keeping.{itself}
 use Rattle.store_folder.specs.declared.reading.FoundStore.{FoundStore}
 use Rattle.store_folder.specs.Faults.{IsStoreOf}
 use Rattle.store_folder.specs.Holding.{HoldsAfterHead, HoldsOrLost, HoldsThese}
-use Rattle.store_folder.specs.KeeperLaws.{as_store, finds_world, open_head, state_stands}
+use Rattle.store_folder.specs.KeeperLaws.{as_store, open_head, state_stands}
 use Rattle.store_folder.specs.Origins.{Origin}
 use Rattle.store_folder.specs.Starting.{StartFinds}
 use Rattle.store_folder.specs.States.{IsAfter, IsState, StandsFor, origin_of, started}
-use Rattle.store_folder.specs.StoreLaws.{blocks_left, one_meaning, whole_left}
+use Rattle.store_folder.specs.StoreLaws.{blocks_left, later, one_meaning, whole_left}
 use Rattle.store_folder.proofs.Rolls.{of_these}
 use Rattle.store_joiner.specs.Finds.{Finds, FindsEither, FindsNow, other_of}
 use Rattle.store_joiner.specs.Joins.{with_blocks}
@@ -62,18 +62,39 @@ pub nothing_made : (first : World) (events : List Event) → events ≡ []
     → replayed first events ≡ Ok first
 nothing_made first events none = ap (λ (es : List Event). replayed first es) none
 
--- in what stands for no events a start finds the first world
-finds_none : (first : Origin) (events : List Event) (P : World → Type 0) (left : Left)
-    → events ≡ [] → P first.world → StandsFor first events left → Finds first.values P left
-finds_none first events P left none here s = (
+no_late : (early late : List Event) → [] ≡ early ++ late → late ≡ []
+no_late [] late all = sym all
+no_late (e ∷ early) late all = absurd (let w : [] ≡ e ∷ (early ++ late) = all in cc)
+
+-- what stands for no events has none, and a start finds the first world in it
+pub finds_in : (first : Origin) (P : World → Type 0) (left : Left) → P first.world
+    → StandsFor first [] left → Finds first.values P left
+finds_in first P left here s = (
   λ fits. (
     first.world,
-    finds_world first first.world left events (fits, s)
-        (nothing_made first.world events none),
+    (
+      fits,
+      (
+        s.saved,
+        s.parts,
+        subst (λ (es : List Event). IsState s.saved s.parts es left)
+            (no_late s.early s.late s.all) s.state,
+        subst (λ (es : List Event). replayed (world_of (started s.saved s.parts)) es ≡ Ok first.world)
+            (no_late s.early s.late s.all)
+            (later first.world s.early s.late (world_of (started s.saved s.parts)) first.world
+            s.begins.world (ap (λ (es : List Event). replayed first.world es) (sym s.all))),
+      ),
+    ),
     here,
   ),
-  one_meaning first events left s,
+  one_meaning first [] left s,
 )
+
+finds_none : (first : Origin) (events : List Event) (P : World → Type 0) (left : Left)
+    → events ≡ [] → P first.world → StandsFor first events left → Finds first.values P left
+finds_none first events P left none here s =
+    finds_in first P left here
+    (subst (λ (es : List Event). StandsFor first es left) none s)
 
 -- what lies in a folder stands for its events
 

@@ -1,5 +1,5 @@
 -- A store that lies in a folder, and what is left of it while it is changed.
-use Rattle.std.specs.Prelude.{◌≡◌, ◌⊎◌, ◌++◌, ℕ, ℤ, true, List, [], Option, None, Ok, codes}
+use Rattle.std.specs.Prelude.{◌≡◌, ◌⊎◌, ◌+◌, ◌++◌, ℕ, ℤ, true, List, [], Option, None, Ok, codes}
 use Rattle.block_folder.specs.declared.values.Values.{Values}
 use Rattle.block_folder.specs.declared.values.Values.TheVariants.{Whole}
 use Rattle.data_folder.specs.Folders.{HasFile, KeepsOthers, Left, LeavesOnly, Untouched}
@@ -18,7 +18,7 @@ use Rattle.store_folder.specs.Writing.{EachSays}
 use Rattle.store_folder.specs.declared.error.StartError.TheVariants.{Medium}
 use Rattle.store_joiner.specs.Adds.{with_beneath}
 use Rattle.store_joiner.specs.Finds.{Finds}
-use Rattle.store_joiner.specs.Joins.{with_blocks}
+use Rattle.store_joiner.specs.Joins.{AreAbove, AreNumbered, with_blocks}
 use Rattle.store_joiner.specs.declared.error.ChangeFault.{ChangeFault}
 use Rattle.store_joiner.specs.declared.error.ChangeFault.TheVariants as faults
 
@@ -157,6 +157,26 @@ abbrev pub SaysOne : {F : Type 0} → (F → List ℕ → Option (List ℕ) → 
     → (F → List ℕ → ℕ → Type 0) → F → Type 0
 SaysOne shows kept f =
     (values : Values) × (places : List Place) × SaysMeaning shows kept values places f
+
+-- so, of blocks above those at these places
+abbrev pub SaysAbove : {F : Type 0} → (F → List ℕ → Option (List ℕ) → Type 0)
+    → (F → List ℕ → ℕ → Type 0) → List Place → F → Type 0
+SaysAbove shows kept held f =
+    (values : Values) × (places : List Place) × AreAbove held places
+    × SaysMeaning shows kept values places f
+
+-- so, of blocks that are written anew for a store, whose blocks lay at these places
+abbrev pub SaysNumbered : {F : Type 0} → (F → List ℕ → Option (List ℕ) → Type 0)
+    → (F → List ℕ → ℕ → Type 0) → List Place → ℕ → F → Type 0
+SaysNumbered shows kept others count f =
+    (values : Values) × (places : List Place) × AreNumbered others count places
+    × SaysMeaning shows kept values places f
+
+-- so, where so many blocks are told of, of which so many were added
+abbrev pub SaysAdded : {F : Type 0} → (F → List ℕ → Option (List ℕ) → Type 0)
+    → (F → List ℕ → ℕ → Type 0) → List Place → ℕ → ℕ → F → Type 0
+SaysAdded shows kept others added told f =
+    (count : ℕ) × (told ≡ added + count) × SaysNumbered shows kept others count f
 
 -- the same world, in some number of blocks
 abbrev pub IsJoinedTo : World → World → Type 0

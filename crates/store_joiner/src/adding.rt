@@ -25,7 +25,7 @@ ghost use Rattle.store_joiner.specs.Finds.{BlocksSay, FindsEither, FindsNow, oth
 ghost use Rattle.store_joiner.specs.Stores.{Changes, HasBlocks, HasStore, HasStoreFor, IsAddedTo};
 ghost use Rattle.store_joiner.specs.Stores.{IsLater, IsSame, LeavesNow, MayChange, MayChangePlain};
 ghost use Rattle.store_joiner.specs.Stores.{NoneOrFinds, NoneOrStands, PlainOrFinds, PlainOrStarts};
-ghost use Rattle.store_joiner.specs.Stores.{SaysOne, StaysNow, StaysOrFinds};
+ghost use Rattle.store_joiner.specs.Stores.{SaysAbove, SaysAdded, SaysOne, StaysNow, StaysOrFinds};
 
 use crate::added::added_snapshot;
 use crate::error::ChangeFault;
@@ -75,6 +75,8 @@ fn add_saved<N: Beginning, F: Folder + Drop>(
     ensures counted { IfOk result (λ x.
         x.0 ≡ length opening.now.blocks + N.first.world.blocks) }
     ensures says { IfOk result (λ x. SaysOne F.shows F.kept x.1) }
+    ensures numbers { IfOk result (λ x.
+        SaysAbove F.shows F.kept found.store.journal.head.places x.1) }
     ensures stays { IfErr result (λ e.
         (e.0 ≡ ChangeFault.Roll (RollFault.Folder RollError.Lost) → ⊥)
         → FindsNow F.moment F.left_since e.1 N.first) }
@@ -146,6 +148,8 @@ fn add_found<F: Folder + Drop>(
         (with_beneath opening.now.blocks opening.now.floor w))) }
     ensures meant { OnOk result (found.store.journal.head.values ≡ values) }
     ensures says { IfOk result (λ x. SaysOne F.shows F.kept x.1) }
+    ensures numbers { TellsFiles F.shows → IfOk result (λ x. SaysAdded F.shows F.kept
+        found.store.journal.head.places (length opening.now.blocks) x.0 x.1) }
     ensures stays { TellsFiles F.shows → IfErr result (λ e.
         (e.0 ≡ ChangeFault.Roll (RollFault.Folder RollError.Lost) → ⊥)
         → StaysNow F.moment F.left_since e.1
@@ -213,6 +217,7 @@ fn begin_again<F: Folder + Drop>(alloc: Global, folder: F) -> Result<Found<F>, (
         (started x.store.journal.head (map part_in x.store.blocks.items))) }
     ensures after { TellsFiles F.shows → IfOk result (λ x. IsAfter (beginning Whole) []
         x.store.journal.head (map part_in x.store.blocks.items)) }
+    ensures fresh { TellsFiles F.shows → IfOk result (λ x. x.store.journal.head.places ≡ []) }
     ensures foreign { MatchResult result
         (λ x. KeepsForeign F.shows F.kept folder x.folder)
         (λ e. KeepsForeign F.shows F.kept folder e.1) }
@@ -249,6 +254,7 @@ fn begin_found<F: Folder + Drop>(alloc: Global, folder: F) -> Result<Found<F>, (
         (started x.store.journal.head (map part_in x.store.blocks.items))) }
     ensures after { TellsFiles F.shows → IfOk result (λ x. IsAfter (beginning Whole) []
         x.store.journal.head (map part_in x.store.blocks.items)) }
+    ensures fresh { TellsFiles F.shows → IfOk result (λ x. x.store.journal.head.places ≡ []) }
     // Where a block lies, nothing is changed.
     ensures blocks { HasBlocks F.shows F.lists F.kept F.moment F.left_since folder
         → MatchResult result (λ x. ⊥)
@@ -297,6 +303,8 @@ fn add_first<F: Folder + Drop>(
         → LeavesNow F.moment F.left_since e.1 (NoneOrFinds IsSame)) }
     ensures meant { OnOk result (values ≡ Whole) }
     ensures says { IfOk result (λ x. SaysOne F.shows F.kept x.1) }
+    ensures numbers { TellsFiles F.shows → IfOk result (λ x.
+        SaysAdded F.shows F.kept [] (length opening.now.blocks) x.0 x.1) }
     ensures blocks { HasBlocks F.shows F.lists F.kept F.moment F.left_since folder
         → MatchResult result (λ x. ⊥)
         (λ e. Untouched F.shows F.kept F.moment F.left_since folder e.1) }
@@ -327,7 +335,8 @@ pub fn add_to_store<F: Folder + Drop>(
     requires { F.sound folder ≡ true }
     // The folder tells what its files have, and a store with a head lies there. A crash at any
     // moment of the call leaves what stands for its events; or these are accepted, and a start
-    // finds their world, or it laid over the blocks. The values mean what they meant.
+    // finds their world, or it laid over the blocks, and no events. The values mean what they
+    // meant.
     ensures any_moment { TellsFiles F.shows → (saved : Saved) (parts : List BlockPart)
         (events : List Change) → (s : HasStore F.shows F.kept saved parts events folder)
         → begins_plain s.file ≡ false → MatchResult result
@@ -355,6 +364,17 @@ pub fn add_to_store<F: Folder + Drop>(
     // The journal has a head alone, which says what the values mean, and so does the `meta.json` of
     // each block.
     ensures says { IfOk result (λ x. SaysOne F.shows F.kept x.1) }
+    // The blocks lie in folders of the least numbers that are above those of the blocks before, as
+    // they lay once the events were saved.
+    ensures numbers { TellsFiles F.shows → (saved : Saved) (parts : List BlockPart)
+        (events : List Change) → (s : HasStore F.shows F.kept saved parts events folder)
+        → begins_plain s.file ≡ false → IfOk result (λ x. SaysAdded F.shows F.kept
+        saved.places (length opening.now.blocks) x.0 x.1) }
+    ensures plain_numbers { TellsFiles F.shows → (file : List ℕ)
+        → F.shows folder journal_name (Some file) → begins_plain file ≡ true
+        → IfOk result (λ x. SaysAdded F.shows F.kept [] (length opening.now.blocks) x.0 x.1) }
+    ensures first_numbers { TellsFiles F.shows → F.shows folder journal_name None
+        → IfOk result (λ x. SaysAdded F.shows F.kept [] (length opening.now.blocks) x.0 x.1) }
     // After an `Err`, if the blocks said so before, each says what the head says, whatever a crash
     // leaves now, unless `Lost` is told.
     ensures says_stays { TellsFiles F.shows → (saved : Saved) (parts : List BlockPart)

@@ -23,7 +23,8 @@ ghost use Rattle.store_joiner.specs.Joins.{with_blocks};
 ghost use Rattle.store_joiner.specs.Stores.{Changes, HasStore, IsJoinedHere, IsJoinedTo, IsLater};
 ghost use Rattle.store_joiner.specs.Stores.{IsSame};
 ghost use Rattle.store_joiner.specs.Stores.{LeavesNow, MayChange, MayChangePlain, PlainOrFinds};
-ghost use Rattle.store_joiner.specs.Stores.{PlainOrStarts, SaysOne, StaysNow, StaysOrFinds};
+ghost use Rattle.store_joiner.specs.Stores.{PlainOrStarts, SaysAbove, SaysNumbered, SaysOne};
+ghost use Rattle.store_joiner.specs.Stores.{StaysNow, StaysOrFinds};
 
 use crate::error::ChangeFault;
 use crate::joined::joined_snapshot;
@@ -135,6 +136,8 @@ fn join_saved<N: Beginning, F: Folder + Drop>(
     ensures few { IfOk result (λ x. x.0.after ≤ x.0.before) }
     ensures says { IfOk result (λ x. (x.0.after ≡ x.0.before → ⊥)
         → SaysOne F.shows F.kept x.1) }
+    ensures numbers { IfOk result (λ x. (x.0.after ≡ x.0.before → ⊥)
+        → SaysAbove F.shows F.kept found.store.journal.head.places x.1) }
     ensures says_still { EachSays F.shows F.kept found.store.journal.head.values
         found.store.journal.head.places found.folder
         → MayStand (started found.store.journal.head (map part_in found.store.blocks.items))
@@ -202,6 +205,8 @@ fn join_found<F: Folder + Drop>(
     ensures few { IfOk result (λ x. x.0.after ≤ x.0.before) }
     ensures says { IfOk result (λ x. (x.0.after ≡ x.0.before → ⊥)
         → SaysOne F.shows F.kept x.1) }
+    ensures numbers { TellsFiles F.shows → IfOk result (λ x. (x.0.after ≡ x.0.before → ⊥)
+        → SaysNumbered F.shows F.kept found.store.journal.head.places x.0.before x.1) }
     ensures says_still { TellsFiles F.shows → EachSays F.shows F.kept
         found.store.journal.head.values found.store.journal.head.places found.folder
         → (found.store.journal.events.items ≡ [] → MayStand
@@ -239,7 +244,7 @@ pub fn join_store<F: Folder + Drop>(
     requires { F.sound folder ≡ true }
     // The folder tells what its files have, and a store with a head lies there. A crash at any
     // moment of the call leaves what stands for its events; or these are accepted, and a start
-    // finds their world, in some number of blocks. The values mean what they meant.
+    // finds their world, in some number of blocks, and no events. The values mean what they meant.
     ensures any_moment { TellsFiles F.shows → (saved : Saved) (parts : List BlockPart)
         (events : List Change) → (s : HasStore F.shows F.kept saved parts events folder)
         → begins_plain s.file ≡ false → MatchResult result
@@ -255,7 +260,7 @@ pub fn join_store<F: Folder + Drop>(
         → MatchResult result
         (λ x. LeavesOnly F.moment F.left_since folder x.1 MayStart)
         (λ e. LeavesOnly F.moment F.left_since folder e.1 MayStart) }
-    // After `Ok` it finds their world, in the number of blocks that is told.
+    // After `Ok` it finds their world, in the number of blocks that is told, and no events.
     ensures finds { TellsFiles F.shows → (saved : Saved) (parts : List BlockPart)
         (events : List Change) → (s : HasStore F.shows F.kept saved parts events folder)
         → begins_plain s.file ≡ false → IfOk result (λ x. (w : World)
@@ -267,6 +272,16 @@ pub fn join_store<F: Folder + Drop>(
     // so does the `meta.json` of each block.
     ensures says { IfOk result (λ x. (x.0.after ≡ x.0.before → ⊥)
         → SaysOne F.shows F.kept x.1) }
+    // The blocks lie in folders of the least numbers that are above those of the blocks before, as
+    // they lay once the events were saved.
+    ensures numbers { TellsFiles F.shows → (saved : Saved) (parts : List BlockPart)
+        (events : List Change) → (s : HasStore F.shows F.kept saved parts events folder)
+        → begins_plain s.file ≡ false → IfOk result (λ x. (x.0.after ≡ x.0.before → ⊥)
+        → SaysNumbered F.shows F.kept saved.places x.0.before x.1) }
+    ensures plain_numbers { TellsFiles F.shows → (file : List ℕ)
+        → F.shows folder journal_name (Some file) → begins_plain file ≡ true
+        → IfOk result (λ x. (x.0.after ≡ x.0.before → ⊥)
+        → SaysNumbered F.shows F.kept [] x.0.before x.1) }
     // If the blocks said so before, so it is after `Ok` also where none were joined; and a start
     // makes a snapshot of the head and of them, if it did so before, or the journal had events. Of
     // a journal of events alone, which names no blocks, it is always so.

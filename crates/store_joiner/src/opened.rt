@@ -1,6 +1,6 @@
 //! The store of a folder, with what its journal has saved.
 
-ghost use Rattle.std.specs.Prelude.{◌≡◌, List, [], IfErr, IfOk, MatchResult, Ok, map, true};
+ghost use Rattle.std.specs.Prelude.{◌≡◌, ◌⊎◌, List, [], IfErr, IfOk, MatchResult, Ok, map, true};
 ghost use Rattle.data_folder.specs.Folders.{LeavesOnly, Untouched};
 ghost use Rattle.data_folder.specs.Sweeping.{KeepsForeign};
 ghost use Rattle.head.specs.Blocks.{part_in};
@@ -14,6 +14,7 @@ ghost use Rattle.store_folder.specs.Starting.{StartFinds};
 ghost use Rattle.store_folder.specs.States.{IsAfter, MayStart, origin_of, started};
 ghost use Rattle.store_folder.specs.Writing.{EachSays};
 ghost use Rattle.store_joiner.specs.Finds.{BlocksSay};
+ghost use Rattle.store_joiner.specs.Joins.{AreRolled};
 ghost use Rattle.store_joiner.specs.Stores.{HasStoreFor, HasStore, IsLater, LeavesNow};
 
 use crate::error::ChangeFault;
@@ -91,12 +92,13 @@ fn save_events<N: Beginning, F: Folder + Drop>(
     ensures has { IfOk result (λ folder. HasStoreFor F.shows F.kept N.first
         found.store.journal.events.items folder) }
     // A start makes a snapshot of the new head and its blocks. If each block said what the head
-    // said, so it is with the new one.
+    // said, so it is with the new one. The new blocks lie above those that were found.
     ensures stands { IfOk result (λ folder. (saved : Saved) × (parts : List BlockPart)
         × HasStore F.shows F.kept saved parts [] folder × MayStand (started saved parts)
         × (EachSays F.shows F.kept found.store.journal.head.values
         found.store.journal.head.places found.folder
-        → EachSays F.shows F.kept saved.values saved.places folder)) }
+        → EachSays F.shows F.kept saved.values saved.places folder)
+        × AreRolled found.store.journal.head.places saved.places) }
     // So it is after an `Err`, whatever a crash leaves now, unless `Lost` is told.
     ensures says_stays { EachSays F.shows F.kept found.store.journal.head.values
         found.store.journal.head.places found.folder → IfErr result (λ e.
@@ -160,6 +162,10 @@ pub(crate) fn save<F: Folder + Drop>(
         (origin_of found.store.journal.head (map part_in found.store.blocks.items))
         found.store.journal.events.items x.store.journal.head
         (map part_in x.store.blocks.items)) }
+    // Its blocks lie where they lay, or the new ones above those.
+    ensures numbers { TellsFiles F.shows → IfOk result (λ x.
+        (x.store.journal.head.places ≡ found.store.journal.head.places)
+        ⊎ AreRolled found.store.journal.head.places x.store.journal.head.places) }
     // If each block says what the head says, so it is then.
     ensures says { TellsFiles F.shows → EachSays F.shows F.kept
         found.store.journal.head.values found.store.journal.head.places found.folder

@@ -10,7 +10,7 @@ ghost use Rattle.store_folder.specs.Finding.{IsFoundStore};
 ghost use Rattle.store_folder.specs.States.{MayStart, origin_of, started};
 ghost use Rattle.store_folder.specs.Writing.{EachSays};
 ghost use Rattle.store_joiner.specs.Finds.{BlocksSay, FindsEither, FindsNow, other_of};
-ghost use Rattle.store_joiner.specs.Stores.{IsLater, LeavesNow, SaysOne};
+ghost use Rattle.store_joiner.specs.Stores.{IsLater, LeavesNow, SaysAbove, SaysOne};
 
 use crate::error::ChangeFault;
 use crate::opened::Found;
@@ -32,8 +32,8 @@ pub(crate) fn replace<N: Beginning, F: Folder + Drop>(
     requires saved { found.store.journal.events.items ≡ [] }
     requires first { N.first ≡ origin_of found.store.journal.head
         (map part_in found.store.blocks.items) }
-    // A crash at any moment of the call leaves a store: a start finds it as it was, or the other.
-    // The values mean what they meant.
+    // A crash at any moment of the call leaves a store without events: a start finds it as it was,
+    // or the other. The values mean what they meant.
     ensures any_moment { MatchResult result
         (λ folder. FindsEither F.moment F.left_since found.folder folder N.first
         (world_of next.now))
@@ -50,6 +50,7 @@ pub(crate) fn replace<N: Beginning, F: Folder + Drop>(
     ensures finds { IfOk result (λ folder.
         FindsNow F.moment F.left_since folder (other_of N.first (world_of next.now))) }
     ensures says { IfOk result (SaysOne F.shows F.kept) }
+    ensures numbers { IfOk result (SaysAbove F.shows F.kept found.store.journal.head.places) }
     // After an `Err` it finds it as it was, unless the journal was lost.
     ensures stays { IfErr result (λ e.
         (e.0 ≡ ChangeFault.Roll (RollFault.Folder RollError.Lost) → ⊥)

@@ -11,6 +11,7 @@ ghost use Rattle.store_folder.specs.Holding.{HoldsAt, HoldsThese};
 ghost use Rattle.store_folder.specs.States.{MayStart, started};
 ghost use Rattle.store_folder.specs.Writing.{EachSays};
 ghost use Rattle.store_joiner.specs.Finds.{BlocksSay, FindsEither, FindsNow, other_of};
+ghost use Rattle.store_joiner.specs.Joins.{AreAbove};
 ghost use Rattle.store_joiner.specs.Stores.{LeavesNow, SaysMeaning};
 
 use data_folder::{Folder, RollError, roll};
@@ -47,8 +48,8 @@ pub fn replace_store<N: Beginning, F: Folder + Drop>(
     requires held { (parts : List BlockPart) × HoldsAt F.shows F.kept F.sound F.moment F.left_since
         N.first store.events.journal.medium store.events.journal.len store.events.journal.closed []
         held.now parts }
-    // A crash at any moment of the call leaves a store: a start finds it as it was, or the other.
-    // The values mean what they meant.
+    // A crash at any moment of the call leaves a store without events: a start finds it as it was,
+    // or the other. The values mean what they meant.
     ensures any_moment { MatchResult result
         (λ x. FindsEither F.moment F.left_since store.events.journal.medium.folder x.folder N.first
         (world_of next.now))
@@ -67,6 +68,8 @@ pub fn replace_store<N: Beginning, F: Folder + Drop>(
     ensures finds { IfOk result (λ x.
         FindsNow F.moment F.left_since x.folder (other_of N.first (world_of next.now))) }
     ensures places { IfOk result (λ x. length x.places.items ≡ length next.now.blocks) }
+    // The blocks lie in folders of the least numbers that are above those of the held places.
+    ensures numbers { IfOk result (λ x. AreAbove held.now x.places.items) }
     // Its head names the blocks there, and says what the values mean, as the `meta.json` of each.
     ensures says { IfOk result (λ x.
         SaysMeaning F.shows F.kept N.first.values x.places.items x.folder) }

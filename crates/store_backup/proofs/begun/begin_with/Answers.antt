@@ -102,32 +102,30 @@ returns-in-Ok-begin_journal-clause-says g c =
     let new = c.in-Ok-begin_journal.begun in
     let there = c.in-Ok.ensures.there in
     let keeps = c.in-Ok-begin_journal.ensures.keeps contents
-    (subst (IsJournalText contents) (sym c.deref.ensures.value) c.in-Ok-head_journal.ensures.text) in (
-      written,
-      record {
-        file = file_of contents;
-        saved = head;
-        has = keeps.file;
-        journal = record {
-          head = c.in-Ok-head_journal.ensures.saved;
-          stands = record {
-            before = in_front head;
-            contents = [];
-            names = [];
-            spell = refl;
-            recovers = itself contents keeps.each;
-          };
+    (subst (IsJournalText contents) (sym c.deref.ensures.value) c.in-Ok-head_journal.ensures.text) in
+    record {
+      file = file_of contents;
+      saved = head;
+      has = keeps.file;
+      journal = record {
+        head = c.in-Ok-head_journal.ensures.saved;
+        stands = record {
+          before = in_front head;
+          contents = [];
+          names = [];
+          spell = refl;
+          recovers = itself contents keeps.each;
         };
-        means = ap (λ (h : Saved). h.values) c.in-Ok.ensures.saved;
-        names = ap (λ (h : Saved). h.places) c.in-Ok.ensures.saved;
-        says = says_on f.shows f.kept values written mid new
-            (λ files among there. c.in-Ok-begin_journal.ensures.files files
-            (files_apart written files among) there) c.in-Ok.ensures.says;
-        parts = there.0;
-        blocks = subst (λ (ps : List Place). AreAt f.shows f.kept ps there.0 new)
-            (sym (ap (λ (h : Saved). h.places) c.in-Ok.ensures.saved))
-            (blocks_rolled f.shows f.kept written there.0 mid new
-            c.in-Ok-begin_journal.ensures.files there.2);
-        stands = c.in-Ok.ensures.stands there.0 (each_like s.blocks there.0 there.1);
-      },
-    )
+      };
+      means = ap (λ (h : Saved). h.values) c.in-Ok.ensures.saved;
+      names = ap (λ (h : Saved). h.places) c.in-Ok.ensures.saved;
+      says = says_on f.shows f.kept values written mid new
+          (λ files among there. c.in-Ok-begin_journal.ensures.files files
+          (files_apart written files among) there) c.in-Ok.ensures.says;
+      parts = there.0;
+      blocks = subst (λ (ps : List Place). AreAt f.shows f.kept ps there.0 new)
+          (sym (ap (λ (h : Saved). h.places) c.in-Ok.ensures.saved))
+          (blocks_rolled f.shows f.kept written there.0 mid new
+          c.in-Ok-begin_journal.ensures.files there.2);
+      stands = c.in-Ok.ensures.stands there.0 (each_like s.blocks there.0 there.1);
+    }

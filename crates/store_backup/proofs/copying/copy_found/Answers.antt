@@ -1,10 +1,11 @@
-use Rattle.std.proofs.Common.{rules, subst}
+use Rattle.std.proofs.Common.{ℕ, rules, subst, subst₂, sym}
 use Rattle.block_folder.specs.declared.values.Values.{Values}
 use Rattle.head.specs.Heads.{world_of}
 use Rattle.store_joiner.specs.Finds.{FindsNow}
+use Rattle.store_folder.specs.Writing.{places_from}
 use Rattle.store_joiner.specs.Stores.{SaysMeaning}
 use Rattle.store_backup.specs.Copies.{Begins}
-use Rattle.store_backup.proofs.Targets.{as_many}
+use Rattle.store_backup.proofs.Targets.{as_many, counted_so}
 use Rattle.store_backup.proofs.copying.copy_found.Goals as goal
 
 pub returns-in-Ok-begin_with-clause-copied : goal.returns-in-Ok-begin_with-clause-copied
@@ -23,8 +24,8 @@ returns-in-Ok-begin_with-clause-copied g c =
       begins = subst (λ (values : Values). Begins f.shows f.kept f.moment f.left_since
           (record { world = world_of s; values = values }) c.args.target new) c.values.ensures
           c.in-Ok-begin_with.ensures.begins;
-      places = c.in-Ok-begin_with.ensures.says.0;
-      says = subst (λ (values : Values). SaysMeaning f.shows f.kept values
-          c.in-Ok-begin_with.ensures.says.0 new) c.values.ensures
-          c.in-Ok-begin_with.ensures.says.1;
+      says = subst₂ (λ (values : Values) (n : ℕ). SaysMeaning f.shows f.kept values
+          (places_from 1 n) new) c.values.ensures
+          (sym (counted_so c.blocks-2.result.now s c.blocks-2.ensures))
+          c.in-Ok-begin_with.ensures.says;
     }

@@ -1,12 +1,13 @@
-use Rattle.std.proofs.Common.{length, map}
+use Rattle.std.proofs.Common.{List, length, map, subst}
 use Rattle.block_folder.specs.declared.values.Values.TheVariants.{Whole}
 use Rattle.data_folder.proofs.Foreign.{foreign_rests, foreign_then}
 use Rattle.data_folder.proofs.Moments.{untouched}
 use Rattle.head.specs.Blocks.{part_in}
+use Rattle.head_record.specs.Saved.{Place}
 use Rattle.store_folder.specs.Origins.{beginning}
 use Rattle.store_folder.specs.States.{origin_of}
 use Rattle.store_joiner.specs.Adds.{with_beneath}
-use Rattle.store_joiner.specs.Stores.{IsAddedTo, IsSame}
+use Rattle.store_joiner.specs.Stores.{IsAddedTo, IsSame, SaysAdded}
 use Rattle.store_joiner.proofs.Changing.{counts_first, finds_first, first_changed, first_rests}
 use Rattle.store_joiner.proofs.Changing.{first_same, none_left, origin_again}
 use Rattle.store_joiner.proofs.Stores.{if_err, if_ok, match_so, now_in}
@@ -128,3 +129,13 @@ returns-then-not-is_same-clause-starts g c tells =
     let old = c.args.folder in
     none_starts f.shows f.kept f.moment f.left_since g.met.F.Folder.only_now old old c.requires.none.0
     c.requires.none.1 (untouched f.shows f.kept f.moment f.left_since old)
+
+-- where the blocks lie
+
+pub returns-in-Ok-clause-numbers : goal.returns-in-Ok-clause-numbers
+returns-in-Ok-clause-numbers g c tells =
+    let f = g.F.Folder in
+    let added = length c.args.opening.now.blocks in
+    if_ok c.add_found.result _ _
+    (λ x says. subst (λ (places : List Place). SaysAdded f.shows f.kept places added x.0 x.1)
+    (c.in-Ok.ensures.fresh tells) says) (c.add_found.ensures.numbers tells)

@@ -8,7 +8,7 @@ use Rattle.store_joiner.proofs.Stores.{either_so, finds_then, if_both, if_err, m
 use Rattle.store_folder.proofs.Starts.{stays_found}
 use Rattle.store_joiner.proofs.Stores.{stays, stays_now, then_finds}
 use Rattle.data_folder.proofs.Foreign.{foreign_rests, foreign_then}
-use Rattle.store_joiner.proofs.Says.{found_says}
+use Rattle.store_joiner.proofs.Says.{found_says, numbered}
 use Rattle.store_joiner.proofs.Starting.{each_starts, found_starts}
 use Rattle.store_joiner.proofs.adding.add_found.Goals as goal
 
@@ -152,3 +152,19 @@ returns-in-Err-clause-any_moment g c tells =
     (origin_of s.journal.head (map part_in s.blocks.items)) s.journal.events.items
     (IsAddedTo c.args.values c.args.opening.now.blocks c.args.opening.now.floor
     (origin_of s.journal.head (map part_in s.blocks.items))) c.in-Err.ensures.any_moment
+
+-- where the blocks lie
+
+pub returns-in-Ok-clause-numbers : goal.returns-in-Ok-clause-numbers
+returns-in-Ok-clause-numbers g c tells =
+    let f = g.F.Folder in
+    let held = c.args.found.store.journal.head.places in
+    let x = c.in-Ok.saved in
+    let parts = map part_in x.store.blocks.items in
+    if_both c.add_saved.result _ _ _
+    (λ y counted above. (
+      (world_of (started x.store.journal.head parts)).blocks,
+      counted,
+      numbered f.shows f.kept f.sound f.moment f.left_since held x.store.journal.head parts x.folder
+          y.1 (c.in-Ok.ensures.numbers tells) c.in-Ok.ensures.found.blocks above,
+    )) c.add_saved.ensures.counted c.add_saved.ensures.numbers

@@ -20,13 +20,13 @@ use Rattle.store_joiner.specs.Adds.{with_beneath}
 use Rattle.store_joiner.specs.Finds.{FindsNow, other_of}
 use Rattle.data_folder.proofs.Foreign.{foreign_beside, foreign_then}
 use Rattle.head_record.specs.Saved.{Saved}
-use Rattle.store_joiner.proofs.Stores.{if_both, of_ok}
+use Rattle.store_joiner.proofs.Stores.{if_both, if_ok, of_ok}
 use Rattle.store_joiner.proofs.Changing.{changes_found, first_rests, none_left, not_none}
 use Rattle.store_joiner.proofs.Changing.{plain_changed, plain_denied, plain_found, plain_rests}
 use Rattle.store_joiner.proofs.Changing.{plain_same, some_of}
 use Rattle.head.specs.Worlds.{World}
 use Rattle.data_folder.proofs.Moments.{joined, untouched_on}
-use Rattle.store_joiner.specs.Stores.{IsSame, NoneOrFinds}
+use Rattle.store_joiner.specs.Stores.{IsSame, NoneOrFinds, SaysAdded}
 use Rattle.store_folder.specs.Writing.{EachSays}
 use Rattle.store_joiner.proofs.Says.{has_all, say_now, says_all}
 use Rattle.std.proofs.Common.{subst₂}
@@ -506,3 +506,50 @@ returns-in-Err-clause-first_starts g c tells shown durable =
     let f = g.F.Folder in
     none_starts f.shows f.kept f.moment f.left_since g.met.F.Folder.only_now c.args.folder
     c.open_store.new.folder shown durable (c.open_store.ensures.whole tells None shown refl)
+
+-- where the blocks lie
+
+pub returns-in-Some-clause-numbers : goal.returns-in-Some-clause-numbers
+returns-in-Some-clause-numbers g c tells saved parts events h plain =
+    let f = g.F.Folder in
+    let added = length c.args.opening.now.blocks in
+    let is : IsStoreOf saved parts events c.in-Some.store =
+    subst (λ (o : Option FoundStore). GivesStore (f.failed c.open_store.new.folder) saved parts
+    events (found o)) c.in-Some.is
+    (c.in-Ok.ensures.only tells h.file saved parts events h.has plain h.journal h.blocks) in
+    if_ok c.add_found.result _ _
+    (λ x says. subst (λ (y : Saved). SaysAdded f.shows f.kept y.places added x.0 x.1) is.head says)
+    (c.add_found.ensures.numbers tells)
+
+pub returns-in-Some-clause-plain_numbers : goal.returns-in-Some-clause-plain_numbers
+returns-in-Some-clause-plain_numbers g c tells file shown plain =
+    let f = g.F.Folder in
+    let added = length c.args.opening.now.blocks in
+    let alone = some_of c.in-Ok.opened c.in-Some.store _ c.in-Some.is
+    (c.in-Ok.ensures.plain tells file shown plain) in
+    if_ok c.add_found.result _ _
+    (λ x says. subst (λ (y : Saved). SaysAdded f.shows f.kept y.places added x.0 x.1) alone.1 says)
+    (c.add_found.ensures.numbers tells)
+
+pub returns-in-Some-clause-first_numbers : goal.returns-in-Some-clause-first_numbers
+returns-in-Some-clause-first_numbers g c tells shown =
+    let f = g.F.Folder in
+    let mid = c.open_store.new.folder in
+    let s = c.in-Some.store in
+    let is : IsFoundStore f.shows f.kept s.journal (map part_in s.blocks.items) mid =
+    search rules in
+    absurd (not_none f.shows f.kept f.moment f.left_since tells c.args.folder mid is.file shown
+    (c.open_store.ensures.whole tells None shown refl) is.has)
+
+pub returns-in-None-clause-numbers : goal.returns-in-None-clause-numbers
+returns-in-None-clause-numbers g c tells saved parts events h plain =
+    let f = g.F.Folder in
+    absurd (subst (λ (o : Option FoundStore). GivesStore (f.failed c.open_store.new.folder) saved parts
+    events (found o)) c.in-None.is
+    (c.in-Ok.ensures.only tells h.file saved parts events h.has plain h.journal h.blocks))
+
+pub returns-in-None-clause-plain_numbers : goal.returns-in-None-clause-plain_numbers
+returns-in-None-clause-plain_numbers g c tells file shown plain = c.add_first.ensures.numbers tells
+
+pub returns-in-None-clause-first_numbers : goal.returns-in-None-clause-first_numbers
+returns-in-None-clause-first_numbers g c tells shown = c.add_first.ensures.numbers tells

@@ -1,4 +1,4 @@
-use Rattle.std.proofs.Common.{[]}
+use Rattle.std.proofs.Common.{[], ap}
 use Rattle.block_folder.specs.declared.values.Values.TheVariants.{Whole}
 use Rattle.data_folder.proofs.Foreign.{foreign_all, foreign_then}
 use Rattle.data_folder.proofs.Moments.{joined}
@@ -81,4 +81,9 @@ returns-in-Ok-clause-may g c tells =
     if_ok c.read_again.result _ _
     (λ x is. subst₂ (λ (y : Saved) (bs : List BlockPart). MayStand (started y bs)) (sym is.head)
     (sym is.blocks) (nothing_stands Whole))
+    (c.read_again.ensures.only tells nothing_saved [] [] c.in-Ok.ensures.nothing)
+
+pub returns-in-Ok-clause-fresh : goal.returns-in-Ok-clause-fresh
+returns-in-Ok-clause-fresh g c tells =
+    if_ok c.read_again.result _ _ (λ x is. ap (λ (y : Saved). y.places) is.head)
     (c.read_again.ensures.only tells nothing_saved [] [] c.in-Ok.ensures.nothing)

@@ -184,3 +184,12 @@ returns-in-Ok-replace-clause-starts g c may = c.in-Ok-replace.ensures.starts may
 
 pub returns-clause-starts : goal.returns-clause-starts
 returns-clause-starts g c may = c.in-Err-replace.ensures.starts may
+
+-- where the blocks lie
+
+pub returns-in-Ok-sweep-clause-numbers : goal.returns-in-Ok-sweep-clause-numbers
+returns-in-Ok-sweep-clause-numbers g c fewer =
+    absurd (fewer (omega (arith, c.if-after-before.true)))
+
+pub returns-in-Ok-replace-clause-numbers : goal.returns-in-Ok-replace-clause-numbers
+returns-in-Ok-replace-clause-numbers g c fewer = c.in-Ok-replace.ensures.numbers

@@ -3,7 +3,7 @@ use Rattle.head.specs.Blocks.{part_in}
 use Rattle.store_folder.specs.States.{origin_of, started}
 use Rattle.store_folder.proofs.Rolls.{finds_on}
 use Rattle.store_folder.proofs.Starts.{stays_found}
-use Rattle.std.proofs.Common.{[], List, arith, refl, subst, subst₂, sym}
+use Rattle.std.proofs.Common.{[], List, arith, inl, inr, refl, subst, subst₂, sym}
 use Rattle.std.proofs.lemmas.Grind.{common_steps}
 use Rattle.store_joiner.proofs.Stores.{if_both, if_ok, match_so, untouched_finds}
 use Rattle.store_joiner.proofs.Stores.{world_again}
@@ -14,6 +14,7 @@ use Rattle.head_record.specs.Saved.{Saved}
 use Rattle.head.specs.Resuming.{MayStand}
 use Rattle.head.specs.Heads.{BlockPart}
 use Rattle.store_joiner.proofs.Starting.{found_starts, starts_on, untouched_starts}
+use Rattle.store_joiner.specs.Joins.{AreRolled}
 use Rattle.store_joiner.proofs.opened.save.Goals as goal
 
 pub returns-then-is_empty-clause-any_moment : goal.returns-then-is_empty-clause-any_moment
@@ -139,3 +140,16 @@ returns-in-Ok-clause-starts g c may =
 
 pub returns-in-Err-clause-starts : goal.returns-in-Err-clause-starts
 returns-in-Err-clause-starts g c may = c.in-Err.ensures.starts may
+
+-- where its blocks lie
+
+pub returns-then-is_empty-clause-numbers : goal.returns-then-is_empty-clause-numbers
+returns-then-is_empty-clause-numbers g c tells = inl refl
+
+pub returns-in-Ok-clause-numbers : goal.returns-in-Ok-clause-numbers
+returns-in-Ok-clause-numbers g c tells =
+    let held = c.args.found.store.journal.head.places in
+    let w = c.in-Ok.ensures.stands in
+    if_ok c.read_again.result _ _
+    (λ x is. inr (subst (λ (head : Saved). AreRolled held head.places) (sym is.head) w.5))
+    (c.read_again.ensures.only tells w.0 w.1 [] w.2)

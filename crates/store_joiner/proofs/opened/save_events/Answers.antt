@@ -1,4 +1,4 @@
-use Rattle.std.proofs.Common.{List, ap, inl, map, subst, subst₂, sym}
+use Rattle.std.proofs.Common.{◌-◌, List, ap, inl, length, map, subst, subst₂, sym}
 use Rattle.head.specs.Blocks.{part_in}
 use Rattle.store_folder.specs.declared.journals.FoundJournal.{FoundJournal}
 use Rattle.store_folder.specs.Starting.{GoesOn}
@@ -22,6 +22,7 @@ use Rattle.head.specs.Resuming.{MayStand}
 use Rattle.head_record.specs.Saved.{Saved}
 use Rattle.store_folder.specs.States.{started}
 use Rattle.store_joiner.proofs.Starting.{saved_starts, starts_of, starts_on}
+use Rattle.store_joiner.specs.Joins.{AreRolled}
 use Rattle.store_joiner.proofs.opened.save_events.Goals as goal
 
 abbrev rolled : RollFault → ChangeFault
@@ -155,6 +156,9 @@ returns-in-Ok-roll-clause-stands g c =
           (says_on f.shows f.kept head.values head.places found.folder mid
           (λ files among there. there_beside f.shows f.kept head.places files found.folder mid
           c.in-Ok.ensures.others among there) says)),
+      (let n = c.in-Ok-roll.ensures.numbers in
+          subst (λ (ps : List Place). AreRolled ps rolled.places.items) c.in-Ok.ensures.places
+          (n.0, n.1, length kept.snapshot.blocks - n.0, (n.2, n.3, n.4), n.5)),
     )
 
 pub returns-in-Err-clause-says_stays : goal.returns-in-Err-clause-says_stays

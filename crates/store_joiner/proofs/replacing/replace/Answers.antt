@@ -17,6 +17,7 @@ use Rattle.block_folder.specs.declared.values.Values.{Values}
 use Rattle.head.specs.Worlds.{Event}
 use Rattle.store_folder.specs.Holding.{HoldsThese}
 use Rattle.store_joiner.proofs.Starting.{found_starts, starts_of, starts_on}
+use Rattle.store_joiner.specs.Joins.{AreAbove}
 use Rattle.store_joiner.proofs.replacing.replace.Goals as goal
 
 abbrev rolled : RollFault → ChangeFault
@@ -151,6 +152,16 @@ returns-in-Ok-replace_store-clause-says g c = (
   c.in-Ok-replace_store.replaced.places.items,
   c.in-Ok-replace_store.ensures.says,
 )
+
+pub returns-in-Ok-replace_store-clause-numbers : goal.returns-in-Ok-replace_store-clause-numbers
+returns-in-Ok-replace_store-clause-numbers g c =
+    let places = c.in-Ok-replace_store.replaced.places.items in (
+      g.N.Beginning.first.values,
+      places,
+      subst (λ (held : List Place). AreAbove held places) c.places.ensures
+          c.in-Ok-replace_store.ensures.numbers,
+      c.in-Ok-replace_store.ensures.says,
+    )
 
 pub returns-in_default-clause-says_stays : goal.returns-in_default-clause-says_stays
 returns-in_default-clause-says_stays g c says unless =

@@ -1,5 +1,5 @@
 use Rattle.std.proofs.Common.{◌≡◌, ◌++◌, ◌-◌, arith, List, [], ap, length, refl, subst, sym}
-use Rattle.std.proofs.Common.{take, false, ◌∙◌}
+use Rattle.std.proofs.Common.{ℕ, take, false, ◌∙◌}
 use Rattle.event_journal.specs.Holding.{contents_with}
 use Rattle.head.specs.Heads.{world_of}
 use Rattle.head_record.specs.Saved.{Place, Saved}
@@ -568,3 +568,17 @@ returns-clause-starts g c saved parts late t is may =
     (world_of s) old.medium mid new.medium.folder old.len old.closed saved parts late held head there.0
     c.deref.result.now t c.requires.open is c.write_saved.ensures.stays next whole
     c.in-Err-roll.ensures.any_moment may stands)
+
+-- where the blocks lie
+
+pub returns-in-Ok-roll-clause-numbers : goal.returns-in-Ok-roll-clause-numbers
+returns-in-Ok-roll-clause-numbers g c =
+    let n = length c.args.next.now.blocks - 0 in
+    let first = c.next_number.result in (
+      first,
+      (c.next_number.ensures.some, c.next_number.ensures.above, c.next_number.ensures.least),
+      subst (λ (ps : List Place). ps ≡ places_from first (length ps))
+          (sym (c.in-Ok-from_slice.ensures.items ∙ c.places.ensures
+          ∙ ap (λ (h : Saved). h.places) c.in-Ok.ensures.saved))
+          (ap (λ (k : ℕ). places_from first k) (sym (counted first n))),
+    )
