@@ -32,7 +32,7 @@ fn save<J: OpenNaming, C: Wait + Drop, K: Keeper + Drop>(
     if K::is_idle() {
         return;
     }
-    match committer.checkpoint(rt) {
+    match committer.roll_if_due(rt) {
         Ok(None) => {}
         Ok(Some(blocks)) => {
             let noun = if blocks == 1 { "block" } else { "blocks" };

@@ -1,6 +1,6 @@
 //! The events of a store, kept in its folder.
 
-use crate::checkpoint::kept_error;
+use crate::keeper_roll::kept_error;
 use crate::store_journal::{Beginning, StoreJournal};
 use crate::terms::RollTerms;
 use block::Block;
@@ -194,7 +194,11 @@ impl<N: Beginning, F: Folder + Drop> Keeper for StoreKeeper<N, F> {
     }
 
     /// What is none of the store's stays. If blocks were saved, then all of the snapshot was.
-    fn checkpoint(&mut self, alloc: Global, snapshot: &Snapshot) -> Result<Option<usize>, KeepError>
+    fn roll_if_due(
+        &mut self,
+        alloc: Global,
+        snapshot: &Snapshot,
+    ) -> Result<Option<usize>, KeepError>
         requires made { ⟦<StoreKeeper<N, F> as Keeper>⟧.idle ≡ false
             → (events : List Change) × ⟦<StoreKeeper<N, F> as Keeper>⟧.holds self.old events
             × IsOfAll N.first.world events (world_of snapshot.now) }

@@ -20,11 +20,11 @@
 #![tactic(auto)]
 
 mod blocks;
-mod checkpoint;
 mod codes;
 mod error;
 mod heads;
 mod journals;
+mod keeper_roll;
 mod keeping;
 mod kinds;
 mod laws;
@@ -42,12 +42,12 @@ mod terms;
 mod writing;
 
 pub use blocks::{BlockBytes, open_block, read_blocks};
-pub use checkpoint::next_number;
 pub use error::{
     BlockFault, ReadError, RollFault, StartCause, StartError, UnreadBlock, WriteFault,
 };
 pub use heads::head_journal;
 pub use journals::{FoundJournal, read_journal};
+pub use keeper_roll::next_number;
 pub use keeping::{LastKept, Settled, StoreKeeper};
 pub use kinds::has_cut;
 pub use laws::{may_start, one_meaning, one_world, rewritten_blocks};

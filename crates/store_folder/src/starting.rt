@@ -23,10 +23,10 @@ ghost use Rattle.store_folder.specs.declared.error.ReadError.TheVariants.{Journa
 ghost use Rattle.store_folder.specs.declared.error.StartCause.TheVariants.{Refused};
 ghost use Rattle.store_folder.specs.declared.error.StartError.TheVariants.{Journal};
 
-use crate::checkpoint::share_blocks;
 use crate::error::{ReadError, StartError};
 use crate::heads::head_journal;
 use crate::journals::FoundJournal;
+use crate::keeper_roll::share_blocks;
 use crate::keeping::StoreKeeper;
 use crate::meaning::Meaning;
 use crate::reading::FoundStore;

@@ -80,8 +80,8 @@ impl<K: Keeper + Drop> Running<K> {
     }
 
     /// Saves the snapshot in the place of the events that made it, if that is worth it.
-    pub fn checkpoint(&mut self, alloc: Global) -> Result<Option<usize>, KeepError> {
-        self.keeper.checkpoint(alloc, &self.snapshot)
+    pub fn roll_if_due(&mut self, alloc: Global) -> Result<Option<usize>, KeepError> {
+        self.keeper.roll_if_due(alloc, &self.snapshot)
     }
 }
 

@@ -165,7 +165,7 @@ fn look_at_roll<N: Beginning>(
 }
 
 /// Saves the store if that is worth it, and looks at each crash meanwhile.
-fn checkpoint<N: Beginning>(
+fn roll_if_due<N: Beginning>(
     alloc: Global,
     store: &mut Store<N>,
     number: usize,
@@ -173,7 +173,7 @@ fn checkpoint<N: Beginning>(
     ended: &mut Ended,
 ) -> Result<(), Fault> {
     let at = Before::of(store, number);
-    let saved = store.checkpoint(alloc);
+    let saved = store.roll_if_due(alloc);
     if saved == Ok(None) {
         return Ok(());
     }
@@ -193,7 +193,7 @@ fn run_steps<N: Beginning>(
     for (place, wish) in SESSION.iter().enumerate() {
         let number = place.saturating_add(1);
         ended.count(commit(alloc, store, number, *wish, from)?);
-        checkpoint(alloc, store, number, from, ended)?;
+        roll_if_due(alloc, store, number, from, ended)?;
     }
     ended.changes = store.folder().entries();
     Ok(())

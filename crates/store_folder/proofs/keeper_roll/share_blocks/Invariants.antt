@@ -1,6 +1,6 @@
 use Rattle.std.proofs.Common.{◌≡◌, map, take}
 use Rattle.head.specs.Blocks.{part_in}
-use Rattle.store_folder.proofs.checkpoint.share_blocks.Given as goal
+use Rattle.store_folder.proofs.keeper_roll.share_blocks.Given as goal
 
 -- the blocks so far
 abbrev pub invariant-loop-block : goal.invariant-loop-block

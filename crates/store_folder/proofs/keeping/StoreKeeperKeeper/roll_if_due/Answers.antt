@@ -8,7 +8,7 @@ use Rattle.data_folder.proofs.Moments.{weaker}
 use Rattle.store_folder.specs.Saving.{IsOldOrSaved}
 use Rattle.store_folder.specs.States.{IsState}
 use Rattle.store_folder.proofs.Rolls.{state_rests, stays_so}
-use Rattle.store_folder.proofs.keeping.StoreKeeperKeeper.checkpoint.Goals as goal
+use Rattle.store_folder.proofs.keeping.StoreKeeperKeeper.roll_if_due.Goals as goal
 
 pub returns-then-not-are_met-clause-any_moment : goal.returns-then-not-are_met-clause-any_moment
 returns-then-not-are_met-clause-any_moment g c events held world opened =

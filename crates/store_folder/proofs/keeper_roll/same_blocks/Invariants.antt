@@ -1,5 +1,5 @@
 use Rattle.std.proofs.Common.{◌≡◌, take}
-use Rattle.store_folder.proofs.checkpoint.same_blocks.Given as goal
+use Rattle.store_folder.proofs.keeper_roll.same_blocks.Given as goal
 
 -- so many are the same
 abbrev pub invariant-loop-at : goal.invariant-loop-at

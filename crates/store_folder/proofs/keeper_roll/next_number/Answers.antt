@@ -1,7 +1,7 @@
 use Rattle.std.proofs.Common.{◌≡◌, ◌≤◌, ℕ, arith, subst, sym}
 use Rattle.store_folder.specs.Saving.{IsAbove}
 use Rattle.store_folder.proofs.Numbers.{above, at_end, least, next_from, no_lower}
-use Rattle.store_folder.proofs.checkpoint.next_number.Goals as goal
+use Rattle.store_folder.proofs.keeper_roll.next_number.Goals as goal
 
 pub returns-clause-some : goal.returns-clause-some
 returns-clause-some c =

@@ -3,7 +3,7 @@ use Rattle.std.specs.Prelude.{slice_index_or}
 use Rattle.std.proofs.lemmas.List.{length-map, take-map, take_more_same}
 use Rattle.block.specs.Blocks.{Shown}
 use Rattle.head.specs.Blocks.{part_in}
-use Rattle.store_folder.proofs.checkpoint.same_blocks.Goals as goal
+use Rattle.store_folder.proofs.keeper_roll.same_blocks.Goals as goal
 
 same_parts : (n : ℕ) (xs ys : List Shown) → take n xs ≡ take n ys
     → take n (map part_in xs) ≡ take n (map part_in ys)

@@ -1,6 +1,6 @@
 use Rattle.std.proofs.Common.{◌≡◌, drop}
 use Rattle.store_folder.proofs.Numbers.{next_from}
-use Rattle.store_folder.proofs.checkpoint.next_number.Given as goal
+use Rattle.store_folder.proofs.keeper_roll.next_number.Given as goal
 
 abbrev pub invariant-loop-place : goal.invariant-loop-place
 invariant-loop-place l =
