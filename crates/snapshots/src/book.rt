@@ -45,12 +45,12 @@ impl<J: Naming, R: Wait + Drop, K: Keeper + Drop> Model for Book<J, R, K> {
 
     ghost view = { λ b. record {
       entries = accepted b.log;
-      parts = b.press.desk.shown.value.parts;
+      parts = b.press.desk.shown.value.version.parts;
       keeper = b.keeper;
     } };
 
     ghost invariant = { λ b.
-        Shows J.book J.opening J.asked J.kept b.press.desk.shown.value (accepted b.log)
+        Shows J.book J.opening J.asked J.kept b.press.desk.shown.value.version (accepted b.log)
         × K.holds b.keeper (kept_of J.before (accepted b.log))
         × OpensAsKept K.idle K.first J.before J.opening
         × MayBeKept K.may J.asked J.opening J.before
@@ -64,12 +64,12 @@ impl<J: Naming, R: Wait + Drop, K: Keeper + Drop> Book<J, R, K> {
         requires world { OpensAsKept K.idle K.first J.before J.opening }
         requires may { MayBeKept K.may J.asked J.opening J.before }
         requires rule { HeldIsKept K.holds J.kept J.before }
-        requires shown { Shows J.book J.opening J.asked J.kept press.desk.shown.value
+        requires shown { Shows J.book J.opening J.asked J.kept press.desk.shown.value.version
             (accepted log) }
         requires empty { accepted log ≡ [] }
         ensures { result ≡ record {
           entries = accepted log;
-          parts = press.desk.shown.value.parts;
+          parts = press.desk.shown.value.version.parts;
           keeper = keeper;
         } }
     {
