@@ -18,7 +18,7 @@ moved xs ys n = Unit {0}
 pub adds_goes : (log v : List Mark) (e : Mark) (old : ℕ) → length v ≡ old → IsPrefix v log
     → (b : Bool) → (length log == old) ≡ b
     → Goes HoldLength shown moved 0 (v, (no_nib, None)) (λ n. either (n == old) (old + 1) n)
-    (Adds (step 0 old (old + 1) e) (v, (no_nib, None))) ((length log, true) ∷ (0, true) ∷ []) log
+    (Adds (step 0 old (old + 1) e) (v, (no_nib, None))) ((length log, true) ∷ (0, true) ∷ (0, true) ∷ []) log
 adds_goes log v e old len pre true is =
     let here : length log ≡ old = grind (arith, nat_tests) in
     let same : v ≡ log = prefix_whole v log pre (omega arith) in
@@ -28,7 +28,7 @@ adds_goes log v e old len pre true is =
       e ∷ [],
       None,
       tt,
-      ap (λ (k : ℕ). (k, true) ∷ (0, true) ∷ []) n,
+      ap (λ (k : ℕ). (k, true) ∷ (0, true) ∷ (0, true) ∷ []) n,
       inl (refl, refl),
       rw is (ap (λ w. w ++ e ∷ []) (sym same)),
     )
@@ -40,7 +40,7 @@ adds_goes log v e old len pre false is =
       [],
       None,
       tt,
-      ap (λ (k : ℕ). (k, true) ∷ (0, true) ∷ []) n,
+      ap (λ (k : ℕ). (k, true) ∷ (0, true) ∷ (0, true) ∷ []) n,
       inl (refl, refl),
       rw is (ap length all),
     )

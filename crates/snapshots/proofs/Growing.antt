@@ -9,62 +9,71 @@ use Rattle.logbook.specs.Pages.{Book}
 use Rattle.head.specs.Heads.{SnapshotParts}
 use Rattle.head.specs.Worlds.{Event}
 use Rattle.snapshots.specs.declared.entry.Entry.{Entry}
+use Rattle.snapshots.specs.declared.plate.Plate.{Plate}
 use Rattle.snapshots.specs.Marks.{list_of}
 use Rattle.snapshots.specs.Views.{Edition}
 use Rattle.snapshots.specs.Grows.{Shows, Keeps, SeesList}
+use Rattle.snapshots.specs.Plates.{with_version}
 use Rattle.snapshots.proofs.Prefixes.{prefix_self, prefix_trans}
 
 module _ (book : Book) (opening : SnapshotParts) (asked : Event → ℕ → ℕ → Type 0)
     (kept : List Entry → Type 0) where
-  pub rises : (seat : ℕ) (v : List Entry) (x y : Edition)
-      → IsPrefix (list_of x.marks) (list_of y.marks)
-      → Shows book opening asked kept y (list_of y.marks)
+  pub rises : (seat : ℕ) (v : List Entry) (x y : Plate) → y.right ≡ x.right
+      → IsPrefix (list_of x.version.marks) (list_of y.version.marks)
+      → Shows book opening asked kept y.version (list_of y.version.marks)
       → TurnsAt (Keeps book opening asked kept) seat v x y (SeesList book opening asked kept)
-  rises seat v x y up of views h at = (
-    list_of y.marks,
+  rises seat v x y right up of views h at = (
+    list_of y.version.marks,
     (
+      right ∙ h.0,
       of,
       (λ j u e. ⊎_elim
-          (λ (t : (j ≡ seat) × (list_of y.marks ≡ u)).
-          subst (λ (z : List Entry). IsPrefix z (list_of y.marks)) t.1
-          (prefix_self (list_of y.marks)))
+          (λ (t : (j ≡ seat) × (list_of y.version.marks ≡ u)).
+          subst (λ (z : List Entry). IsPrefix z (list_of y.version.marks)) t.1
+          (prefix_self (list_of y.version.marks)))
           (λ (t : (j ≢ seat) × (get_elem? views j ≡ some u)).
-          prefix_trans u (list_of x.marks) (list_of y.marks) (h.1 j u t.1) up)
-          (at_set views seat j (list_of y.marks) u e)),
+          prefix_trans u (list_of x.version.marks) (list_of y.version.marks) (h.2 j u t.1) up)
+          (at_set views seat j (list_of y.version.marks) u e)),
     ),
-    (of, prefix_trans v (list_of x.marks) (list_of y.marks) (h.1 seat v at) up),
+    (of, prefix_trans v (list_of x.version.marks) (list_of y.version.marks) (h.2 seat v at) up, right ∙ h.0),
   )
 
   pub enters : (seat : ℕ) (v : List Entry)
       → Turns (Keeps book opening asked kept) seat v (λ x. x) (SeesList book opening asked kept)
-  enters seat v x views h at = rises seat v x x (prefix_self (list_of x.marks)) h.0 views h at
+  enters seat v x views h at =
+      rises seat v x x refl (prefix_self (list_of x.version.marks)) h.1 views h at
 
   pub admits : Admits (Keeps book opening asked kept) []
   admits x views h = (
     h.0,
-    λ seat v at. ⊎_elim (h.1 seat v)
+    h.1,
+    λ seat v at. ⊎_elim (h.2 seat v)
         (λ (e : [] ≡ v).
-        subst (λ (z : List Entry). IsPrefix z (list_of x.marks)) e (list_of x.marks, refl))
+        subst (λ (z : List Entry). IsPrefix z (list_of x.version.marks)) e
+        (list_of x.version.marks, refl))
         (at_snoc views [] v seat at),
   )
 
-  pub starts : (x : Edition) → Shows book opening asked kept x (list_of x.marks)
+  pub starts : (x : Plate) → x.right ≡ book
+      → Shows book opening asked kept x.version (list_of x.version.marks)
       → Keeps book opening asked kept x ([] ∷ [])
-  starts x of = (
+  starts x right of = (
+    right,
     of,
     λ seat v at. ⊎_elim
         (λ (e : get_elem? [] seat ≡ some v). absurd cc)
         (λ (e : [] ≡ v).
-        subst (λ (z : List Entry). IsPrefix z (list_of x.marks)) e (list_of x.marks, refl))
+        subst (λ (z : List Entry). IsPrefix z (list_of x.version.marks)) e
+        (list_of x.version.marks, refl))
         (at_snoc [] [] v seat at),
   )
 
--- of operations that are each the whole next version, the last is what is shown
-pub fold_last : {A : Type 0} (x : A) (xs : List A) (y : A)
-    → fold (λ (before next : A). next) x (xs ++ y ∷ []) ≡ y
+-- of operations that are each the whole next version, the last is what is shown, by the same right
+pub fold_last : (x : Plate) (xs : List Edition) (y : Edition)
+    → fold with_version x (xs ++ y ∷ []) ≡ with_version x y
 fold_last x [] y = refl
-fold_last x (z ∷ xs) y = fold_last z xs y
+fold_last x (z ∷ xs) y = fold_last (with_version x z) xs y
 
-pub overtaken : {A : Type 0} (x next y : A) (xs pending : List A)
-    → next ≡ fold (λ (before new : A). new) x pending → pending ≡ xs ++ y ∷ [] → next ≡ y
-overtaken x next y xs pending is e = is ∙ (ap (fold (λ before new. new) x) e ∙ fold_last x xs y)
+pub overtaken : (x next : Plate) (y : Edition) (xs pending : List Edition)
+    → next ≡ fold with_version x pending → pending ≡ xs ++ y ∷ [] → next ≡ with_version x y
+overtaken x next y xs pending is e = is ∙ (ap (fold with_version x) e ∙ fold_last x xs y)

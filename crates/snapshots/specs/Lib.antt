@@ -9,6 +9,7 @@ pub mod Keeping
 pub mod Tips
 pub mod Rules
 pub mod Views
+pub mod Plates
 pub mod Grows
 pub mod Refusals
 pub mod Tries

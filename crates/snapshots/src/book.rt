@@ -16,7 +16,7 @@ ghost use Rattle.snapshots.specs.Replays.{IsAfter};
 use crate::group::Group;
 use crate::naming::Naming;
 use crate::prefix::LogPrefix;
-use crate::press::{Press, checkpoint, publish_group, taken};
+use crate::press::{Press, publish_group, roll_if_due, taken};
 use crate::tip::Tip;
 use head::CommitError;
 use keeper::{KeepError, Keeper, NoKeeper};
@@ -45,12 +45,12 @@ impl<J: Naming, R: Wait + Drop, K: Keeper + Drop> Model for Book<J, R, K> {
 
     ghost view = { λ b. record {
       entries = accepted b.log;
-      parts = b.press.desk.shown.value.parts;
+      parts = b.press.desk.shown.value.version.parts;
       keeper = b.keeper;
     } };
 
     ghost invariant = { λ b.
-        Shows J.book J.opening J.asked J.kept b.press.desk.shown.value (accepted b.log)
+        Shows J.book J.opening J.asked J.kept b.press.desk.shown.value.version (accepted b.log)
         × K.holds b.keeper (kept_of J.before (accepted b.log))
         × OpensAsKept K.idle K.first J.before J.opening
         × MayBeKept K.may J.asked J.opening J.before
@@ -64,12 +64,12 @@ impl<J: Naming, R: Wait + Drop, K: Keeper + Drop> Book<J, R, K> {
         requires world { OpensAsKept K.idle K.first J.before J.opening }
         requires may { MayBeKept K.may J.asked J.opening J.before }
         requires rule { HeldIsKept K.holds J.kept J.before }
-        requires shown { Shows J.book J.opening J.asked J.kept press.desk.shown.value
+        requires shown { Shows J.book J.opening J.asked J.kept press.desk.shown.value.version
             (accepted log) }
         requires empty { accepted log ≡ [] }
         ensures { result ≡ record {
           entries = accepted log;
-          parts = press.desk.shown.value.parts;
+          parts = press.desk.shown.value.version.parts;
           keeper = keeper;
         } }
     {
@@ -147,7 +147,7 @@ impl<J: Naming, R: Wait + Drop, K: Keeper + Drop> Book<J, R, K> {
 impl<J: Naming, R: Wait + Drop, K: Keeper + Drop> Book<J, R, K> {
     /// Saves what is published in the place of the events that made it, if its keeper finds that
     /// worth it. What is kept and what is published stays the same, whatever is answered.
-    pub fn checkpoint(&mut self, alloc: Global) -> Result<Option<usize>, KeepError>
+    pub fn roll_if_due(&mut self, alloc: Global) -> Result<Option<usize>, KeepError>
         ensures same { (self.new.entries ≡ self.old.entries) × (self.new.parts ≡ self.old.parts) }
         ensures held { K.holds self.new.keeper (kept_of J.before self.new.entries) }
         // A closed keeper stays as it is. An open one closes for no cause but that writing failed.
@@ -164,7 +164,7 @@ impl<J: Naming, R: Wait + Drop, K: Keeper + Drop> Book<J, R, K> {
             → K.makes left (world_of self.old.parts) }
         ensures needed { K.idle ≡ true → result ≡ Ok None }
     {
-        checkpoint(alloc, &self.press, &mut self.keeper)
+        roll_if_due(alloc, &self.press, &mut self.keeper)
     }
 }
 

@@ -376,9 +376,9 @@ impl<J: Naming, R: Wait + Drop, K: Keeper + Drop> Committer<J, R, K> {
     /// Saves what is published in the place of the events that made it, if its keeper finds that
     /// worth it: a start then has less to do. How many blocks were saved, `None` if it was not
     /// worth it. No reader sees a difference. Meanwhile no event is published, and queries go on.
-    pub fn checkpoint(&self, rt: &impl Wait) -> Result<Option<usize>, KeepError>
+    pub fn roll_if_due(&self, rt: &impl Wait) -> Result<Option<usize>, KeepError>
         ensures needed { K.idle ≡ true → result ≡ Ok None }
     {
-        self.book.lock(rt).checkpoint(self.alloc)
+        self.book.lock(rt).roll_if_due(self.alloc)
     }
 }

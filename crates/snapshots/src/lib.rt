@@ -50,6 +50,7 @@ mod keeping;
 mod log;
 mod naming;
 mod pass;
+mod plate;
 mod prefix;
 mod press;
 mod receipt;

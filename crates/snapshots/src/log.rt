@@ -6,10 +6,11 @@ ghost use Rattle.snapshots.specs.Rules.{end_of};
 use crate::change::Change;
 use crate::entry::{Mark, Tried};
 use crate::naming::Naming;
-use logbook::{Gain, Plain, Play, Rule, Word};
+use logbook::{Gain, Opening, Plain, Play, Rule, Word};
 use std::marker::PhantomData;
 
-/// The rule of the log: its length stands in one word.
+/// The rule of the log: its length stands in one word. The two other words of its book stay at 0:
+/// they are the rights to show versions.
 pub struct Law;
 
 impl Rule<Mark, u64> for Law {
@@ -28,6 +29,15 @@ impl Rule<Mark, u64> for Law {
     ghost keeps = { λ names log. ftrue };
 
     ghost moves = { λ ask before after answer. Unit {0} };
+}
+
+/// A log begins with no mark.
+pub struct Blank;
+
+impl Opening<(), Mark> for Blank {
+    ghost use Rattle.std.specs.Prelude.{[]};
+
+    ghost log = { λ count about. [] };
 }
 
 /// Callers trade nothing.
@@ -97,7 +107,7 @@ impl Plain<(), Mark, u64> for Voids {
     ghost state = { λ e. None };
 }
 
-/// The length of the log of a store, in the one word that its book has.
+/// The length of the log of a store, in the first word that its book has.
 #[derive(Drop)]
 pub struct LogEnd<J: Naming> {
     pub word: Word<Mark, u64, Law>,

@@ -11,9 +11,10 @@ ghost use Rattle.snapshots.specs.Replays.{IsAfter};
 use crate::entry::Entry;
 use crate::error::SnapshotError;
 use crate::naming::Naming;
+use crate::plate::Plate;
 use crate::prefix::LogPrefix;
 use crate::receipt::Receipt;
-use crate::version::{Grows, Sees, Version};
+use crate::version::{Grows, Sees};
 use head::Snapshot;
 use left_right::reader::Reader;
 use std::marker::Model;
@@ -23,7 +24,7 @@ use std::sync::Arc;
 /// list that receipts told it.
 #[derive(Drop)]
 pub struct Pass<J: Naming> {
-    reader: Option<Reader<Version, [Entry; 0], Grows<J>>>,
+    reader: Option<Reader<Plate, [Entry; 0], Grows<J>>>,
     told: LogPrefix<J>,
     events: u64,
 }
@@ -46,7 +47,7 @@ impl<J: Naming> Model for Pass<J> {
 }
 
 impl<J: Naming> Pass<J> {
-    pub(crate) fn of(reader: Reader<Version, [Entry; 0], Grows<J>>, told: LogPrefix<J>) -> Pass<J>
+    pub(crate) fn of(reader: Reader<Plate, [Entry; 0], Grows<J>>, told: LogPrefix<J>) -> Pass<J>
         requires { view reader.place ≡ [] }
         ensures { result ≡ record { seen = []; told = accepted told } }
     {
@@ -93,7 +94,7 @@ impl<J: Naming> Pass<J> {
         };
         match reader.enter_as::<Sees<J>>() {
             Ok(reading) => {
-                let version = reading.get();
+                let version = &reading.get().version;
                 let events = version.events();
                 let taken = version.offer(&self.told);
                 self.reader = Some(reading.leave());

@@ -16,6 +16,7 @@ use crate::entry::Entry;
 use crate::group::Group;
 use crate::keeping::keep;
 use crate::naming::Naming;
+use crate::plate::Plate;
 use crate::prefix::LogPrefix;
 use crate::tip::Tip;
 use crate::version::{Grows, Sees, Version};
@@ -25,15 +26,16 @@ use left_right::writer::Writer;
 use std::alloc::Global;
 use std::sync::{Mutex, MutexGuard, Wait};
 
-/// The writer of the versions of a store.
-pub type Press<J> = Writer<Version, Version, [Entry; 0], Grows<J>>;
+/// The writer of the versions of a store. It holds both rights of the store to show versions, so
+/// there is one at most, and each pass of the store reads what it shows.
+pub type Press<J> = Writer<Plate, Version, [Entry; 0], Grows<J>>;
 
 /// Publishes one whole version. Where it is refused, the version is left pending, and the next one
 /// overtakes it.
 pub fn publish<J: Naming, R: Wait>(rt: &R, mut press: Press<J>, next: Version) -> (Press<J>, bool)
-    requires { MayFollow J.book J.opening J.asked J.kept press.desk.shown.value next }
-    ensures { MatchBool result.1 (result.0.desk.shown.value ≡ next) (result.0.desk.shown.value
-        ≡ press.desk.shown.value) }
+    requires { MayFollow J.book J.opening J.asked J.kept press.desk.shown.value.version next }
+    ensures { MatchBool result.1 (result.0.desk.shown.value.version ≡ next)
+        (result.0.desk.shown.value.version ≡ press.desk.shown.value.version) }
 {
     let Ok(()) = press.append(next) else {
         return (press, false);
@@ -47,15 +49,15 @@ pub fn publish<J: Naming, R: Wait>(rt: &R, mut press: Press<J>, next: Version) -
 
 /// Saves what is published in the place of the events that made it, if its keeper finds that worth
 /// it. What is kept stays, and what is published too.
-pub fn checkpoint<J: Naming, K: Keeper>(
+pub fn roll_if_due<J: Naming, K: Keeper>(
     alloc: Global,
     press: &Press<J>,
     keeper: &mut K,
 ) -> Result<Option<usize>, KeepError>
     requires kept { (entries : List Listed) × K.holds keeper.old (kept_of J.before entries)
-        × IsOfAllKept K.idle K.first J.before entries press.now.desk.shown.value.parts }
+        × IsOfAllKept K.idle K.first J.before entries press.now.desk.shown.value.version.parts }
     ensures held { (entries : List Listed) → K.holds keeper.old (kept_of J.before entries)
-        → IsOfAllKept K.idle K.first J.before entries press.now.desk.shown.value.parts
+        → IsOfAllKept K.idle K.first J.before entries press.now.desk.shown.value.version.parts
         → K.holds keeper.new (kept_of J.before entries) }
     // A closed keeper stays as it is.
     ensures closed { K.closed keeper.old ≡ true → keeper.new ≡ keeper.old }
@@ -64,13 +66,13 @@ pub fn checkpoint<J: Naming, K: Keeper>(
         → (K.closed keeper.old ≡ true) ⊎ (K.failed keeper.new ≡ true) }
     // Of an open one a crash at any moment of the call leaves exactly what is kept.
     ensures any_moment { (entries : List Listed) → K.holds keeper.old (kept_of J.before entries)
-        → IsOfAllKept K.idle K.first J.before entries press.now.desk.shown.value.parts
+        → IsOfAllKept K.idle K.first J.before entries press.now.desk.shown.value.version.parts
         → K.closed keeper.old ≡ false
         → LeavesEvents K.moment K.left_since K.stands keeper.old keeper.new
         (AreAll (kept_of J.before entries)) }
     ensures needed { K.idle ≡ true → result ≡ Ok None }
 {
-    keeper.checkpoint(alloc, press.published().snapshot())
+    keeper.roll_if_due(alloc, press.published().version.snapshot())
 }
 
 /// The guard that is held, or else the lock is taken.
@@ -105,7 +107,7 @@ pub fn publish_group<'a, J: Naming, R: Wait, K: Keeper>(
         (arc_value group.standing.snapshot) group.standing.counts.items group.records.items }
     requires alike { arc_value group.shown ≡ arc_value group.standing.snapshot }
     requires follows { accepted group.log ≡ accepted log.old }
-    requires shown { Shows J.book J.opening J.asked J.kept press.old.desk.shown.value
+    requires shown { Shows J.book J.opening J.asked J.kept press.old.desk.shown.value.version
         (accepted log.old) }
     // What is kept is what is published.
     ensures held { K.holds keeper.new (kept_of J.before (accepted log.new)) }
@@ -123,11 +125,11 @@ pub fn publish_group<'a, J: Naming, R: Wait, K: Keeper>(
         (λ _. accepted log.new ≡ accepted log.old) }
     // What was published stays, and what is new comes behind it.
     ensures begins { IsPrefix (accepted log.old) (accepted log.new) }
-    ensures shown { Shows J.book J.opening J.asked J.kept press.new.desk.shown.value
+    ensures shown { Shows J.book J.opening J.asked J.kept press.new.desk.shown.value.version
         (accepted log.new) }
     ensures parts { MatchResult result.1
-        (λ _. press.new.desk.shown.value.parts ≡ arc_value group.shown)
-        (λ _. press.new.desk.shown.value ≡ press.old.desk.shown.value) }
+        (λ _. press.new.desk.shown.value.version.parts ≡ arc_value group.shown)
+        (λ _. press.new.desk.shown.value.version ≡ press.old.desk.shown.value.version) }
     ensures refused { IfErr result.1 (λ e. IsOfKeeping e) }
     ensures journal { IfErr result.1 (λ e. e ≡ CommitError.Journal → K.idle ≡ false) }
     // `E8` has a cause.

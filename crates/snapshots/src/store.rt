@@ -19,9 +19,10 @@ use crate::book::Book;
 use crate::committer::Committer;
 use crate::entry::{Entry, Mark};
 use crate::error::OpenError;
-use crate::log::{Law, LogEnd};
+use crate::log::{Blank, Law, LogEnd};
 use crate::naming::Naming;
 use crate::pass::Pass;
+use crate::plate::{Plate, Right};
 use crate::prefix::LogPrefix;
 use crate::press::Press;
 use crate::seat::Seat;
@@ -45,11 +46,13 @@ pub const MAX_HANDLES: usize = 64;
 pub struct Store {
     word: Word<Mark, u64, Law>,
     seen: Seen<Mark, u64, Law>,
+    rights: (Right, Right),
     pub ghost empty: { seen.log ≡ [] },
     pub ghost end_is: { word ≡ end_of seen.book },
+    pub ghost rights_are: { (rights.0 ≡ seen.book) × (rights.1 ≡ seen.book) },
 }
 
-type Desk<J> = Factory<Version, [Entry; 0], Grows<J>>;
+type Desk<J> = Factory<Plate, [Entry; 0], Grows<J>>;
 
 /// Whether so many passes and seats are allowed.
 fn is_room(passes: usize, seats: usize) -> bool
@@ -58,21 +61,33 @@ fn is_room(passes: usize, seats: usize) -> bool
     passes >= 1 && passes <= MAX_HANDLES && seats >= 1 && seats <= MAX_HANDLES
 }
 
-/// A press over the opening version.
+/// A press over the opening version. It takes the rights of the store to show versions, of which
+/// there are two: so no other press of the store can be made.
 fn press_over<J: Naming>(
     alloc: Global,
     opening: &Arc<Snapshot>,
     log: &LogPrefix<J>,
+    rights: (Right, Right),
     passes: usize,
 ) -> Result<Press<J>, AllocError>
     requires room { (0 < passes) × (passes ≤ 64) }
+    requires rights { (rights.0 ≡ J.book) × (rights.1 ≡ J.book) }
     requires opening { arc_value opening.now ≡ J.opening }
     requires empty { log.now ≡ [] }
     requires kept { J.kept [] }
-    ensures { IfOk result (λ p. Shows J.book J.opening J.asked J.kept p.desk.shown.value []) }
+    ensures { IfOk result (λ p.
+        Shows J.book J.opening J.asked J.kept p.desk.shown.value.version []) }
 {
-    let first = Version::of(Arc::try_clone(opening)?, log);
-    let second = first.share()?;
+    let version = Version::of(Arc::try_clone(opening)?, log);
+    let next = version.share()?;
+    let first = Plate {
+        version,
+        right: rights.0,
+    };
+    let second = Plate {
+        version: next,
+        right: rights.1,
+    };
     Press::new(alloc, first, second, passes)
 }
 
@@ -131,10 +146,14 @@ fn seats_of<J: Naming>(
 impl Store {
     /// A store that is not open yet. Its name is picked by the call that opens it.
     pub fn new() -> Store {
-        let (seen, mut first, _second) = Seen::open(Start::alone(), 0, 0);
+        let (seen, mut pens) = Seen::open_row::<(), Blank>(&(), Start::alone(), 3);
+        let word = Word::tracked(0, &mut pens.take());
+        let first = Right::of(Word::tracked(0, &mut pens.take()));
+        let second = Right::of(Word::tracked(0, &mut pens.take()));
         Store {
-            word: Word::tracked(0, &mut first),
+            word,
             seen,
+            rights: (first, second),
         }
     }
 
@@ -233,7 +252,7 @@ impl Store {
         ensures refused { IfErr result (λ e.
             ¬ (e ≡ OpenError.BadPasses) × ¬ (e ≡ OpenError.Limit)) }
     {
-        let Store { word, seen } = self;
+        let Store { word, seen, rights } = self;
         let end = LogEnd {
             word,
             of: PhantomData,
@@ -250,7 +269,7 @@ impl Store {
         ) else {
             return Err(OpenError::Memory);
         };
-        let Ok(press) = press_over(alloc, &opening, &log, passes) else {
+        let Ok(press) = press_over(alloc, &opening, &log, rights, passes) else {
             return Err(OpenError::Memory);
         };
         let desk = press.factory().another();

@@ -434,15 +434,15 @@ impl<J: Naming, K: Keeper> Tip<J, K> {
             → ((events more : List Event) → K.kept_last keeper.now last events more
             → K.stays token (events ++ more))
             → K.stays token (kept_of J.before (list_of group.log)) }
-        requires shown { Shows J.book J.opening J.asked J.kept press.old.desk.shown.value
+        requires shown { Shows J.book J.opening J.asked J.kept press.old.desk.shown.value.version
             (accepted group.log) }
         ensures list { IfOk result (λ log. accepted log ≡ list_of group.log) }
         ensures shown { MatchResult result
-            (λ log. Shows J.book J.opening J.asked J.kept press.new.desk.shown.value
+            (λ log. Shows J.book J.opening J.asked J.kept press.new.desk.shown.value.version
             (accepted log))
-            (λ _. press.new.desk.shown.value ≡ press.old.desk.shown.value) }
+            (λ _. press.new.desk.shown.value.version ≡ press.old.desk.shown.value.version) }
         ensures parts { OnOk result
-            (press.new.desk.shown.value.parts ≡ arc_value group.shown) }
+            (press.new.desk.shown.value.version.parts ≡ arc_value group.shown) }
         ensures published { MatchResult result (λ log. self.new.published ≡ accepted log)
             (λ _. self.new.published ≡ self.old.published) }
         ensures back { IfErr result (λ right. right ≡ last) }
@@ -471,9 +471,10 @@ impl<J: Naming, K: Keeper> Tip<J, K> {
             press,
             next,
             |press: Press<J>, next: Version| -> (Press<J>, bool)
-                requires { MayFollow J.book J.opening J.asked J.kept press.desk.shown.value next }
-                ensures { MatchBool result.1 (result.0.desk.shown.value ≡ next)
-                    (result.0.desk.shown.value ≡ press.desk.shown.value) }
+                requires { MayFollow J.book J.opening J.asked J.kept
+                    press.desk.shown.value.version next }
+                ensures { MatchBool result.1 (result.0.desk.shown.value.version ≡ next)
+                    (result.0.desk.shown.value.version ≡ press.desk.shown.value.version) }
             { publish(rt, press, next) },
         );
         if !published {

@@ -9,10 +9,10 @@ ghost use Rattle.snapshots.specs.Marks.{accepted, list_of};
 use crate::entry::{Entry, Mark};
 use crate::log::Law;
 use crate::naming::Naming;
+use crate::plate::Plate;
 use crate::prefix::LogPrefix;
 use crossbeam_utils::rule::{Outcome, Protocol};
 use head::Snapshot;
-use left_right::Absorb;
 use logbook::Seen;
 use std::alloc::AllocError;
 use std::marker::{Model, PhantomData};
@@ -95,32 +95,13 @@ impl Version {
     }
 }
 
-/// An operation is the whole next version.
-impl Absorb<Version> for Version {
-    type State = Version;
-
-    ghost state = { λ v. v };
-
-    ghost applied = { λ before next. next };
-
-    fn absorb_first(&mut self, operation: &Version, _other: &Version) -> Result<(), AllocError> {
-        *self = operation.share()?;
-        Ok(())
-    }
-
-    fn absorb_second(&mut self, operation: Version, _other: &Version) -> Result<(), Version> {
-        *self = operation;
-        Ok(())
-    }
-}
-
-/// The rule of the published versions: each is of the store `J`, each event of its list was asked
-/// for, the list is kept, and lists only grow.
+/// The rule of the published versions: each is of the store `J` and shown by a right of that store,
+/// each event of its list was asked for, the list is kept, and lists only grow.
 pub struct Grows<J> {
     of: PhantomData<J>,
 }
 
-impl<J: Naming> Protocol<Version, [Entry; 0]> for Grows<J> {
+impl<J: Naming> Protocol<Plate, [Entry; 0]> for Grows<J> {
     ghost use Rattle.std.specs.Prelude.{[]};
     ghost use Rattle.snapshots.specs.Grows.{Keeps};
 
@@ -134,7 +115,7 @@ pub struct Sees<J> {
     of: PhantomData<J>,
 }
 
-impl<J: Naming> Outcome<Version, [Entry; 0]> for Sees<J> {
+impl<J: Naming> Outcome<Plate, [Entry; 0]> for Sees<J> {
     ghost use Rattle.snapshots.specs.Grows.{SeesList};
 
     ghost then = { SeesList J.book J.opening J.asked J.kept };

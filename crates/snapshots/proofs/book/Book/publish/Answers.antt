@@ -19,7 +19,7 @@ pub returns-then-not-accepts_as-clause-durable : goal.returns-then-not-accepts_a
 returns-then-not-accepts_as-clause-durable g c =
     subst (λ (p : Published _). IsOfAllKept g.K.Keeper.idle g.K.Keeper.first g.J.Naming.before p.entries p.parts) c.self.view_is
     (of_all_kept g.K.Keeper.idle g.K.Keeper.first g.J.Naming.before g.J.Naming.opening
-    (accepted c.self.inside.log) c.self.inside.press.desk.shown.value.parts c.self.invariant.2
+    (accepted c.self.inside.log) c.self.inside.press.desk.shown.value.version.parts c.self.invariant.2
     c.self.invariant.0.2)
 
 pub returns-then-not-accepts_as-clause-begins : goal.returns-then-not-accepts_as-clause-begins
@@ -53,7 +53,7 @@ returns-then-not-accepts_as-clause-finds g c opened keeps left had =
 pub returns-clause-durable : goal.returns-clause-durable
 returns-clause-durable g c =
     of_all_kept g.K.Keeper.idle g.K.Keeper.first g.J.Naming.before g.J.Naming.opening
-    (accepted c.publish_group.new.log) c.publish_group.new.press.desk.shown.value.parts c.self.invariant.2
+    (accepted c.publish_group.new.log) c.publish_group.new.press.desk.shown.value.version.parts c.self.invariant.2
     c.publish_group.ensures.shown.2
 
 pub returns-clause-begins : goal.returns-clause-begins
@@ -79,7 +79,7 @@ returns-clause-finds g c opened keeps left had =
     let group = c.args.group in
     let parts = arc_value group.standing.snapshot in
     let was = subst (λ (p : Published _). IsOfAllKept k.idle k.first g.J.Naming.before p.entries p.parts) c.self.view_is
-    (of_all_kept k.idle k.first g.J.Naming.before g.J.Naming.opening (accepted c.self.inside.log) c.self.inside.press.desk.shown.value.parts
+    (of_all_kept k.idle k.first g.J.Naming.before g.J.Naming.opening (accepted c.self.inside.log) c.self.inside.press.desk.shown.value.version.parts
     c.self.invariant.2 c.self.invariant.0.2) in
     finds_between k.stands k.makes k.first g.met.K.Keeper.finds g.J.Naming.before old.entries (list_of group.log) (world_of old.parts) (world_of parts)
     (was keeps)

@@ -10,7 +10,7 @@ returns-after-taken-clause-told g c = elim c.match-taken.branch [
   | in-Some-taken w ↦ (rw (w.result-is, ← c.self.view_is) (rw (
     c.leave.ensures.1,
     ← c.in-Ok.ensures.1.0.1,
-    ← c.get-version.ensures,
+    ← c.get.ensures,
   ) (w.in-Some-taken.ensures).told))
   | in-None w ↦ rw w.result-is tt
 ]
