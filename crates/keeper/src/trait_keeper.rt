@@ -132,7 +132,7 @@ pub trait Keeper {
         ensures closed { idle ≡ false → closed self.new ≡ true };
 
     /// Rolls, if that is worth it: it saves what the kept events make, in their place, as databases
-    /// take a roll_if_due. A start then has less to do. The snapshot is what they make, and no event
+    /// take a checkpoint. A start then has less to do. The snapshot is what they make, and no event
     /// is kept meanwhile. How many blocks were saved, `None` if it was not worth it. Whatever is
     /// answered, it keeps what it kept; after an `Err` it may be closed.
     fn roll_if_due(
