@@ -8,7 +8,7 @@
 //! reason is true of the series: that is the auditor's. So the claim says how far it goes
 //! ([`Completeness`]): whether a judge found no flaw in all parts, or in all but the head, or
 //! whether it rests on the certificates alone. It goes no further than these if the reply does not
-//! name its parts in order, since the later of two wins. Beside it stands which parts nobody judged.
+//! name its parts in order: the later of two wins. Which parts nobody judged stands beside it.
 //!
 //! ```
 //! let told = Told::of(alloc, Reply::read(alloc, text)?)?;
