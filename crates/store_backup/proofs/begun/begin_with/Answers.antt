@@ -1,4 +1,4 @@
-use Rattle.std.proofs.Common.{◌-◌, List, [], ap, length, refl, subst, sym}
+use Rattle.std.proofs.Common.{◌≡◌, ◌-◌, ℕ, List, [], ap, arith, length, refl, subst, sym}
 use Rattle.event_journal.specs.Holding.{contents_with}
 use Rattle.head.specs.Heads.{world_of}
 use Rattle.head_record.proofs.Worlds.{in_front}
@@ -12,6 +12,7 @@ use Rattle.store_folder.proofs.Saves.{each_like}
 use Rattle.store_folder.proofs.Says.{files_apart, says_on}
 use Rattle.store_folder.specs.Holding.{AreAt}
 use Rattle.store_folder.specs.Writing.{places_from}
+use Rattle.store_joiner.specs.Stores.{SaysMeaning}
 use Rattle.store_backup.proofs.Targets.{begins_so, finds_so, next_of, only_written}
 use Rattle.store_backup.proofs.begun.begin_with.Goals as goal
 
@@ -103,7 +104,9 @@ returns-in-Ok-begin_journal-clause-says g c =
     let there = c.in-Ok.ensures.there in
     let keeps = c.in-Ok-begin_journal.ensures.keeps contents
     (subst (IsJournalText contents) (sym c.deref.ensures.value) c.in-Ok-head_journal.ensures.text) in
-    record {
+    let all : length s.blocks - 0 ≡ length s.blocks = omega arith in
+    subst (λ (n : ℕ). SaysMeaning f.shows f.kept values (places_from 1 n) new) all
+    (record {
       file = file_of contents;
       saved = head;
       has = keeps.file;
@@ -128,4 +131,4 @@ returns-in-Ok-begin_journal-clause-says g c =
           (blocks_rolled f.shows f.kept written there.0 mid new
           c.in-Ok-begin_journal.ensures.files there.2);
       stands = c.in-Ok.ensures.stands there.0 (each_like s.blocks there.0 there.1);
-    }
+    })
