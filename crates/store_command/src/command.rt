@@ -41,8 +41,8 @@ pub struct Beside;
 /// Finds that directories are not named beside a store.
 pub fn check_names(store: Option<&str>, audit: &AuditAsked<'_>) -> Result<(), Beside>
     ensures { MatchResult result
-        (λ _. NamesOne (option_map (λ text. text.now) store) (directories_of audit.now))
-        (λ _. NamesBoth (option_map (λ text. text.now) store) (directories_of audit.now)) }
+        (λ _. NamesOne (option_map (λ text. text.now) store.entry) (directories_of audit.now))
+        (λ _. NamesBoth (option_map (λ text. text.now) store.entry) (directories_of audit.now)) }
 {
     match store {
         None => Ok(()),

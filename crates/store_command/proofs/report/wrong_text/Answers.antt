@@ -31,5 +31,5 @@ pub returns : goal.returns
 returns c =
     IfOk-weaker c.format.result _ _ (λ text h. h
     ∙ written c.args.since c.args.head c.args.said.now c.first-from.result (string_bytes c.in_ok-mark.mark)
-    c.note_of-note.result.now c.first-from.ensures (c.in_ok-mark.ensures ∙ ap mark_text c.at.ensures)
+    c.note_of-note.result.now c.first-from.ensures c.in_ok-mark.ensures
     c.note_of-note.ensures) c.format.ensures.ok
