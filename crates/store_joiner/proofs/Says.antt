@@ -7,6 +7,7 @@ use Rattle.block_folder.specs.declared.values.Values.{Values}
 use Rattle.data_folder.specs.declared.journal_file.JournalFile.{JournalFile}
 use Rattle.data_folder.specs.Folders.{KeepsAll, Left, LeavesOnly, MayLeaveOf}
 use Rattle.data_folder.specs.JournalFile.{journal_name}
+use Rattle.data_folder.specs.Rolls.{Keeps}
 use Rattle.data_folder.specs.States.{AreThere, Named}
 use Rattle.data_folder.specs.Sweeping.{KeepsStore}
 use Rattle.event_journal.specs.Naming.{Spell}
@@ -17,6 +18,7 @@ use Rattle.head_record.specs.Saved.{Place, Saved}
 use Rattle.head_record.specs.Spelling.{head_texts}
 use Rattle.journal.specs.Records.{file_of}
 use Rattle.journal.proofs.Keeping.{itself}
+use Rattle.name_table.specs.Names.{Label}
 use Rattle.store_folder.specs.declared.journals.FoundJournal.{FoundJournal}
 use Rattle.store_folder.specs.Blocks.{name_in}
 use Rattle.store_folder.specs.Finding.{IsFoundStore}
@@ -28,6 +30,7 @@ use Rattle.store_folder.specs.Sweeps.{names_at}
 use Rattle.store_folder.specs.Writing.{EachSays}
 use Rattle.store_folder.proofs.Files as files
 use Rattle.store_folder.proofs.Fronts.{as_many}
+use Rattle.store_folder.proofs.HeadsAlone.{head_alone}
 use Rattle.store_folder.proofs.Rolls.{keeps_now}
 use Rattle.store_folder.proofs.Says.{says_on}
 use Rattle.store_folder.proofs.Swept.{blocks_kept}
@@ -47,6 +50,12 @@ pub if_match : {A E : Type 0} (r : Result A E) (P Q S : A → Type 0) (R : E →
     → ((x : A) → P x → Q x → S x) → IfOk r P → MatchResult r Q R → IfOk r S
 if_match (Ok x) P Q S R f p q = f x p q
 if_match (Err e) P Q S R f p q = tt
+
+-- contents that spell no events are none
+spelled_none : (contents : List (List ℕ)) (after : List Label) → Spell contents [] after
+    → contents ≡ []
+spelled_none [] after spell = refl
+spelled_none (content ∷ contents) after spell = absurd spell
 
 module _ {F : Type 0} (shows : F → List ℕ → Option (List ℕ) → Type 0)
     (kept : F → List ℕ → ℕ → Type 0) where
@@ -233,20 +242,12 @@ module _ {F : Type 0} (shows : F → List ℕ → Option (List ℕ) → Type 0)
         h.saved.values,
         h.saved.places,
         record {
-          file = file_of contents;
           saved = h.saved;
-          has = after.file;
-          journal = record {
-            head = h.head;
-            stands = record {
-              before = h.journal.before;
-              contents = h.journal.contents;
-              names = h.journal.after;
-              spell = subst (λ (es : List Event). Spell h.journal.contents es h.journal.after)
-                  (late ∙ none) h.journal.spell;
-              recovers = itself contents after.each;
-            };
-          };
+          alone = head_alone shows kept sound h.saved new len h.head
+              (subst (λ (cs : List (List ℕ)). Keeps shows kept sound (head_texts h.saved ++ cs) new
+              len) (spelled_none h.journal.contents h.journal.after
+              (subst (λ (es : List Event). Spell h.journal.contents es h.journal.after)
+              (late ∙ none) h.journal.spell)) after);
           means = refl;
           names = refl;
           says = says_on shows kept h.saved.values h.saved.places m.folder new

@@ -12,6 +12,7 @@ use Rattle.store_folder.specs.Holding.{AreAt}
 use Rattle.store_folder.specs.Journals.{IsJournalOf}
 use Rattle.store_folder.specs.Origins.{Origin, beginning}
 use Rattle.store_folder.specs.Plain.{AreAdmitted, HasEither, StandsAlone}
+use Rattle.store_folder.specs.Rolls.{HasHeadAlone}
 use Rattle.store_folder.specs.States.{IsAfter, MayStart, StandsFor, origin_of, started}
 use Rattle.store_folder.specs.Sweeps.{has_number}
 use Rattle.store_folder.specs.Writing.{EachSays}
@@ -135,16 +136,15 @@ abbrev pub StaysNow : {F : Type 0} → (F → ℕ) → (F → ℕ → Left → T
 StaysNow moment left_since f first events =
     LeavesNow moment left_since f (StandsOrFinds first events IsSame)
 
--- In the folder lies, for good, a journal of a head alone, which names blocks at these places and
--- says this meaning of values; and so does the `meta.json` of each of them. The blocks lie there,
--- and a start makes a snapshot of the head and of them.
+-- In the folder lies, for good, a journal that is exactly the file of a head, with nothing behind
+-- it. The head names blocks at these places and says this meaning of values; and so does the
+-- `meta.json` of each of them. The blocks lie there, and a start makes a snapshot of the head and of
+-- them.
 pub record SaysMeaning {F : Type 0} (shows : F → List ℕ → Option (List ℕ) → Type 0)
     (kept : F → List ℕ → ℕ → Type 0) (values : Values) (places : List Place) (f : F)
     : Type 0 where
-  pub file : List ℕ
   pub saved : Saved
-  pub has : HasFile shows kept journal_name file f
-  pub journal : IsJournalOf file saved []
+  pub alone : HasHeadAlone shows kept saved f
   pub means : saved.values ≡ values
   pub names : saved.places ≡ places
   pub says : EachSays shows kept values places f
