@@ -1,12 +1,13 @@
 -- What the meta.json of blocks says while a store is saved and swept.
 use Rattle.std.proofs.Common.{◌≡◌, ◌⊎◌, ℕ, ◌≤◌, ◌++◌, Bool, false, List, [], ◌∷◌, Option, Some, Result, Ok}
-use Rattle.std.proofs.Common.{Err, IfErr, IfOk, length, refl, subst, subst₂, sym, ◌∙◌}
+use Rattle.std.proofs.Common.{ap, Err, IfErr, IfOk, length, refl, subst, subst₂, sym, ◌∙◌}
 use Rattle.std.specs.Prelude.{MatchResult, codes}
 use Rattle.std.specs.List.{AllByRecursion}
 use Rattle.block_folder.specs.declared.values.Values.{Values}
 use Rattle.data_folder.specs.declared.journal_file.JournalFile.{JournalFile}
 use Rattle.data_folder.specs.Folders.{KeepsAll, Left, LeavesOnly, MayLeaveOf}
 use Rattle.data_folder.specs.JournalFile.{journal_name}
+use Rattle.data_folder.specs.Rolls.{Keeps}
 use Rattle.data_folder.specs.States.{AreThere, Named}
 use Rattle.data_folder.specs.Sweeping.{KeepsStore}
 use Rattle.event_journal.specs.Naming.{Spell}
@@ -17,6 +18,7 @@ use Rattle.head_record.specs.Saved.{Place, Saved}
 use Rattle.head_record.specs.Spelling.{head_texts}
 use Rattle.journal.specs.Records.{file_of}
 use Rattle.journal.proofs.Keeping.{itself}
+use Rattle.name_table.specs.Names.{Label}
 use Rattle.store_folder.specs.declared.journals.FoundJournal.{FoundJournal}
 use Rattle.store_folder.specs.Blocks.{name_in}
 use Rattle.store_folder.specs.Finding.{IsFoundStore}
@@ -28,12 +30,14 @@ use Rattle.store_folder.specs.Sweeps.{names_at}
 use Rattle.store_folder.specs.Writing.{EachSays}
 use Rattle.store_folder.proofs.Files as files
 use Rattle.store_folder.proofs.Fronts.{as_many}
+use Rattle.store_folder.proofs.HeadsAlone.{head_alone}
 use Rattle.store_folder.proofs.Rolls.{keeps_now}
 use Rattle.store_folder.proofs.Says.{says_on}
 use Rattle.store_folder.proofs.Swept.{blocks_kept}
 use Rattle.store_joiner.specs.Finds.{BlocksSay, SaysIn}
 use Rattle.store_joiner.specs.Joins.{AreRolled}
-use Rattle.store_joiner.specs.Stores.{HasStore, LeavesNow, SaysAbove, SaysNumbered, SaysOne}
+use Rattle.store_joiner.specs.Stores.{HasSaved, HasStore, LeavesNow, SaysAbove, SaysNumbered}
+use Rattle.store_joiner.specs.Stores.{SaysOne, StaysNumbered}
 use Rattle.store_joiner.proofs.Stores.{now_in}
 
 -- answers
@@ -47,6 +51,12 @@ pub if_match : {A E : Type 0} (r : Result A E) (P Q S : A → Type 0) (R : E →
     → ((x : A) → P x → Q x → S x) → IfOk r P → MatchResult r Q R → IfOk r S
 if_match (Ok x) P Q S R f p q = f x p q
 if_match (Err e) P Q S R f p q = tt
+
+-- contents that spell no events are none
+spelled_none : (contents : List (List ℕ)) (after : List Label) → Spell contents [] after
+    → contents ≡ []
+spelled_none [] after spell = refl
+spelled_none (content ∷ contents) after spell = absurd spell
 
 module _ {F : Type 0} (shows : F → List ℕ → Option (List ℕ) → Type 0)
     (kept : F → List ℕ → ℕ → Type 0) where
@@ -108,6 +118,21 @@ numbered shows kept sound moment left_since others head parts mid new begins at 
   },
   says.3,
 )
+
+-- where they lie that were saved, and not replaced
+pub numbered_still : {F : Type 0} (shows : F → List ℕ → Option (List ℕ) → Type 0)
+    (kept : F → List ℕ → ℕ → Type 0) (sound : F → Bool) (moment : F → ℕ)
+    (left_since : F → ℕ → Left → Type 0) (others : List Place) (head : Saved)
+    (parts : List BlockPart) (new : F)
+    → (head.places ≡ others) ⊎ AreRolled others head.places → HasSaved shows kept head parts new
+    → StaysNumbered shows kept others (world_of (started head parts)).blocks new
+numbered_still shows kept sound moment left_since others head parts new begins lies = record {
+  saved = head;
+  parts = parts;
+  lies = lies;
+  begins = begins;
+  many = counted_at shows kept sound moment left_since head parts new lies.1;
+}
 
 module _ {F : Type 0} (shows : F → List ℕ → Option (List ℕ) → Type 0)
     (kept : F → List ℕ → ℕ → Type 0) (sound : F → Bool) (moment : F → ℕ)
@@ -210,54 +235,53 @@ module _ {F : Type 0} (shows : F → List ℕ → Option (List ℕ) → Type 0)
       (sym h.begins.values) (sym at) says)
 
   -- a store at rest that was swept
-  pub swept_says : (first : Origin) (m : JournalFile F) (len : ℕ) (closed : Bool)
+  pub swept_rests : (first : Origin) (m : JournalFile F) (len : ℕ) (closed : Bool)
       (events : List Event) (saved : Saved) (parts : List BlockPart) (places : List Place) (new : F)
       (h : HoldsAfterHead shows kept sound moment left_since first m len closed events)
       → h.saved ≡ saved → h.parts ≡ parts → h.late ≡ events → closed ≡ false → events ≡ []
       → places ≡ saved.places
       → KeepsStore shows kept sound moment left_since (names_at places) m.folder new
-      → MayStand (started saved parts) → EachSays shows kept saved.values saved.places m.folder
-      → SaysOne shows kept new
-  swept_says first m len closed events saved parts places new h head blocks late opened none at swept
-      may says =
-      let contents = head_texts h.saved ++ h.journal.contents in
-      let named : places ≡ h.saved.places = at ∙ sym (ap-places head) in
+      → HasSaved shows kept saved parts new
+  swept_rests first m len closed events saved parts places new h head blocks late opened none at swept =
       let keeps : KeepsStore shows kept sound moment left_since (names_at h.saved.places) m.folder new =
       subst (λ (ps : List Place). KeepsStore shows kept sound moment left_since (names_at ps) m.folder
-      new) named swept in
-      let after = keeps.journal contents len
+      new) (at ∙ sym (ap (λ (x : Saved). x.places) head)) swept in
+      let after = keeps.journal (head_texts h.saved ++ h.journal.contents) len
       (keeps_now shows kept sound moment left_since only_now earlier first m len closed events h
       opened) in
-      let said : EachSays shows kept h.saved.values h.saved.places m.folder =
-      subst (λ (x : Saved). EachSays shows kept x.values x.places m.folder) (sym head) says in (
-        h.saved.values,
-        h.saved.places,
+      let no_contents : h.journal.contents ≡ [] =
+      spelled_none h.journal.contents h.journal.after
+      (subst (λ (es : List Event). Spell h.journal.contents es h.journal.after) (late ∙ none)
+      h.journal.spell) in
+      subst₂ (λ (x : Saved) (bs : List BlockPart). HasSaved shows kept x bs new) head blocks (
+        head_alone shows kept sound h.saved new len h.head
+            (subst (λ (cs : List (List ℕ)). Keeps shows kept sound (head_texts h.saved ++ cs) new
+            len) no_contents after),
+        blocks_kept shows kept sound moment left_since h.saved.places h.parts m.folder new h.blocks
+            keeps,
+      )
+
+  pub swept_says : (saved : Saved) (parts : List BlockPart) (places : List Place) (old new : F)
+      → places ≡ saved.places
+      → KeepsStore shows kept sound moment left_since (names_at places) old new
+      → HasSaved shows kept saved parts new
+      → MayStand (started saved parts) → EachSays shows kept saved.values saved.places old
+      → SaysOne shows kept new
+  swept_says saved parts places old new at swept rests may says =
+      let keeps : KeepsStore shows kept sound moment left_since (names_at saved.places) old new =
+      subst (λ (ps : List Place). KeepsStore shows kept sound moment left_since (names_at ps) old new)
+      at swept in (
+        saved.values,
+        saved.places,
         record {
-          file = file_of contents;
-          saved = h.saved;
-          has = after.file;
-          journal = record {
-            head = h.head;
-            stands = record {
-              before = h.journal.before;
-              contents = h.journal.contents;
-              names = h.journal.after;
-              spell = subst (λ (es : List Event). Spell h.journal.contents es h.journal.after)
-                  (late ∙ none) h.journal.spell;
-              recovers = itself contents after.each;
-            };
-          };
+          saved = saved;
+          alone = rests.0;
           means = refl;
           names = refl;
-          says = says_on shows kept h.saved.values h.saved.places m.folder new
-              (λ files among there. keeps.files files among there) said;
-          parts = h.parts;
-          blocks = blocks_kept shows kept sound moment left_since h.saved.places h.parts m.folder
-              new h.blocks keeps;
-          stands = subst₂ (λ (x : Saved) (bs : List BlockPart). MayStand (started x bs)) (sym head)
-              (sym blocks) may;
+          says = says_on shows kept saved.values saved.places old new
+              (λ files among there. keeps.files files among there) says;
+          parts = parts;
+          blocks = rests.1;
+          stands = may;
         },
       )
-    where
-      ap-places : h.saved ≡ saved → h.saved.places ≡ saved.places
-      ap-places is = subst (λ (x : Saved). h.saved.places ≡ x.places) is refl

@@ -1,5 +1,6 @@
 -- A store that lies in a folder, and what is left of it while it is changed.
 use Rattle.std.specs.Prelude.{◌≡◌, ◌⊎◌, ◌+◌, ◌++◌, ℕ, ℤ, true, List, [], Option, None, Ok, codes}
+use Rattle.std.specs.Prelude.{length}
 use Rattle.block_folder.specs.declared.values.Values.{Values}
 use Rattle.block_folder.specs.declared.values.Values.TheVariants.{Whole}
 use Rattle.data_folder.specs.Folders.{HasFile, KeepsOthers, Left, LeavesOnly, Untouched}
@@ -12,13 +13,14 @@ use Rattle.store_folder.specs.Holding.{AreAt}
 use Rattle.store_folder.specs.Journals.{IsJournalOf}
 use Rattle.store_folder.specs.Origins.{Origin, beginning}
 use Rattle.store_folder.specs.Plain.{AreAdmitted, HasEither, StandsAlone}
+use Rattle.store_folder.specs.Rolls.{HasHeadAlone}
 use Rattle.store_folder.specs.States.{IsAfter, MayStart, StandsFor, origin_of, started}
 use Rattle.store_folder.specs.Sweeps.{has_number}
 use Rattle.store_folder.specs.Writing.{EachSays}
 use Rattle.store_folder.specs.declared.error.StartError.TheVariants.{Medium}
 use Rattle.store_joiner.specs.Adds.{with_beneath}
 use Rattle.store_joiner.specs.Finds.{Finds}
-use Rattle.store_joiner.specs.Joins.{AreAbove, AreNumbered, with_blocks}
+use Rattle.store_joiner.specs.Joins.{AreAbove, AreNumbered, AreRolled, with_blocks}
 use Rattle.store_joiner.specs.declared.error.ChangeFault.{ChangeFault}
 use Rattle.store_joiner.specs.declared.error.ChangeFault.TheVariants as faults
 
@@ -135,16 +137,32 @@ abbrev pub StaysNow : {F : Type 0} → (F → ℕ) → (F → ℕ → Left → T
 StaysNow moment left_since f first events =
     LeavesNow moment left_since f (StandsOrFinds first events IsSame)
 
--- In the folder lies, for good, a journal of a head alone, which names blocks at these places and
--- says this meaning of values; and so does the `meta.json` of each of them. The blocks lie there,
--- and a start makes a snapshot of the head and of them.
+-- in the folder lies, for good, a journal that is exactly the file of this head, and its blocks
+abbrev pub HasSaved : {F : Type 0} → (F → List ℕ → Option (List ℕ) → Type 0)
+    → (F → List ℕ → ℕ → Type 0) → Saved → List BlockPart → F → Type 0
+HasSaved shows kept saved parts f =
+    HasHeadAlone shows kept saved f × AreAt shows kept saved.places parts f
+
+-- In the folder lies, for good, a journal that is exactly the file of a head, and so many blocks
+-- that the head names: at the other places, or the first few of those and folders of the least
+-- numbers that are above them all.
+pub record StaysNumbered {F : Type 0} (shows : F → List ℕ → Option (List ℕ) → Type 0)
+    (kept : F → List ℕ → ℕ → Type 0) (others : List Place) (count : ℕ) (f : F) : Type 0 where
+  pub saved : Saved
+  pub parts : List BlockPart
+  pub lies : HasSaved shows kept saved parts f
+  pub begins : (saved.places ≡ others) ⊎ AreRolled others saved.places
+  pub many : length saved.places ≡ count
+
+-- In the folder lies, for good, a journal that is exactly the file of a head, with nothing behind
+-- it. The head names blocks at these places and says this meaning of values; and so does the
+-- `meta.json` of each of them. The blocks lie there, and a start makes a snapshot of the head and
+-- the blocks.
 pub record SaysMeaning {F : Type 0} (shows : F → List ℕ → Option (List ℕ) → Type 0)
     (kept : F → List ℕ → ℕ → Type 0) (values : Values) (places : List Place) (f : F)
     : Type 0 where
-  pub file : List ℕ
   pub saved : Saved
-  pub has : HasFile shows kept journal_name file f
-  pub journal : IsJournalOf file saved []
+  pub alone : HasHeadAlone shows kept saved f
   pub means : saved.values ≡ values
   pub names : saved.places ≡ places
   pub says : EachSays shows kept values places f

@@ -20,11 +20,11 @@ ghost use Rattle.store_folder.specs.States.{MayStart, origin_of, started};
 ghost use Rattle.store_folder.specs.Writing.{EachSays};
 ghost use Rattle.store_joiner.specs.Finds.{BlocksSay, Finds, FindsNow, other_of};
 ghost use Rattle.store_joiner.specs.Joins.{with_blocks};
-ghost use Rattle.store_joiner.specs.Stores.{Changes, HasStore, IsJoinedHere, IsJoinedTo, IsLater};
-ghost use Rattle.store_joiner.specs.Stores.{IsSame};
+ghost use Rattle.store_joiner.specs.Stores.{Changes, HasSaved, HasStore, IsJoinedHere, IsJoinedTo};
+ghost use Rattle.store_joiner.specs.Stores.{IsLater, IsSame};
 ghost use Rattle.store_joiner.specs.Stores.{LeavesNow, MayChange, MayChangePlain, PlainOrFinds};
 ghost use Rattle.store_joiner.specs.Stores.{PlainOrStarts, SaysAbove, SaysNumbered, SaysOne};
-ghost use Rattle.store_joiner.specs.Stores.{StaysNow, StaysOrFinds};
+ghost use Rattle.store_joiner.specs.Stores.{StaysNow, StaysNumbered, StaysOrFinds};
 
 use crate::error::ChangeFault;
 use crate::joined::joined_snapshot;
@@ -78,6 +78,10 @@ fn sweep<N: Beginning, F: Folder + Drop>(
         → MatchResult result
         (λ x. LeavesOnly F.moment F.left_since found.folder x MayStart)
         (λ e. LeavesOnly F.moment F.left_since found.folder e.1 MayStart) }
+    // If the journal has no events, then it is exactly the file of its head, and its blocks lie
+    // where they lay.
+    ensures rests { found.store.journal.events.items ≡ [] → IfOk result (HasSaved F.shows F.kept
+        found.store.journal.head (map part_in found.store.blocks.items)) }
     // If the journal has no events, and each block says what its head says, so it is then.
     ensures says { found.store.journal.events.items ≡ [] → EachSays F.shows F.kept
         found.store.journal.head.values found.store.journal.head.places found.folder
@@ -138,6 +142,8 @@ fn join_saved<N: Beginning, F: Folder + Drop>(
         → SaysOne F.shows F.kept x.1) }
     ensures numbers { IfOk result (λ x. (x.0.after ≡ x.0.before → ⊥)
         → SaysAbove F.shows F.kept found.store.journal.head.places x.1) }
+    ensures rests { IfOk result (λ x. x.0.after ≡ x.0.before → HasSaved F.shows F.kept
+        found.store.journal.head (map part_in found.store.blocks.items) x.1) }
     ensures says_still { EachSays F.shows F.kept found.store.journal.head.values
         found.store.journal.head.places found.folder
         → MayStand (started found.store.journal.head (map part_in found.store.blocks.items))
@@ -207,6 +213,8 @@ fn join_found<F: Folder + Drop>(
         → SaysOne F.shows F.kept x.1) }
     ensures numbers { TellsFiles F.shows → IfOk result (λ x. (x.0.after ≡ x.0.before → ⊥)
         → SaysNumbered F.shows F.kept found.store.journal.head.places x.0.before x.1) }
+    ensures numbers_still { TellsFiles F.shows → IfOk result (λ x. x.0.after ≡ x.0.before
+        → StaysNumbered F.shows F.kept found.store.journal.head.places x.0.before x.1) }
     ensures says_still { TellsFiles F.shows → EachSays F.shows F.kept
         found.store.journal.head.values found.store.journal.head.places found.folder
         → (found.store.journal.events.items ≡ [] → MayStand
@@ -268,7 +276,7 @@ pub fn join_store<F: Folder + Drop>(
         × FindsNow F.moment F.left_since x.1
         (other_of (origin_of saved parts) (with_blocks x.0.after w))) }
     ensures few { IfOk result (λ x. x.0.after ≤ x.0.before) }
-    // Where blocks were joined, the journal has a head alone, which says what the values mean, and
+    // Where blocks were joined, the journal is exactly a head, which says what the values mean, and
     // so does the `meta.json` of each block.
     ensures says { IfOk result (λ x. (x.0.after ≡ x.0.before → ⊥)
         → SaysOne F.shows F.kept x.1) }
@@ -282,6 +290,16 @@ pub fn join_store<F: Folder + Drop>(
         → F.shows folder journal_name (Some file) → begins_plain file ≡ true
         → IfOk result (λ x. (x.0.after ≡ x.0.before → ⊥)
         → SaysNumbered F.shows F.kept [] x.0.before x.1) }
+    // Where none were joined, the journal is a head alone, and the blocks lie as they lay once the
+    // events were saved: where they were before, or some of them there and new ones above them.
+    ensures numbers_still { TellsFiles F.shows → (saved : Saved) (parts : List BlockPart)
+        (events : List Change) → (s : HasStore F.shows F.kept saved parts events folder)
+        → begins_plain s.file ≡ false → IfOk result (λ x. x.0.after ≡ x.0.before
+        → StaysNumbered F.shows F.kept saved.places x.0.before x.1) }
+    ensures plain_numbers_still { TellsFiles F.shows → (file : List ℕ)
+        → F.shows folder journal_name (Some file) → begins_plain file ≡ true
+        → IfOk result (λ x. x.0.after ≡ x.0.before
+        → StaysNumbered F.shows F.kept [] x.0.before x.1) }
     // If the blocks said so before, so it is after `Ok` also where none were joined; and a start
     // makes a snapshot of the head and of them, if it did so before, or the journal had events. Of
     // a journal of events alone, which names no blocks, it is always so.

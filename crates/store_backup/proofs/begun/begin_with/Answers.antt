@@ -1,12 +1,10 @@
 use Rattle.std.proofs.Common.{◌≡◌, ◌-◌, ℕ, List, [], ap, arith, length, refl, subst, sym}
 use Rattle.event_journal.specs.Holding.{contents_with}
 use Rattle.head.specs.Heads.{world_of}
-use Rattle.head_record.proofs.Worlds.{in_front}
 use Rattle.head_record.specs.Saved.{Place, Saved}
 use Rattle.head_record.specs.Spelling.{head_texts}
-use Rattle.journal.proofs.Keeping.{itself}
 use Rattle.journal.specs.Group.{IsJournalText}
-use Rattle.journal.specs.Records.{file_of}
+use Rattle.store_folder.proofs.HeadsAlone.{head_alone}
 use Rattle.store_folder.proofs.Rolls.{blocks_rolled}
 use Rattle.store_folder.proofs.Saves.{each_like}
 use Rattle.store_folder.proofs.Says.{files_apart, says_on}
@@ -107,19 +105,9 @@ returns-in-Ok-begin_journal-clause-says g c =
     let all : length s.blocks - 0 ≡ length s.blocks = omega arith in
     subst (λ (n : ℕ). SaysMeaning f.shows f.kept values (places_from 1 n) new) all
     (record {
-      file = file_of contents;
       saved = head;
-      has = keeps.file;
-      journal = record {
-        head = c.in-Ok-head_journal.ensures.saved;
-        stands = record {
-          before = in_front head;
-          contents = [];
-          names = [];
-          spell = refl;
-          recovers = itself contents keeps.each;
-        };
-      };
+      alone = head_alone f.shows f.kept f.sound head new _
+          c.in-Ok-head_journal.ensures.saved keeps;
       means = ap (λ (h : Saved). h.values) c.in-Ok.ensures.saved;
       names = ap (λ (h : Saved). h.places) c.in-Ok.ensures.saved;
       says = says_on f.shows f.kept values written mid new

@@ -3,11 +3,11 @@ use Rattle.head.specs.Blocks.{part_in}
 use Rattle.head.specs.Heads.{world_of}
 use Rattle.store_folder.specs.States.{origin_of, started}
 use Rattle.store_joiner.specs.Joins.{with_blocks}
-use Rattle.store_joiner.specs.Stores.{IsJoinedTo, SaysNumbered}
+use Rattle.store_joiner.specs.Stores.{IsJoinedTo, SaysNumbered, StaysNumbered}
 use Rattle.store_joiner.proofs.Stores.{finds_then, if_both, if_err, match_so, means_so, stays}
 use Rattle.store_joiner.proofs.Stores.{stays_now, then_finds}
 use Rattle.data_folder.proofs.Foreign.{foreign_then}
-use Rattle.store_joiner.proofs.Says.{numbered}
+use Rattle.store_joiner.proofs.Says.{numbered, numbered_still}
 use Rattle.store_joiner.proofs.Starting.{each_starts}
 use Rattle.store_joiner.proofs.joining.join_found.Goals as goal
 
@@ -121,3 +121,14 @@ returns-in-Ok-clause-numbers g c tells =
     (map part_in x.store.blocks.items) x.folder y.1 (c.in-Ok.ensures.numbers tells)
     c.in-Ok.ensures.found.blocks (above fewer)))
     c.join_saved.ensures.before c.join_saved.ensures.numbers
+
+pub returns-in-Ok-clause-numbers_still : goal.returns-in-Ok-clause-numbers_still
+returns-in-Ok-clause-numbers_still g c tells =
+    let f = g.F.Folder in
+    let held = c.args.found.store.journal.head.places in
+    let x = c.in-Ok.saved in
+    if_both c.join_saved.result _ _ _
+    (λ y before rests same. subst (λ (n : ℕ). StaysNumbered f.shows f.kept held n y.1) (sym before)
+    (numbered_still f.shows f.kept f.sound f.moment f.left_since held x.store.journal.head
+    (map part_in x.store.blocks.items) y.1 (c.in-Ok.ensures.numbers tells) (rests same)))
+    c.join_saved.ensures.before c.join_saved.ensures.rests

@@ -193,3 +193,10 @@ returns-in-Ok-sweep-clause-numbers g c fewer =
 
 pub returns-in-Ok-replace-clause-numbers : goal.returns-in-Ok-replace-clause-numbers
 returns-in-Ok-replace-clause-numbers g c fewer = c.in-Ok-replace.ensures.numbers
+
+pub returns-in-Ok-sweep-clause-rests : goal.returns-in-Ok-sweep-clause-rests
+returns-in-Ok-sweep-clause-rests g c same = c.in-Ok-sweep.ensures.rests c.requires.saved
+
+pub returns-in-Ok-replace-clause-rests : goal.returns-in-Ok-replace-clause-rests
+returns-in-Ok-replace-clause-rests g c same =
+    absurd (omega (arith, same, c.if-after-before.false))

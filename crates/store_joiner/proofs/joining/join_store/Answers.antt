@@ -22,7 +22,7 @@ use Rattle.data_folder.proofs.Foreign.{foreign_beside, foreign_then}
 use Rattle.store_joiner.proofs.Stores.{if_ok}
 use Rattle.store_joiner.proofs.Changing.{changes_found, plain_changed, plain_denied, plain_found}
 use Rattle.store_joiner.proofs.Changing.{plain_rests, plain_same, some_of}
-use Rattle.store_joiner.specs.Stores.{IsSame, SaysNumbered}
+use Rattle.store_joiner.specs.Stores.{IsSame, SaysNumbered, StaysNumbered}
 use Rattle.head.specs.Worlds.{World}
 use Rattle.head_record.specs.Saved.{Saved}
 use Rattle.head.specs.Heads.{BlockPart}
@@ -400,3 +400,23 @@ returns-in-Some-clause-plain_numbers g c tells file shown plain =
     if_ok c.join_found.result _ _
     (λ x says fewer. subst (λ (y : Saved). SaysNumbered f.shows f.kept y.places x.0.before x.1)
     alone.1 (says fewer)) (c.join_found.ensures.numbers tells)
+
+pub returns-in-Some-clause-numbers_still : goal.returns-in-Some-clause-numbers_still
+returns-in-Some-clause-numbers_still g c tells saved parts events h plain =
+    let f = g.F.Folder in
+    let is : IsStoreOf saved parts events c.in-Some.store =
+    subst (λ (o : Option FoundStore). GivesStore (f.failed c.open_store.new.folder) saved parts
+    events (found o)) c.in-Some.is
+    (c.in-Ok.ensures.only tells h.file saved parts events h.has plain h.journal h.blocks) in
+    if_ok c.join_found.result _ _
+    (λ x lies same. subst (λ (y : Saved). StaysNumbered f.shows f.kept y.places x.0.before x.1)
+    is.head (lies same)) (c.join_found.ensures.numbers_still tells)
+
+pub returns-in-Some-clause-plain_numbers_still : goal.returns-in-Some-clause-plain_numbers_still
+returns-in-Some-clause-plain_numbers_still g c tells file shown plain =
+    let f = g.F.Folder in
+    let alone = some_of c.in-Ok.opened c.in-Some.store _ c.in-Some.is
+    (c.in-Ok.ensures.plain tells file shown plain) in
+    if_ok c.join_found.result _ _
+    (λ x lies same. subst (λ (y : Saved). StaysNumbered f.shows f.kept y.places x.0.before x.1)
+    alone.1 (lies same)) (c.join_found.ensures.numbers_still tells)

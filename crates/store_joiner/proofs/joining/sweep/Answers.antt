@@ -6,7 +6,7 @@ use Rattle.store_folder.proofs.Rolls.{finds_on}
 use Rattle.data_folder.proofs.Foreign.{foreign_beside, foreign_rests, foreign_then}
 use Rattle.store_folder.proofs.Says.{says_on, there_beside}
 use Rattle.store_folder.proofs.Starts.{stays_found}
-use Rattle.store_joiner.proofs.Says.{found_says, left_says, swept_says}
+use Rattle.store_joiner.proofs.Says.{found_says, left_says, swept_rests, swept_says}
 use Rattle.store_joiner.proofs.Starting.{found_starts, starts_of, starts_on}
 use Rattle.store_joiner.proofs.joining.sweep.Goals as goal
 
@@ -75,6 +75,19 @@ returns-clause-foreign g c =
     c.in-Ok-resume.journal.events.journal.medium.folder c.in-Ok-resume.ensures.others)
     c.sweep_blocks.ensures.foreign
 
+pub returns-clause-rests : goal.returns-clause-rests
+returns-clause-rests g c none =
+    let f = g.F.Folder in
+    let met = g.met.F.Folder in
+    let store = c.args.found.store in
+    let parts = map part_in store.blocks.items in
+    let j = c.in-Ok-resume.journal.events.journal in
+    let held = c.in-Ok-resume.ensures.head parts c.requires.found c.requires.first in
+    swept_rests f.shows f.kept f.sound f.moment f.left_since met.only_now met.earlier
+    g.N.Beginning.first j.medium j.len j.closed store.journal.events.items store.journal.head parts
+    c.places.result.now c.sweep_blocks.new.self.events.journal.medium.folder held.0 held.1 held.2
+    held.3 c.in-Ok-resume.ensures.open none c.places.ensures c.sweep_blocks.ensures.kept
+
 pub returns-clause-says : goal.returns-clause-says
 returns-clause-says g c none says may =
     let f = g.F.Folder in
@@ -82,12 +95,15 @@ returns-clause-says g c none says may =
     let store = c.args.found.store in
     let parts = map part_in store.blocks.items in
     let j = c.in-Ok-resume.journal.events.journal in
+    let new = c.sweep_blocks.new.self.events.journal.medium.folder in
     let held = c.in-Ok-resume.ensures.head parts c.requires.found c.requires.first in
     let head = store.journal.head in
-    swept_says f.shows f.kept f.sound f.moment f.left_since met.only_now met.earlier
+    swept_says f.shows f.kept f.sound f.moment f.left_since met.only_now met.earlier head parts
+    c.places.result.now j.medium.folder new c.places.ensures c.sweep_blocks.ensures.kept
+    (swept_rests f.shows f.kept f.sound f.moment f.left_since met.only_now met.earlier
     g.N.Beginning.first j.medium j.len j.closed store.journal.events.items head parts
-    c.places.result.now c.sweep_blocks.new.self.events.journal.medium.folder held.0 held.1 held.2
-    held.3 c.in-Ok-resume.ensures.open none c.places.ensures c.sweep_blocks.ensures.kept may
+    c.places.result.now new held.0 held.1 held.2 held.3 c.in-Ok-resume.ensures.open none
+    c.places.ensures c.sweep_blocks.ensures.kept) may
     (says_on f.shows f.kept head.values head.places c.args.found.folder j.medium.folder
     (λ files among there. there_beside f.shows f.kept head.places files c.args.found.folder
     j.medium.folder c.in-Ok-resume.ensures.others among there) says)

@@ -3,17 +3,15 @@ use Rattle.std.proofs.Common.{ℕ, take, false, ◌∙◌}
 use Rattle.event_journal.specs.Holding.{contents_with}
 use Rattle.head.specs.Heads.{world_of}
 use Rattle.head_record.specs.Saved.{Place, Saved}
-use Rattle.head_record.proofs.Worlds.{in_front}
 use Rattle.head_record.specs.Spelling.{head_texts}
-use Rattle.journal.proofs.Keeping.{itself}
 use Rattle.journal.specs.Group.{IsJournalText}
-use Rattle.journal.specs.Records.{file_of}
 use Rattle.data_folder.specs.Sweeping.{KeepsStore}
 use Rattle.data_folder.proofs.Moments.{joined}
 use Rattle.store_folder.specs.Sweeps.{names_at}
 use Rattle.block_folder.specs.declared.values.Values.{Values}
 use Rattle.store_folder.specs.Writing.{EachSays, places_from}
 use Rattle.store_folder.specs.Holding.{AreAt}
+use Rattle.store_folder.proofs.HeadsAlone.{head_alone}
 use Rattle.store_folder.proofs.Rolls.{blocks_rolled, goes_on}
 use Rattle.store_folder.proofs.Saves.{each_like}
 use Rattle.store_folder.proofs.Says.{files_apart, says_on}
@@ -354,19 +352,9 @@ returns-in-Ok-roll-clause-says g c =
     (c.in-Ok-roll.ensures.ok contents (subst (IsJournalText contents) (sym c.deref.ensures.value)
     c.in-Ok-head_journal.ensures.text)) in
     record {
-      file = file_of contents;
       saved = head;
-      has = keeps.file;
-      journal = record {
-        head = c.in-Ok-head_journal.ensures.saved;
-        stands = record {
-          before = in_front head;
-          contents = [];
-          names = [];
-          spell = refl;
-          recovers = itself contents keeps.each;
-        };
-      };
+      alone = head_alone f.shows f.kept f.sound head last c.roll.new.journal.len
+          c.in-Ok-head_journal.ensures.saved keeps;
       means = ap (λ (h : Saved). h.values) c.in-Ok.ensures.saved ∙ c.values-values.ensures;
       names = sym (c.in-Ok-from_slice.ensures.items ∙ c.places.ensures);
       says = subst (λ (ps : List Place). EachSays f.shows f.kept values ps last) (sym named)
