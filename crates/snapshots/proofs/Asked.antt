@@ -2,14 +2,18 @@
 use Rattle.std.proofs.Common.{◌≡◌, ℕ, Bool, true, false, List, [], ◌∷◌, ◌++◌, drop, take, sym, subst}
 use Rattle.std.proofs.Common.{append_assoc, append-nil, take-append-drop}
 use mathlib.Core.List.{IsPrefix}
+use Rattle.head.specs.Heads.{SnapshotParts}
 use Rattle.head.specs.Worlds.{Event}
+use Rattle.logbook.specs.Pages.{Book}
 use Rattle.snapshots.specs.declared.entry.Entry.{Entry}
 use Rattle.snapshots.specs.declared.entry.Mark.{Mark}
 use Rattle.snapshots.specs.declared.entry.Mark.TheVariants.{Try, Seal, Done, Void}
 use Rattle.snapshots.specs.Asking.{AreAsked, AskedBehind}
+use Rattle.snapshots.specs.Grows.{Shows}
 use Rattle.snapshots.specs.Marks.{accepted, list_of, tried_of}
 use Rattle.snapshots.specs.Seats.{count_of}
 use Rattle.snapshots.specs.Standings.{current}
+use Rattle.snapshots.specs.Views.{Edition}
 use Rattle.snapshots.proofs.Accepts.{accepted_begins_tried, list_begins}
 use Rattle.snapshots.proofs.Accepts.{tried_done, tried_seal, tried_try, tried_void}
 
@@ -78,6 +82,13 @@ module _ (asked : Event → ℕ → ℕ → Type 0) where
   pub list_asked : (log : List Mark) → AreAsked asked (tried_of log)
       → AreAsked asked (list_of log)
   list_asked log a = begins_asked (list_of log) (tried_of log) (list_begins log) a
+
+  -- and so is what a version shows
+  pub shows_asked : (book : Book) (opening : SnapshotParts) (kept : List Entry → Type 0)
+      (x : Edition) (entries : List Entry) → Shows book opening asked kept x entries
+      → AreAsked asked entries
+  shows_asked book opening kept x entries shows =
+      asked_as (list_of x.marks) entries shows.1 (list_asked x.marks shows.3)
 
   pub void_asked : (log : List Mark) → AreAsked asked (tried_of log)
       → AreAsked asked (tried_of (log ++ Void ∷ []))

@@ -1,5 +1,5 @@
 -- A step that only adds to the list keeps the rule of the published versions.
-use Rattle.std.proofs.Common.{◌≡◌, ℕ, ◌≢◌, List, [], ◌∷◌, ◌++◌, fold, refl, ap, ◌∙◌, subst, ⊎_elim}
+use Rattle.std.proofs.Common.{◌≡◌, ℕ, ◌≢◌, List, [], ◌∷◌, ◌++◌, fold, refl, ap, ◌∙◌, sym, subst, ⊎_elim}
 use mathlib.Core.Option.{some}
 use mathlib.Core.List.{IsPrefix}
 use lib.ListN.{get_elem?}
@@ -9,10 +9,13 @@ use Rattle.logbook.specs.Pages.{Book}
 use Rattle.head.specs.Heads.{SnapshotParts}
 use Rattle.head.specs.Worlds.{Event}
 use Rattle.snapshots.specs.declared.entry.Entry.{Entry}
+use Rattle.snapshots.specs.declared.entry.Mark.{Mark}
 use Rattle.snapshots.specs.declared.plate.Plate.{Plate}
-use Rattle.snapshots.specs.Marks.{list_of}
+use Rattle.snapshots.specs.Asking.{AreAsked}
+use Rattle.snapshots.specs.Marks.{accepted, list_of, tried_of}
+use Rattle.snapshots.specs.Replays.{IsAfter}
 use Rattle.snapshots.specs.Views.{Edition}
-use Rattle.snapshots.specs.Grows.{Shows, Keeps, SeesList}
+use Rattle.snapshots.specs.Grows.{Shows, Keeps, MayFollow, SeesList}
 use Rattle.snapshots.specs.Plates.{with_version}
 use Rattle.snapshots.proofs.Prefixes.{prefix_self, prefix_trans}
 
@@ -67,6 +70,31 @@ module _ (book : Book) (opening : SnapshotParts) (asked : Event → ℕ → ℕ 
         (list_of x.version.marks, refl))
         (at_snoc [] [] v seat at),
   )
+
+  -- a version whose log has accepted all that it sealed shows the list of that log
+  pub shows_all : (y : Edition) (log : List Mark) (t : SnapshotParts) (entries : List Entry)
+      → y ≡ record { book = book; marks = log; parts = t } → accepted log ≡ list_of log
+      → accepted log ≡ entries → IsAfter opening (accepted log) t → AreAsked asked (tried_of log)
+      → kept (accepted log) → Shows book opening asked kept y entries
+  shows_all y log t entries is whole same after all_asked all_kept =
+      subst (λ (z : Edition). Shows book opening asked kept z entries) (sym is) (
+        refl,
+        sym whole ∙ same,
+        subst (λ (z : List Entry). IsAfter opening z t) same after,
+        all_asked,
+        subst kept same all_kept,
+      )
+
+  -- and it may follow one whose list begins that list
+  pub follows_all : (x y : Edition) (log : List Mark) (t : SnapshotParts)
+      → y ≡ record { book = book; marks = log; parts = t } → accepted log ≡ list_of log
+      → IsPrefix (list_of x.marks) (accepted log) → IsAfter opening (accepted log) t
+      → AreAsked asked (tried_of log) → kept (accepted log) → MayFollow book opening asked kept x y
+  follows_all x y log t is whole begins after all_asked all_kept =
+      let named : accepted log ≡ list_of y.marks = whole ∙ sym (ap (λ (z : Edition). list_of z.marks) is) in (
+        shows_all y log t (list_of y.marks) is whole named after all_asked all_kept,
+        subst (λ (z : List Entry). IsPrefix (list_of x.marks) z) named begins,
+      )
 
 -- of operations that are each the whole next version, the last is what is shown, by the same right
 pub fold_last : (x : Plate) (xs : List Edition) (y : Edition)

@@ -161,33 +161,20 @@ module _ (book : Book) (opening : SnapshotParts) (idle : Bool) (group log : List
   pub listed : list_of log ≡ list_of group
   listed = lists ∙ sym is_group.whole
 
-  -- the version may be published, and shows the list of the group
-  module _ (asked : Event → ℕ → ℕ → Type 0) (kept : List Entry → Type 0) (x y : Edition) (t : SnapshotParts) (alike : t ≡ s)
-      (shows : Shows book opening asked kept x (accepted group)) (y_is : y ≡ record { book = book; marks = log; parts = t })
-      (is_asked : AreAsked asked (list_of log)) (is_kept : kept (list_of group)) where
-    pub shows_listed : (entries : List Entry) → list_of group ≡ entries → Shows book opening asked kept y entries
-    shows_listed entries same = (
-      ap (λ (z : Edition). z.book) y_is,
-      ap (λ (z : Edition). list_of z.marks) y_is ∙ (listed ∙ same),
-      subst (λ (z : SnapshotParts). IsAfter opening entries z) (sym (ap (λ (z : Edition). z.parts) y_is ∙ alike))
-          (subst (λ (z : List Entry). IsAfter opening z s) same is_group.stands.after),
-      subst (λ (z : List Entry). AreAsked asked z) (listed ∙ same) is_asked,
-      subst kept same is_kept,
-    )
-
-    pub may_publish : MayFollow book opening asked kept x y
-    may_publish = (
-      shows_listed (list_of y.marks) (sym (ap (λ (z : Edition). list_of z.marks) y_is ∙ listed)),
-      (
-        is_group.waiting.more,
-        ap (λ (z : List Entry). z ++ is_group.waiting.more) shows.1
-            ∙ (sym is_group.waiting.parts ∙ sym (ap (λ (z : Edition). list_of z.marks) y_is ∙ listed)),
-      ),
-    )
-
   module _ (done : List Mark) (is : done ≡ log ++ Done ∷ []) where
     pub accepted_done : accepted done ≡ list_of group
     accepted_done = ap accepted is ∙ listed
+
+    -- nothing is sealed in it
+    pub done_whole : accepted done ≡ list_of done
+    done_whole = ap accepted is ∙ sym (ap list_of is ∙ list_done log)
+
+    -- what was published before begins it
+    pub done_begins : (entries : List Entry) → entries ≡ accepted group → IsPrefix entries (accepted done)
+    done_begins entries same = (
+      is_group.waiting.more,
+      ap (λ (z : List Entry). z ++ is_group.waiting.more) same ∙ (sym is_group.waiting.parts ∙ sym accepted_done),
+    )
 
     pub done_stands : (settled : Bool) (t : SnapshotParts) (n : List ℕ) → MatchBool settled (accepted done ≡ tried_of done) (Unit {0})
         → StandsFor opening (tried_of log) t n → StandsFor opening (current (not settled) done) t n

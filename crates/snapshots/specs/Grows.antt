@@ -9,17 +9,18 @@ use Rattle.head.specs.Worlds.{Event}
 use Rattle.snapshots.specs.declared.entry.Entry.{Entry}
 use Rattle.snapshots.specs.declared.plate.Plate.{Plate}
 use Rattle.snapshots.specs.Asking.{AreAsked}
-use Rattle.snapshots.specs.Marks.{list_of}
+use Rattle.snapshots.specs.Marks.{list_of, tried_of}
 use Rattle.snapshots.specs.Replays.{IsAfter}
 use Rattle.snapshots.specs.Views.{Edition}
 
 -- The version is of this store and has this list, and its snapshot is what the list makes of the
--- opening one. Each event of the list was asked for, and the list is kept.
+-- opening one. Each event of the list was asked for, and each that waits beside it in the log; and
+-- the list is kept.
 abbrev pub Shows : Book → SnapshotParts → (Event → ℕ → ℕ → Type 0) → (List Entry → Type 0)
     → Edition → List Entry → Type 0
 Shows book opening asked kept x entries =
     (x.book ≡ book) × (list_of x.marks ≡ entries) × IsAfter opening entries x.parts
-    × AreAsked asked entries × kept entries
+    × AreAsked asked (tried_of x.marks) × kept entries
 
 -- Every published version shows its list, and what each handle has seen is a prefix of that. It is
 -- shown by a right of this store, of which there are two. A press holds two, whatever it shows.

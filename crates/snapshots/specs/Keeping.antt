@@ -61,11 +61,13 @@ MayBeKept may asked opening before =
     → may (kept_of before entries)
 
 -- The entries that a keeper of this kind holds in some state, behind the events from before the
--- store was opened, are kept. Nothing else says of entries that they are.
-abbrev pub HeldIsKept : {K : Type 0} → (K → List Event → Type 0) → (List Entry → Type 0)
-    → List Event → Type 0
-HeldIsKept {K} holds kept before =
-    (keeper : K) (entries : List Entry) → holds keeper (kept_of before entries) → kept entries
+-- store was opened, are kept if they stay: there is the token of it, if there is any entry. Nothing
+-- else says of entries that they are.
+abbrev pub HeldIsKept : {K S : Type 0} → (K → List Event → Type 0) → (S → List Event → Type 0)
+    → (List Entry → Type 0) → List Event → Type 0
+HeldIsKept {K} {S} holds stays kept before =
+    (keeper : K) (entries : List Entry) → holds keeper (kept_of before entries)
+    → (entries ≡ []) ⊎ ((token : S) × stays token (kept_of before entries)) → kept entries
 
 -- A keeper of this kind has come to hold these entries: what it holds in some state are the events
 -- from before the store was opened, and those of a list that begins with the entries. And they

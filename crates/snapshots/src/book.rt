@@ -54,7 +54,7 @@ impl<J: Naming, R: Wait + Drop, K: Keeper + Drop> Model for Book<J, R, K> {
         × K.holds b.keeper (kept_of J.before (accepted b.log))
         × OpensAsKept K.idle K.first J.before J.opening
         × MayBeKept K.may J.asked J.opening J.before
-        × HeldIsKept K.holds J.kept J.before };
+        × HeldIsKept K.holds K.stays J.kept J.before };
 }
 
 impl<J: Naming, R: Wait + Drop, K: Keeper + Drop> Book<J, R, K> {
@@ -63,7 +63,7 @@ impl<J: Naming, R: Wait + Drop, K: Keeper + Drop> Book<J, R, K> {
         requires kept { K.holds keeper J.before }
         requires world { OpensAsKept K.idle K.first J.before J.opening }
         requires may { MayBeKept K.may J.asked J.opening J.before }
-        requires rule { HeldIsKept K.holds J.kept J.before }
+        requires rule { HeldIsKept K.holds K.stays J.kept J.before }
         requires shown { Shows J.book J.opening J.asked J.kept press.desk.shown.value.version
             (accepted log) }
         requires empty { accepted log ≡ [] }

@@ -18,7 +18,7 @@ pub enum Mark {
     Try(Entry),
     /// What waits is to be kept and published together.
     Seal,
-    /// What was sealed is kept and published.
+    /// What was sealed is kept for good, and is published next.
     Done,
     /// All that waits is given up, sealed or not.
     Void,

@@ -7,6 +7,7 @@ ghost use Rattle.left_right.specs.Sides.{view};
 ghost use Rattle.snapshots.specs.Asking.{AreAsked};
 ghost use Rattle.snapshots.specs.Marks.{accepted};
 ghost use Rattle.snapshots.specs.Replays.{IsAfter};
+ghost use Rattle.snapshots.specs.Views.{nothing};
 
 use crate::entry::Entry;
 use crate::error::SnapshotError;
@@ -25,36 +26,35 @@ use std::sync::Arc;
 #[derive(Drop)]
 pub struct Pass<J: Naming> {
     reader: Option<Reader<Plate, [Entry; 0], Grows<J>>>,
+    /// The log that has accepted the list of its last entry.
+    seen: LogPrefix<J>,
     told: LogPrefix<J>,
-    events: u64,
 }
 
 impl<J: Naming> Model for Pass<J> {
-    ghost use Rattle.std.specs.Prelude.{List, [], ◌≡◌, length, Option, Some, None};
+    ghost use Rattle.std.specs.Prelude.{◌≡◌, Some, None};
     ghost use Rattle.left_right.specs.Sides.{view as seen_by};
     ghost use Rattle.snapshots.specs.Marks.{accepted};
     ghost use Rattle.snapshots.specs.Views.{Known};
 
     ghost Value = { Known };
 
-    ghost view = { λ p. record {
-      seen = elim p.reader [ Some r ↦ seen_by r.place | None ↦ [] ];
-      told = accepted p.told;
-    } };
+    ghost view = { λ p. record { seen = accepted p.seen; told = accepted p.told } };
 
     ghost invariant = { λ p.
-        elim p.reader [ Some r ↦ p.events ≡ length (seen_by r.place) | None ↦ ⊥ ] };
+        elim p.reader [ Some r ↦ seen_by r.place ≡ accepted p.seen | None ↦ ⊥ ] };
 }
 
 impl<J: Naming> Pass<J> {
-    pub(crate) fn of(reader: Reader<Plate, [Entry; 0], Grows<J>>, told: LogPrefix<J>) -> Pass<J>
-        requires { view reader.place ≡ [] }
-        ensures { result ≡ record { seen = []; told = accepted told } }
+    pub(crate) fn of(reader: Reader<Plate, [Entry; 0], Grows<J>>, log: &LogPrefix<J>) -> Pass<J>
+        requires fresh { view reader.place ≡ [] }
+        requires empty { log.now ≡ [] }
+        ensures { result ≡ nothing }
     {
         Pass {
             reader: Some(reader),
-            told,
-            events: 0,
+            seen: log.share(),
+            told: log.share(),
         }
     }
 
@@ -62,7 +62,17 @@ impl<J: Naming> Pass<J> {
     pub fn events(&self) -> u64
         ensures { result ≡ length self.now.seen }
     {
-        self.events
+        self.seen.accepted()
+    }
+
+    /// The receipt of all that the pass has seen: a pass that learns it sees no less. So what
+    /// passes see and what receipts say is one history, of which each has a part from its begin. It
+    /// takes no memory.
+    pub fn receipt(&self) -> Receipt<J>
+        ensures list { result ≡ self.now.seen }
+        ensures asked { AreAsked J.asked result }
+    {
+        Receipt::whole(&self.seen)
     }
 
     /// From now on the pass knows what the receipt says, beside what it knew. It takes no memory.
@@ -77,7 +87,7 @@ impl<J: Naming> Pass<J> {
     /// The snapshot of the published version. Its list begins with all that the pass had seen and
     /// with the list of each receipt that it learnt, and is what the pass has seen from then on.
     /// Each event of it was asked for by a call that publishes, and the store's keeper came to
-    /// hold the list before it was published. It waits for nobody, takes no lock and no memory.
+    /// hold the list for good before it was published. It waits for nobody, takes no lock and no memory.
     /// `S1` where the version is not available: where `left_right` refuses the entry, or `Arc` one
     /// sharer more, which leaves the pass knowing no less; it is answered also where the version is
     /// older than what the pass was told of, which does not occur.
@@ -95,10 +105,10 @@ impl<J: Naming> Pass<J> {
         match reader.enter_as::<Sees<J>>() {
             Ok(reading) => {
                 let version = &reading.get().version;
-                let events = version.events();
+                let seen = version.log();
                 let taken = version.offer(&self.told);
                 self.reader = Some(reading.leave());
-                self.events = events;
+                self.seen = seen;
                 match taken {
                     Some(snapshot) => Ok(snapshot),
                     None => Err(SnapshotError::Unavailable),

@@ -67,6 +67,28 @@ impl<J: Naming> LogPrefix<J> {
         }
     }
 
+    /// The prefix that was seen, of which these are the numbers.
+    pub fn again(marks: u64, tally: Tally, seen: Seen<Mark, u64, Law>) -> LogPrefix<J>
+        requires numbers { (marks ≡ length seen.log) × IsTally tally seen.log }
+        requires book { seen.book ≡ J.book }
+        requires asked { AreAsked J.asked (tried_of seen.log) }
+        ensures { result ≡ seen.log }
+    {
+        LogPrefix {
+            marks,
+            tally,
+            seen,
+            of: PhantomData,
+        }
+    }
+
+    /// Its numbers.
+    pub fn tally(&self) -> Tally
+        ensures { IsTally result self.now }
+    {
+        self.tally
+    }
+
     /// How many marks it has.
     pub fn len(&self) -> u64
         ensures { result ≡ length self.now }
@@ -86,13 +108,6 @@ impl<J: Naming> LogPrefix<J> {
         ensures { result ≡ length (accepted self.now) }
     {
         self.tally.accepted
-    }
-
-    /// How many events it accepted, and those that are sealed.
-    pub fn listed(&self) -> u64
-        ensures { result ≡ length (list_of self.now) }
-    {
-        self.tally.listed
     }
 
     /// How many events it accepted, and those that wait.

@@ -9,7 +9,7 @@ ghost use Rattle.snapshots.specs.Marks.{accepted, list_of};
 ghost use Rattle.snapshots.specs.Grows.{Shows, MayFollow};
 ghost use Rattle.snapshots.specs.Keeping.{kept_of, HeldIsKept, IsGroup, IsHindered, IsOfAllKept};
 ghost use Rattle.snapshots.specs.Keeping.{IsOfKeeping};
-ghost use Rattle.snapshots.specs.Replays.{events_in};
+ghost use Rattle.snapshots.specs.Replays.{events_in, IsAfter};
 ghost use Rattle.snapshots.specs.declared.entry.Entry.{Entry as Listed};
 
 use crate::entry::Entry;
@@ -20,11 +20,12 @@ use crate::plate::Plate;
 use crate::prefix::LogPrefix;
 use crate::tip::Tip;
 use crate::version::{Grows, Sees, Version};
-use head::CommitError;
+use core::mem::replace_with;
+use head::{CommitError, Snapshot};
 use keeper::{KeepError, Keeper};
 use left_right::writer::Writer;
 use std::alloc::Global;
-use std::sync::{Mutex, MutexGuard, Wait};
+use std::sync::{Arc, Mutex, MutexGuard, Wait};
 
 /// The writer of the versions of a store. It holds both rights of the store to show versions, so
 /// there is one at most, and each pass of the store reads what it shows.
@@ -32,7 +33,7 @@ pub type Press<J> = Writer<Plate, Version, [Entry; 0], Grows<J>>;
 
 /// Publishes one whole version. Where it is refused, the version is left pending, and the next one
 /// overtakes it.
-pub fn publish<J: Naming, R: Wait>(rt: &R, mut press: Press<J>, next: Version) -> (Press<J>, bool)
+fn publish<J: Naming, R: Wait>(rt: &R, mut press: Press<J>, next: Version) -> (Press<J>, bool)
     requires { MayFollow J.book J.opening J.asked J.kept press.desk.shown.value.version next }
     ensures { MatchBool result.1 (result.0.desk.shown.value.version ≡ next)
         (result.0.desk.shown.value.version ≡ press.desk.shown.value.version) }
@@ -45,6 +46,54 @@ pub fn publish<J: Naming, R: Wait>(rt: &R, mut press: Press<J>, next: Version) -
         return (press, false);
     };
     (press, true)
+}
+
+/// Publishes the version, if there is memory for it.
+fn publish_in<J: Naming, R: Wait>(rt: &R, press: &mut Press<J>, next: &Version) -> bool
+    requires { MayFollow J.book J.opening J.asked J.kept
+        press.old.desk.shown.value.version next.now }
+    ensures { MatchBool result (press.new.desk.shown.value.version ≡ next.now)
+        (press.new.desk.shown.value.version ≡ press.old.desk.shown.value.version) }
+{
+    let Ok(next) = next.share() else {
+        return false;
+    };
+    replace_with(
+        press,
+        next,
+        |press: Press<J>, next: Version| -> (Press<J>, bool)
+            requires { MayFollow J.book J.opening J.asked J.kept
+                press.desk.shown.value.version next }
+            ensures { MatchBool result.1 (result.0.desk.shown.value.version ≡ next)
+                (result.0.desk.shown.value.version ≡ press.desk.shown.value.version) }
+        { publish(rt, press, next) },
+    )
+}
+
+/// Shows the snapshot that the list of a log makes: all of the list is kept for good, and accepted.
+/// It tries until there is memory, which no more than the first two versions take.
+pub fn show<J: Naming, R: Wait>(
+    rt: &R,
+    press: &mut Press<J>,
+    snapshot: Arc<Snapshot>,
+    log: &LogPrefix<J>,
+)
+    requires whole { accepted log.now ≡ list_of log.now }
+    requires begins { IsPrefix (list_of press.old.desk.shown.value.version.marks)
+        (accepted log.now) }
+    requires after { IsAfter J.opening (accepted log.now) (arc_value snapshot) }
+    requires kept { J.kept (accepted log.now) }
+    ensures shown { Shows J.book J.opening J.asked J.kept press.new.desk.shown.value.version
+        (accepted log.now) }
+    ensures parts { press.new.desk.shown.value.version.parts ≡ arc_value snapshot }
+{
+    let next = Version::of(snapshot, log);
+    for _ in rt.forever() {
+        if publish_in(rt, press, &next) {
+            return;
+        }
+    }
+    unreachable!()
 }
 
 /// Saves what is published in the place of the events that made it, if its keeper finds that worth
@@ -87,10 +136,11 @@ pub fn taken<'a, J: Naming, R: Wait, K: Keeper>(
     }
 }
 
-/// Keeps a group by one write and one sync, publishes the snapshot after it, and marks that in the
-/// log. So what anyone has seen is kept. If it is not kept, or not published, it is given up, with
-/// all that was tried meanwhile; if it is kept and can't be published, the keeper closes. The tip
-/// is locked after the events are kept, unless it is held; its guard comes back.
+/// Keeps a group by one write and one sync, marks in the log that it stays, and publishes the
+/// snapshot after it. So what anyone has seen is kept for good. If it is not kept, it is given up,
+/// with all that was tried meanwhile. The tip is locked after the events are kept, unless it is
+/// held; its guard comes back. A group that does not follow would be given up too, with a keeper
+/// that closes, and does not occur.
 pub fn publish_group<'a, J: Naming, R: Wait, K: Keeper>(
     rt: &R,
     tip: &'a Mutex<Tip<J, K>>,
@@ -102,7 +152,7 @@ pub fn publish_group<'a, J: Naming, R: Wait, K: Keeper>(
 ) -> (MutexGuard<'a, Tip<J, K>>, Result<(), CommitError>)
     requires held { K.holds keeper.old (kept_of J.before (accepted log.old)) }
     requires may { K.may (kept_of J.before (list_of group.log)) }
-    requires rule { HeldIsKept K.holds J.kept J.before }
+    requires rule { HeldIsKept K.holds K.stays J.kept J.before }
     requires group { IsGroup J.opening K.idle group.log
         (arc_value group.standing.snapshot) group.standing.counts.items group.records.items }
     requires alike { arc_value group.shown ≡ arc_value group.standing.snapshot }

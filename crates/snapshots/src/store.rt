@@ -121,7 +121,7 @@ fn passes_of<J: Naming>(
         let Ok(reader) = desk.reader() else {
             return Err(OpenError::Unavailable);
         };
-        if passes.push(Pass::of(reader, log.share())).is_err() {
+        if passes.push(Pass::of(reader, log)).is_err() {
             return Err(OpenError::Memory);
         }
     }
@@ -214,8 +214,8 @@ impl Store {
         requires world { replayed K.first J.before ≡ Ok (world_of J.opening) }
         // The keeper may be handed what is asked for, and nothing else.
         requires may { MayBeKept K.may J.asked J.opening J.before }
-        // What it holds is kept, and nothing else is known to be.
-        requires rule { HeldIsKept K.holds J.kept J.before }
+        // What it holds for good is kept, and nothing else is known to be.
+        requires rule { HeldIsKept K.holds K.stays J.kept J.before }
         ensures room { MatchResult result (λ _. IsRoom passes seats) (λ e.
             (e ≡ OpenError.BadPasses) ↔ (¬ IsRoom passes seats)) }
         ensures few { IfErr result (λ e. ¬ (e ≡ OpenError.Limit)) }
@@ -245,7 +245,7 @@ impl Store {
         requires kept { K.holds keeper J.before }
         requires world { OpensAsKept K.idle K.first J.before J.opening }
         requires may { MayBeKept K.may J.asked J.opening J.before }
-        requires rule { HeldIsKept K.holds J.kept J.before }
+        requires rule { HeldIsKept K.holds K.stays J.kept J.before }
         ensures passes { IfOk result (λ r.
             (vec_len r.1 ≡ passes) × All (λ p. p ≡ nothing) r.1.items) }
         ensures seats { IfOk result (λ r. (vec_len r.2 ≡ seats) × AreFresh 0 r.2.items) }

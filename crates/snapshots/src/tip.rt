@@ -9,8 +9,9 @@ ghost use Rattle.head.specs.Heads.{world_of};
 ghost use Rattle.head.specs.Worlds.{Event, stepped};
 ghost use Rattle.snapshots.specs.Asking.{AreAsked};
 ghost use Rattle.snapshots.specs.Marks.{accepted, list_of, tried_of};
-ghost use Rattle.snapshots.specs.Grows.{Shows, MayFollow};
-ghost use Rattle.snapshots.specs.Keeping.{kept_of, AreHeld, IsGroup, IsOfKeeping, IsRecordFor};
+ghost use Rattle.snapshots.specs.Grows.{Shows};
+ghost use Rattle.snapshots.specs.Keeping.{kept_of, AreHeld, HeldIsKept, IsGroup, IsOfKeeping};
+ghost use Rattle.snapshots.specs.Keeping.{IsRecordFor};
 ghost use Rattle.snapshots.specs.Replays.{IsAfter, Steps, IsEventRefusal, IsOfStore};
 ghost use Rattle.snapshots.specs.Seats.{FitsSeat, AreCounts, IsMetBy, count_of};
 ghost use Rattle.snapshots.specs.Standings.{StandsFor, current};
@@ -23,13 +24,12 @@ use crate::keeping::push_record;
 use crate::log::LogEnd;
 use crate::naming::Naming;
 use crate::prefix::LogPrefix;
-use crate::press::{Press, publish};
+use crate::press::{Press, show};
 use crate::receipt::Receipt;
 use crate::seat::Seat;
 use crate::standing::Standing;
-use crate::version::Version;
 use crate::waiting::{is_given_up, put_back, set_aside};
-use core::mem::{replace, replace_with};
+use core::mem::replace;
 use head::{CommitError, Snapshot};
 use keeper::Keeper;
 use std::alloc::Global;
@@ -413,9 +413,9 @@ impl<J: Naming, K: Keeper> Tip<J, K> {
         })
     }
 
-    /// Publishes a group that a keeper was handed last, and marks in the log that it stays. The log
-    /// is answered; or the right to take the group back, if it is not published. What was tried
-    /// meanwhile waits.
+    /// Marks in the log that a group stays, which a keeper was handed last, and publishes it. The
+    /// log is answered. What was tried meanwhile waits. A group that does not follow would give the
+    /// right to take it back, and does not occur.
     pub fn publish<R: Wait>(
         &mut self,
         rt: &R,
@@ -428,7 +428,7 @@ impl<J: Naming, K: Keeper> Tip<J, K> {
             (arc_value group.standing.snapshot) group.standing.counts.items group.records.items }
         requires alike { arc_value group.shown ≡ arc_value group.standing.snapshot }
         requires held { K.holds keeper.now (kept_of J.before (list_of group.log)) }
-        requires kept { J.kept (list_of group.log) }
+        requires rule { HeldIsKept K.holds K.stays J.kept J.before }
         // If the right to take it back is given up, the group stays.
         requires settles { (token : K.Settled)
             → ((events more : List Event) → K.kept_last keeper.now last events more
@@ -466,25 +466,12 @@ impl<J: Naming, K: Keeper> Tip<J, K> {
         if !self.log.lists(&log) {
             return Err(last);
         }
-        let next = Version::of(shown, &self.log);
-        let published = replace_with(
-            press,
-            next,
-            |press: Press<J>, next: Version| -> (Press<J>, bool)
-                requires { MayFollow J.book J.opening J.asked J.kept
-                    press.desk.shown.value.version next }
-                ensures { MatchBool result.1 (result.0.desk.shown.value.version ≡ next)
-                    (result.0.desk.shown.value.version ≡ press.desk.shown.value.version) }
-            { publish(rt, press, next) },
-        );
-        if !published {
-            return Err(last);
-        }
         keeper.settle(last);
         self.log.add_done::<K, R>(rt, &self.end);
         self.base = standing;
         self.waits = !self.log.is_settled();
         self.done = self.log.share();
+        show(rt, press, shown, &self.done);
         Ok(self.done.share())
     }
 

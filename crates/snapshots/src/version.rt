@@ -4,13 +4,14 @@ ghost use Rattle.std.specs.Prelude.{◌≡◌, length, IfOk, IfSome};
 ghost use Rattle.std.specs.Arc.{arc_value};
 ghost use mathlib.Core.List.{IsPrefix};
 ghost use Rattle.snapshots.specs.Asking.{AreAsked};
-ghost use Rattle.snapshots.specs.Marks.{accepted, list_of};
+ghost use Rattle.snapshots.specs.Marks.{accepted, list_of, tried_of};
 
 use crate::entry::{Entry, Mark};
 use crate::log::Law;
 use crate::naming::Naming;
 use crate::plate::Plate;
 use crate::prefix::LogPrefix;
+use crate::tally::Tally;
 use crossbeam_utils::rule::{Outcome, Protocol};
 use head::Snapshot;
 use logbook::Seen;
@@ -18,20 +19,21 @@ use std::alloc::AllocError;
 use std::marker::{Model, PhantomData};
 use std::sync::Arc;
 
-/// A snapshot, beside the log that has sealed the last of its events. What is tried after that is
+/// A snapshot, beside the log that has accepted the last of its events. What is tried after that is
 /// in the log too, and not in the list.
 #[derive(Drop)]
 pub struct Version {
     snapshot: Arc<Snapshot>,
     marks: u64,
-    events: u64,
+    tally: Tally,
     seen: Seen<Mark, u64, Law>,
 }
 
 impl Model for Version {
     ghost use Rattle.std.specs.Prelude.{◌≡◌, length};
     ghost use Rattle.std.specs.Arc.{arc_value};
-    ghost use Rattle.snapshots.specs.Marks.{list_of};
+    ghost use Rattle.snapshots.specs.Marks.{accepted, list_of};
+    ghost use Rattle.snapshots.specs.Tallies.{IsTally};
     ghost use Rattle.snapshots.specs.Views.{Edition};
 
     ghost Value = { Edition };
@@ -40,28 +42,34 @@ impl Model for Version {
         record { book = v.seen.book; marks = v.seen.log; parts = arc_value v.snapshot } };
 
     ghost invariant = { λ v.
-        (v.marks ≡ length v.seen.log) × (v.events ≡ length (list_of v.seen.log)) };
+        (v.marks ≡ length v.seen.log) × IsTally v.tally v.seen.log
+        × (accepted v.seen.log ≡ list_of v.seen.log) };
 }
 
 impl Version {
+    /// The version of a log that has accepted all that it sealed.
     pub fn of<J: Naming>(snapshot: Arc<Snapshot>, log: &LogPrefix<J>) -> Version
+        requires { accepted log.now ≡ list_of log.now }
         ensures made { result
             ≡ record { book = J.book; marks = log.now; parts = arc_value snapshot } }
-        ensures asked { AreAsked J.asked (list_of log.now) }
+        ensures asked { AreAsked J.asked (tried_of log.now) }
     {
         Version {
             snapshot,
             marks: log.len(),
-            events: log.listed(),
+            tally: log.tally(),
             seen: log.share_seen(),
         }
     }
 
-    /// How many events its list has.
-    pub fn events(&self) -> u64
-        ensures { result ≡ length (list_of self.now.marks) }
+    /// The log that has accepted its list.
+    pub fn log<J: Naming>(&self) -> LogPrefix<J>
+        requires book { self.now.book ≡ J.book }
+        requires asked { AreAsked J.asked (tried_of self.now.marks) }
+        ensures log { result ≡ self.now.marks }
+        ensures whole { accepted self.now.marks ≡ list_of self.now.marks }
     {
-        self.events
+        LogPrefix::again(self.marks, self.tally, self.seen.again())
     }
 
     pub fn snapshot(&self) -> &Snapshot
@@ -77,7 +85,7 @@ impl Version {
         Ok(Version {
             snapshot: Arc::try_clone(&self.snapshot)?,
             marks: self.marks,
-            events: self.events,
+            tally: self.tally,
             seen: self.seen.again(),
         })
     }

@@ -1,7 +1,7 @@
 -- What is claimed of a reply that was judged over a kept store.
 use Rattle.std.specs.Prelude.{◌≡◌, ◌-◌, ◌==◌, ◌&&◌, ℕ, Bool, true, false, List, [], ◌∷◌, length}
-use Rattle.std.specs.Prelude.{if◌then◌else◌}
-use Rattle.std.specs.List.{flat_map, list_any}
+use Rattle.std.specs.Prelude.{if◌then◌else◌, Option, option_map}
+use Rattle.std.specs.List.{find, flat_map, list_any}
 use Rattle.postings.specs.declared.part_name.PartName.{PartName}
 use Rattle.whole_audit.specs.Grading.{is_right}
 use Rattle.whole_audit.specs.StateLines.{are_right_lines}
@@ -24,6 +24,12 @@ abbrev pub is_of : PartName → StateSubject → Bool
 is_of name (of.Part other) = same_name name other
 is_of name of.Parts = false
 is_of name of.Rows = false
+
+-- what is said of a part, by the first line that speaks of it
+abbrev pub grade_of : List StateLine → PartName → Option Grade
+grade_of lines name =
+    option_map (λ (line : StateLine). line.grade)
+    (find (λ (line : StateLine). is_of name line.subject) lines)
 
 -- whether a judge found what is said of a part right: valid, numbered otherwise, or rightly skipped
 abbrev pub is_found_right : List StateLine → PartName → Bool

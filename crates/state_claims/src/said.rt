@@ -1,7 +1,7 @@
 //! What a judge said of a reply over a kept store.
 
 ghost use Rattle.std.specs.Prelude.{◌≡◌};
-ghost use Rattle.state_claims.specs.Claiming.{is_of};
+ghost use Rattle.state_claims.specs.Claiming.{grade_of, is_of};
 
 use cover::PartName;
 use page_claims::same_name;
@@ -32,8 +32,10 @@ pub(crate) fn is_of(name: PartName, subject: StateSubject) -> bool
     }
 }
 
-/// What is said of a part, if a line speaks of it.
-pub fn grade_of(lines: &[StateLine], name: PartName) -> Option<Grade> {
+/// What is said of a part, by the first line that speaks of it.
+pub fn grade_of(lines: &[StateLine], name: PartName) -> Option<Grade>
+    ensures { result ≡ grade_of lines.now name }
+{
     for line in lines {
         if is_of(name, line.subject) {
             return Some(line.grade);

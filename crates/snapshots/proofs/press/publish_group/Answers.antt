@@ -40,10 +40,6 @@ publish-requires-clause-held g c =
     is_group (accepted c.args.log.now) c.requires.follows g.J.Naming.before (list_of group.log) refl))
     (c.in-Ok.ensures.ok (kept_of g.J.Naming.before (accepted c.args.log.now)) (events_in waiting.more) c.requires.held waiting.spelled)
 
-pub publish-requires-clause-kept : goal.publish-requires-clause-kept
-publish-requires-clause-kept g c =
-    c.requires.rule c.keep.new.keeper (list_of c.args.group.log) (publish-requires-clause-held g c)
-
 pub publish-requires-clause-settles : goal.publish-requires-clause-settles
 publish-requires-clause-settles g c token settled =
     let bytes : c.deref.result.now ≡ c.args.group.records.items = search rules in

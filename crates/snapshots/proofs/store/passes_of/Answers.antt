@@ -1,7 +1,5 @@
-use Rattle.std.proofs.Common.{rules, ◌≡◌, ◌∙◌, ap, List, [], ◌∷◌, ◌++◌}
+use Rattle.std.proofs.Common.{rules, ◌≡◌, ◌∷◌, ◌++◌, []}
 use Rattle.std.proofs.lemmas.List.Elements.{All-push}
-use Rattle.snapshots.specs.declared.entry.Mark.{Mark}
-use Rattle.snapshots.specs.Marks.{accepted}
 use Rattle.snapshots.specs.Views.{Known, nothing}
 use Rattle.snapshots.proofs.Growing.{admits}
 use Rattle.snapshots.proofs.store.passes_of.Goals as goal
@@ -11,9 +9,7 @@ reader-requires g c = admits g.J.Naming.book g.J.Naming.opening g.J.Naming.asked
 
 pub loop-i-preserved : goal.loop-i-preserved
 loop-i-preserved g c =
-    let told : c.of.result ≡ nothing =
-    c.of.ensures ∙ ap (λ (l : List Mark). record { seen = []; told = accepted l }) (c.share.ensures.same ∙ c.requires) in
     let items : c.push.new.self.items ≡ c.loop-i.passes.items ++ c.of.result ∷ [] = search rules in (
       search rules,
-      rw items (All-push (λ (p : Known). p ≡ nothing) c.loop-i.passes.items c.of.result c.loop-i.invariant.1 told),
+      rw items (All-push (λ (p : Known). p ≡ nothing) c.loop-i.passes.items c.of.result c.loop-i.invariant.1 c.of.ensures),
     )

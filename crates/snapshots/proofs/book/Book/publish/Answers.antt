@@ -7,6 +7,7 @@ use Rattle.snapshots.specs.Asking.{AreAsked}
 use Rattle.snapshots.specs.Keeping.{kept_of, AreKeptBetween, IsOfAllKept}
 use Rattle.snapshots.specs.Views.{Published}
 use Rattle.snapshots.specs.Marks.{accepted, list_of}
+use Rattle.snapshots.proofs.Asked.{shows_asked}
 use Rattle.snapshots.proofs.Between.{all_between, finds_between, group_between}
 use Rattle.snapshots.proofs.Keeps.{of_all_kept}
 use Rattle.snapshots.proofs.Prefixes.{prefix_self}
@@ -21,6 +22,12 @@ returns-then-not-accepts_as-clause-durable g c =
     (of_all_kept g.K.Keeper.idle g.K.Keeper.first g.J.Naming.before g.J.Naming.opening
     (accepted c.self.inside.log) c.self.inside.press.desk.shown.value.version.parts c.self.invariant.2
     c.self.invariant.0.2)
+
+pub returns-then-not-accepts_as-clause-asked : goal.returns-then-not-accepts_as-clause-asked
+returns-then-not-accepts_as-clause-asked g c =
+    subst (λ (p : Published _). AreAsked g.J.Naming.asked p.entries) c.self.view_is
+    (shows_asked g.J.Naming.asked g.J.Naming.book g.J.Naming.opening g.J.Naming.kept
+    c.self.inside.press.desk.shown.value.version (accepted c.self.inside.log) c.self.invariant.0)
 
 pub returns-then-not-accepts_as-clause-begins : goal.returns-then-not-accepts_as-clause-begins
 returns-then-not-accepts_as-clause-begins g c = prefix_self c.args.self.now.entries
@@ -49,6 +56,11 @@ returns-then-not-accepts_as-clause-finds g c opened keeps left had =
     left ((returns-then-not-accepts_as-clause-in_flight g c opened).each left had)
 
 -- it follows
+
+pub returns-clause-asked : goal.returns-clause-asked
+returns-clause-asked g c =
+    shows_asked g.J.Naming.asked g.J.Naming.book g.J.Naming.opening g.J.Naming.kept
+    c.publish_group.new.press.desk.shown.value.version (accepted c.publish_group.new.log) c.publish_group.ensures.shown
 
 pub returns-clause-durable : goal.returns-clause-durable
 returns-clause-durable g c =

@@ -1,3 +1,5 @@
+use Rattle.snapshots.specs.Marks.{tried_of}
+use Rattle.snapshots.proofs.Asked.{accepted_asked}
 use Rattle.snapshots.proofs.Growing.{enters}
 use Rattle.snapshots.proofs.pass.Pass.snapshot.Goals as goal
 use Rattle.snapshots.proofs.pass.Pass.snapshot.Goals.{in-Some-taken, in-None}
@@ -8,9 +10,15 @@ enter_as-requires g c = enters _ _ _ _ _ _
 pub returns-after-taken-clause-told : goal.returns-after-taken-clause-told
 returns-after-taken-clause-told g c = elim c.match-taken.branch [
   | in-Some-taken w ↦ (rw (w.result-is, ← c.self.view_is) (rw (
-    c.leave.ensures.1,
-    ← c.in-Ok.ensures.1.0.1,
-    ← c.get.ensures,
+    c.log-seen.ensures.log,
+    c.log-seen.ensures.whole,
   ) (w.in-Some-taken.ensures).told))
+  | in-None w ↦ rw w.result-is tt
+]
+
+pub returns-after-taken-clause-asked : goal.returns-after-taken-clause-asked
+returns-after-taken-clause-asked g c = elim c.match-taken.branch [
+  | in-Some-taken w ↦ (rw w.result-is (accepted_asked g.J.Naming.asked c.log-seen.result
+    (rw (c.log-seen.ensures.log, c.get.ensures) (c.in-Ok.ensures.1.0.3))))
   | in-None w ↦ rw w.result-is tt
 ]

@@ -1,9 +1,9 @@
-use Rattle.std.proofs.Common.{◌≡◌, ◌∙◌, ap, true, not, rules}
+use Rattle.std.proofs.Common.{◌≡◌, ◌∙◌, ap, inr, true, not, rules}
 use Rattle.std.specs.Arc.{arc_value}
 use Rattle.snapshots.specs.Marks.{accepted, list_of}
 use Rattle.snapshots.specs.Views.{Ledger}
 use Rattle.snapshots.proofs.Held.{held_as, held_by}
-use Rattle.snapshots.proofs.Tips.{accepted_done, behind_kept, behind_while, done_behind, done_current, done_stands, listed, published_begins, stands_tried}
+use Rattle.snapshots.proofs.Tips.{accepted_done, behind_kept, behind_while, done_begins, done_behind, done_current, done_stands, done_whole, listed, published_begins, stands_as, stands_tried}
 use Rattle.snapshots.proofs.tip.Tip.publish.Goals as goal
 
 pub invariant_of-self-2 : goal.invariant_of-self-2
@@ -60,8 +60,36 @@ returns-then-not-has_room-clause-ordered g c = published_begins c.self.inside.wa
 pub returns-then-not-lists-clause-ordered : goal.returns-then-not-lists-clause-ordered
 returns-then-not-lists-clause-ordered g c = published_begins c.self.inside.waits c.self.inside.log
 
-pub returns-then-not-published-clause-ordered : goal.returns-then-not-published-clause-ordered
-returns-then-not-published-clause-ordered g c = published_begins c.self.inside.waits c.self.inside.log
-
 pub returns-clause-ordered : goal.returns-clause-ordered
 returns-clause-ordered g c = published_begins (not c.is_settled.result) c.add_done.new.self
+
+pub show-requires-clause-whole : goal.show-requires-clause-whole
+show-requires-clause-whole g c =
+    let t = c.self.inside in
+    let group = c.args.group in
+    rw c.share.ensures.same (done_whole g.J.Naming.book g.J.Naming.opening g.K.Keeper.idle group.log t.log (arc_value group.standing.snapshot)
+    group.standing.counts.items group.records.items c.requires.group c.if-not-lists.ensures.lists c.add_done.new.self c.add_done.ensures)
+
+pub show-requires-clause-begins : goal.show-requires-clause-begins
+show-requires-clause-begins g c =
+    let t = c.self.inside in
+    let group = c.args.group in
+    rw c.share.ensures.same (done_begins g.J.Naming.book g.J.Naming.opening g.K.Keeper.idle group.log t.log (arc_value group.standing.snapshot)
+    group.standing.counts.items group.records.items c.requires.group c.if-not-lists.ensures.lists c.add_done.new.self c.add_done.ensures _ c.requires.shown.1)
+
+pub show-requires-clause-after : goal.show-requires-clause-after
+show-requires-clause-after g c =
+    let t = c.self.inside in
+    let group = c.args.group in
+    let done = accepted_done g.J.Naming.book g.J.Naming.opening g.K.Keeper.idle group.log t.log (arc_value group.standing.snapshot)
+    group.standing.counts.items group.records.items c.requires.group c.if-not-lists.ensures.lists c.add_done.new.self c.add_done.ensures in
+    rw (c.share.ensures.same, done, c.requires.alike) c.requires.group.stands.after
+
+pub show-requires-clause-kept : goal.show-requires-clause-kept
+show-requires-clause-kept g c =
+    let t = c.self.inside in
+    let group = c.args.group in
+    let done = accepted_done g.J.Naming.book g.J.Naming.opening g.K.Keeper.idle group.log t.log (arc_value group.standing.snapshot)
+    group.standing.counts.items group.records.items c.requires.group c.if-not-lists.ensures.lists c.add_done.new.self c.add_done.ensures in
+    rw (c.share.ensures.same, done) (c.requires.rule c.args.keeper.now (list_of group.log) c.requires.held
+    (inr (c.settle.result, c.requires.settles c.settle.result c.settle.ensures)))
