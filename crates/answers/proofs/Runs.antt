@@ -16,8 +16,8 @@ use Rattle.answers.specs.AfterCommas.{after_commas, run_text, searched_front, se
 use Rattle.answers.specs.AfterCommas.{with_bracket}
 use Rattle.answers.specs.Joined.{joined}
 use Rattle.answers.specs.Kept.{whole_of}
-use Rattle.answers.specs.declared.kept.AnswerText.{AnswerText}
-use Rattle.answers.specs.declared.kept.Spot.{Spot}
+use Rattle.answers.specs.declared.text_pieces.AnswerText.{AnswerText}
+use Rattle.answers.specs.declared.text_pieces.Spot.{Spot}
 use Rattle.answers.proofs.Lists.{opened_later, first_and_rest}
 use Rattle.answers.proofs.Objects.{searched_text, whole_text}
 

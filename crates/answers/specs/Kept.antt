@@ -1,6 +1,6 @@
 -- What stands for the text of an answer while it is kept.
 use Rattle.std.specs.Prelude.{ℕ, List, ◌++◌, codes, slice_range}
-use Rattle.answers.specs.declared.kept.AnswerText.{AnswerText}
+use Rattle.answers.specs.declared.text_pieces.AnswerText.{AnswerText}
 use Rattle.answers.specs.Joined.{joined}
 
 -- the text of the pieces that come once more

@@ -14,13 +14,13 @@ ghost use Rattle.answers.specs.MergedRows.{rows_of};
 
 use crate::audited::AuditedAnswer;
 use crate::brackets::open_list;
-use crate::kept::AnswerText;
 use crate::part_pieces::parts_in_pieces;
 use crate::parts::{
     append_parts, append_parts_after_commas, append_searched_back, append_searched_front,
 };
 use crate::pieces::{LONG, room_of_rows, rows_in_pieces};
 use crate::rows::append_rows;
+use crate::text_pieces::AnswerText;
 use crate::told::{told_behind, told_once, told_twice};
 use block_search::AnsweredPart;
 use cover::PartAnswer;

@@ -6,7 +6,7 @@ ghost use Rattle.std.specs.Char.{digit_char};
 ghost use Rattle.json.specs.Run.{is_plain};
 ghost use Rattle.json.specs.Print.{escape, escape_byte, escape_letter, quoted};
 
-use crate::plain;
+use crate::unescaped;
 use std::alloc::AllocError;
 
 /// Where the bytes end that need no escape.
@@ -86,7 +86,7 @@ fn append_escaped(out: &mut Vec<u8>, text: &[u8], close: &[u8]) -> Result<(), Al
 pub(crate) fn append_closed(out: &mut Vec<u8>, text: &[u8], close: &[u8]) -> Result<(), AllocError>
     ensures { OnOk result (out.new.items ≡ out.old.items ++ (escape text.now ++ close.now)) }
 {
-    if !plain::is_plain(text) {
+    if !unescaped::is_plain(text) {
         return append_escaped(out, text, close);
     }
     out.extend_from_slice(text)?;

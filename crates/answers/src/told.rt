@@ -4,7 +4,7 @@ ghost use Rattle.std.specs.Prelude.{◌≡◌, ◌++◌, ◌∷◌, IfOk, codes}
 ghost use Rattle.answers.specs.Joined.{joined};
 ghost use Rattle.answers.specs.Kept.{whole_of};
 
-use crate::kept::{AnswerText, Spot};
+use crate::text_pieces::{AnswerText, Spot};
 use std::alloc::{AllocError, Global};
 
 /// A text, with pieces behind it.

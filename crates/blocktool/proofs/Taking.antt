@@ -6,7 +6,7 @@ use Rattle.std.proofs.Math.Seq.{drop-cons}
 use Rattle.std.specs.Borrow.{Bor}
 use Rattle.block.specs.Blocks.{Shown}
 use Rattle.block_folder.specs.declared.values.Values.{Values}
-use Rattle.blocktool.specs.declared.own.Opened.{Opened}
+use Rattle.blocktool.specs.declared.own_blocks.Opened.{Opened}
 use Rattle.blocktool.specs.Opening.{AreAdded, AreTaken, HasDigits, HasValues, MayOpen, Taken}
 use Rattle.blocktool.specs.Opening.{Takes, names_in}
 

@@ -15,7 +15,7 @@ use Rattle.exposition.specs.Refusing.{IfRefused, IsRefused}
 use Rattle.block_outputs.specs.declared.tiles.Stretch.{Stretch}
 use Rattle.blocktool.specs.declared.fault.Fault.{Fault}
 use Rattle.blocktool.specs.declared.fault.Fault.TheVariants.{Memory, Other, Text}
-use Rattle.blocktool.specs.declared.said.Said.{Said}
+use Rattle.blocktool.specs.declared.text_input.Said.{Said}
 use Rattle.blocktool.specs.Texts.{AreAllowed, AreLeftOut, IsOtherRefused, IsSaidBy}
 use Rattle.blocktool.specs.Texts.{IsTextRefused}
 use Rattle.blocktool.specs.Texts.{IsToldFor, IsToldOf, IsToldRefused, first_within}

@@ -8,7 +8,7 @@ use Rattle.block_folder.specs.declared.values.Values.{Values}
 use Rattle.block_folder.specs.declared.values.Values.TheVariants.{Doubles, Whole}
 use Rattle.labels.specs.Parts.{rows_in}
 use Rattle.labels.specs.Rows.{Row}
-use Rattle.blocktool.specs.declared.own.Opened.{Opened}
+use Rattle.blocktool.specs.declared.own_blocks.Opened.{Opened}
 use Rattle.blocktool.specs.declared.rewrite.Inputs.{Inputs}
 use Rattle.blocktool.specs.declared.listed.Listed.{Listed}
 use Rattle.blocktool.specs.Rewriting.{are_small}

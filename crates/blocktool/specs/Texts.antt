@@ -27,7 +27,7 @@ use Rattle.block_outputs.specs.declared.tiles.Stretch.{Stretch}
 use Rattle.block_outputs.specs.Contents.{restricted}
 use Rattle.blocktool.specs.declared.fault.Fault.{Fault}
 use Rattle.blocktool.specs.declared.fault.Fault.TheVariants.{Memory, Other, Text}
-use Rattle.blocktool.specs.declared.said.Said.{Said}
+use Rattle.blocktool.specs.declared.text_input.Said.{Said}
 use Rattle.blocktool.specs.declared.to_openmetrics.Shown.{Shown}
 use Rattle.blocktool.specs.declared.to_openmetrics.Shown.TheVariants.{Decimals, Doubles}
 use Rattle.blocktool.specs.Conversion.{capped}

@@ -4,10 +4,10 @@ ghost use Rattle.std.specs.Prelude.{IfOk, None};
 ghost use Rattle.blocktool.specs.Opening.{AreAdded, names_in};
 
 use crate::fault::Fault;
-use crate::kept::{lock_store, not_changed};
-use crate::own::OpensOwn;
+use crate::own_blocks::OpensOwn;
+use crate::progress::Teller;
+use crate::store_lock::{lock_store, not_changed};
 use crate::target::send;
-use crate::teller::Teller;
 use block::Block;
 use block_folder::Values;
 use data_folder::HostFolder;

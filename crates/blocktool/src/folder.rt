@@ -2,7 +2,7 @@
 
 use crate::fault::Fault;
 use crate::files::read_file;
-use crate::teller::Teller;
+use crate::progress::Teller;
 use block::{BlockError, Range};
 use std::alloc::Global;
 use std::fs;

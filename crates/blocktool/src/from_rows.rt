@@ -6,9 +6,9 @@ ghost use Rattle.blocktool.specs.Texts.{AreRowsOfReply, AreRowsSaid, around, is_
 
 use crate::fault::Fault;
 use crate::listed::Listed;
-use crate::said::{Said, write_said};
+use crate::progress::Teller;
 use crate::target::Target;
-use crate::teller::Teller;
+use crate::text_input::{Said, write_said};
 use crate::texts::read_text;
 use crate::to_openmetrics::reply_of;
 use block_outputs::Stretch;

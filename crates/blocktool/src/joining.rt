@@ -1,9 +1,9 @@
 //! The blocks of a store that is kept in a folder, joined.
 
 use crate::fault::Fault;
-use crate::kept::{lock_store, not_changed};
+use crate::progress::Teller;
+use crate::store_lock::{lock_store, not_changed};
 use crate::target::send;
-use crate::teller::Teller;
 use data_folder::HostFolder;
 use std::alloc::{AllocError, Global};
 use std::io::Write;

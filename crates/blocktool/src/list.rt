@@ -1,7 +1,7 @@
 //! What blocks of this project have.
 
 use crate::fault::Fault;
-use crate::own::{Opened, open_own};
+use crate::own_blocks::{Opened, open_own};
 use crate::target::send;
 use labels::{Row, SeriesRef};
 use std::alloc::{AllocError, Global};

@@ -9,10 +9,10 @@ ghost use Rattle.blocktool.specs.Rewriting.{SmallNumbersStandForThemselves, are_
 
 use crate::fault::Fault;
 use crate::listed::Listed;
-use crate::own::{Opened, OpensOwn};
+use crate::own_blocks::{Opened, OpensOwn};
 use crate::plan::plan_for;
+use crate::progress::Teller;
 use crate::target::Target;
-use crate::teller::Teller;
 use crate::writing::write_planned;
 use block_folder::Values;
 use block_outputs::Stretch;

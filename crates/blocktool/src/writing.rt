@@ -3,8 +3,8 @@
 use crate::fault::Fault;
 use crate::input::Input;
 use crate::plan::{Plan, make_outputs};
+use crate::progress::Teller;
 use crate::target::{Target, make_folder, send};
-use crate::teller::Teller;
 use block_folder::HostDisk;
 use std::alloc::Global;
 use std::io::Write;

@@ -12,8 +12,8 @@ use Rattle.matchers.specs.declared.matcher.Op.{Op}
 use Rattle.matchers.specs.declared.matcher.Op.TheVariants.{Equal, NotEqual, Like, NotLike}
 use Rattle.kept_walk.specs.declared.fault.Fault.{Fault}
 use Rattle.kept_walk.specs.declared.fault.Fault.TheVariants as faults
-use Rattle.kept_walk.specs.declared.kept.Values.{Values}
-use Rattle.kept_walk.specs.declared.kept.Values.TheVariants.{Whole, Doubles}
+use Rattle.kept_walk.specs.declared.journal_state.Values.{Values}
+use Rattle.kept_walk.specs.declared.journal_state.Values.TheVariants.{Whole, Doubles}
 use Rattle.kept_walk.specs.Contents.{event_text, HasText, is_bounded, head_kind}
 use Rattle.kept_walk.specs.Contents.{SpellsEvent, SpellsSeries, SpellsOpening}
 use Rattle.kept_walk.specs.Fields as form

@@ -20,7 +20,7 @@ use Rattle.kept_walk.specs.declared.fault.EventFault.{EventFault}
 use Rattle.kept_walk.specs.declared.fault.EventFault.TheVariants as faults
 use Rattle.kept_walk.specs.declared.fault.Fault.TheVariants.{Form}
 use Rattle.kept_walk.specs.declared.fault.Fault.{Fault}
-use Rattle.kept_walk.specs.declared.kept.Change.{Change}
+use Rattle.kept_walk.specs.declared.journal_state.Change.{Change}
 use Rattle.kept_walk.proofs.ByNumber.{numbered_again}
 use Rattle.kept_walk.proofs.Contents.{event_read}
 

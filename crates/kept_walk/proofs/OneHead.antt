@@ -8,7 +8,7 @@ use Rattle.wire.proofs.Steps.{same_value}
 use Rattle.kept_walk.specs.Contents.{BeginsWithHead, SpellsOpening, SpellsSeries}
 use Rattle.kept_walk.specs.Kept.{Series, Store, Event}
 use Rattle.kept_walk.specs.Reading.{Opening}
-use Rattle.kept_walk.specs.declared.kept.Values.{Values}
+use Rattle.kept_walk.specs.declared.journal_state.Values.{Values}
 use Rattle.kept_walk.proofs.Contents.{opening_read, series_read}
 use Rattle.kept_walk.proofs.InTurn.{unique}
 

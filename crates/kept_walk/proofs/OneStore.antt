@@ -14,8 +14,8 @@ use Rattle.kept_walk.specs.Refusals.{Denies, FindsStore, GivesStore, HasRefusedM
 use Rattle.kept_walk.specs.Refusals.{IsNoEvent, IsRefusedEvent, StopsAt}
 use Rattle.kept_walk.specs.declared.error.KeptError.{KeptError}
 use Rattle.kept_walk.specs.declared.error.KeptError.TheVariants as errors
-use Rattle.kept_walk.specs.declared.kept.Values.{Values}
-use Rattle.kept_walk.specs.declared.kept.Values.TheVariants.{Whole, Doubles}
+use Rattle.kept_walk.specs.declared.journal_state.Values.{Values}
+use Rattle.kept_walk.specs.declared.journal_state.Values.TheVariants.{Whole, Doubles}
 use Rattle.kept_walk.proofs.FromNames.{one_by, one_from, placed_from}
 use Rattle.kept_walk.proofs.OneHead.{one_head, one_store}
 

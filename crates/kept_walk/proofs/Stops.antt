@@ -12,7 +12,7 @@ use Rattle.kept_walk.specs.Refusals.{DeniesEvents, FindsChange, StopsAt, refused
 use Rattle.kept_walk.proofs.FromNames.{from_long}
 use Rattle.kept_walk.specs.declared.fault.EventFault.{EventFault}
 use Rattle.kept_walk.specs.declared.fault.EventFault.TheVariants as faults
-use Rattle.kept_walk.specs.declared.kept.Change.{Change}
+use Rattle.kept_walk.specs.declared.journal_state.Change.{Change}
 
 abbrev Bytes : Type 0
 Bytes = Vec ℕ Global

@@ -7,8 +7,8 @@ use Rattle.labels.specs.Contents.{is_time}
 use Rattle.labels.specs.Rows.{Row}
 use Rattle.matchers.specs.Queries.{is_query_range}
 use Rattle.journal.specs.Records.{Recovers}
-use Rattle.kept_walk.specs.declared.kept.Values.{Values}
-use Rattle.kept_walk.specs.declared.kept.Values.TheVariants.{Whole, Doubles}
+use Rattle.kept_walk.specs.declared.journal_state.Values.{Values}
+use Rattle.kept_walk.specs.declared.journal_state.Values.TheVariants.{Whole, Doubles}
 use Rattle.kept_walk.specs.Fields as form
 use Rattle.kept_walk.specs.Forms.{signed}
 use Rattle.kept_walk.specs.Kept.{Event, batch, deletion, cut, Series, Store}

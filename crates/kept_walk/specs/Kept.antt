@@ -3,9 +3,9 @@ use Rattle.std.specs.Prelude.{ℕ, ℤ, List}
 use Rattle.labels.specs.Labels.{Labels}
 use Rattle.labels.specs.Rows.{Row}
 use Rattle.matchers.specs.Views.{MatcherView}
-use Rattle.kept_walk.specs.declared.kept.Values.{Values}
-use Rattle.kept_walk.specs.declared.kept.Change.{Change}
-use Rattle.kept_walk.specs.declared.kept.Change.TheVariants.{Batch, Deletion, Cut}
+use Rattle.kept_walk.specs.declared.journal_state.Values.{Values}
+use Rattle.kept_walk.specs.declared.journal_state.Change.{Change}
+use Rattle.kept_walk.specs.declared.journal_state.Change.TheVariants.{Batch, Deletion, Cut}
 
 -- a batch by its runs, each a label set with samples; a deletion of what lies in a closed range of
 -- times and is of series that satisfy all matchers; or a cut at a time

@@ -12,8 +12,8 @@ use Rattle.matchers.specs.declared.matcher.Op.{Op}
 use Rattle.matchers.specs.declared.matcher.Op.TheVariants.{Equal, NotEqual, Like, NotLike}
 use Rattle.kept_walk.specs.declared.fault.Fault.{Fault}
 use Rattle.kept_walk.specs.declared.fault.Fault.TheVariants as faults
-use Rattle.kept_walk.specs.declared.kept.Values.{Values}
-use Rattle.kept_walk.specs.declared.kept.Values.TheVariants.{Whole, Doubles}
+use Rattle.kept_walk.specs.declared.journal_state.Values.{Values}
+use Rattle.kept_walk.specs.declared.journal_state.Values.TheVariants.{Whole, Doubles}
 use Rattle.kept_walk.specs.Contents.{is_bounded}
 use Rattle.kept_walk.specs.Fields.{is_label_set, is_filled, each_next, differs, is_op}
 use Rattle.kept_walk.specs.Kept.{Event, batch, deletion, cut, Series}

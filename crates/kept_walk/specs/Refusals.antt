@@ -17,7 +17,7 @@ use Rattle.kept_walk.specs.Kept.{Event, batch, deletion, cut, event_of, Store}
 use Rattle.kept_walk.specs.Numbered.{Names}
 use Rattle.kept_walk.specs.declared.fault.EventFault.{EventFault}
 use Rattle.kept_walk.specs.declared.fault.EventFault.TheVariants as faults
-use Rattle.kept_walk.specs.declared.kept.Change.{Change}
+use Rattle.kept_walk.specs.declared.journal_state.Change.{Change}
 use Rattle.kept_walk.specs.declared.error.KeptError.{KeptError}
 use Rattle.kept_walk.specs.declared.error.KeptError.TheVariants as errors
 

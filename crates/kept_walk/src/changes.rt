@@ -11,7 +11,7 @@ ghost use Rattle.kept_walk.specs.Refusals.{MayBeRefused, refused_at};
 use crate::error::KeptError;
 use crate::events::read_event;
 use crate::fault::{EventFault, Fault};
-use crate::kept::Change;
+use crate::journal_state::Change;
 use crate::numbers::numbered_of;
 use crate::parts::{EventParts, MatcherParts};
 use matchers::{Matcher, MatcherError};

@@ -11,7 +11,7 @@ ghost use Rattle.kept_walk.specs.Reading.{op_of, pair_at, place_at, run_at, runs
 ghost use Rattle.kept_walk.specs.Reading.{samples_at, series_at, string_at};
 
 use crate::fault::Fault;
-use crate::kept::KeptSeries;
+use crate::journal_state::KeptSeries;
 use crate::neighbours::{are_labels, differ};
 use crate::parts::MatcherParts;
 use labels::{LabelSet, Row, Sample};

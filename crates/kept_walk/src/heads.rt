@@ -11,7 +11,7 @@ ghost use Rattle.kept_walk.specs.Reading.{all_of, opening_of, opening_whole, ser
 
 use crate::fault::Fault;
 use crate::fields::{places_of, series_of};
-use crate::kept::{KeptSeries, Values};
+use crate::journal_state::{KeptSeries, Values};
 use crate::parts::{HeadParts, OpeningParts};
 use std::alloc::{AllocError, Global};
 use wire::Cut;

@@ -30,11 +30,11 @@ mod events;
 mod fault;
 mod fields;
 mod heads;
-mod kept;
+mod journal_state;
 mod neighbours;
 mod numbers;
 mod parts;
 mod reading;
 
 pub use error::KeptError;
-pub use kept::{Change, Kept, KeptSeries, Values};
+pub use journal_state::{Change, Kept, KeptSeries, Values};

@@ -2,7 +2,7 @@
 
 ghost use Rattle.std.specs.Prelude.{◌≡◌};
 
-use crate::kept::{KeptSeries, Values};
+use crate::journal_state::{KeptSeries, Values};
 use labels::Row;
 use matchers::Op;
 use std::marker::Model;

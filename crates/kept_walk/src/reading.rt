@@ -11,7 +11,7 @@ use crate::changes::each_change;
 use crate::error::KeptError;
 use crate::fault::Fault;
 use crate::heads::read_head;
-use crate::kept::{Kept, Values};
+use crate::journal_state::{Kept, Values};
 use crate::parts::HeadParts;
 use journal::{JournalError, recover};
 use labels::MIN_TIME;

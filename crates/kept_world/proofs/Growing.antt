@@ -10,7 +10,7 @@ use Rattle.labels.specs.Rows.{Row}
 use Rattle.labels.specs.Parts.{Part}
 use Rattle.matchers.specs.Satisfies.{satisfies_all}
 use Rattle.kept_walk.specs.Kept.{Event, event_of, batch, deletion, cut}
-use Rattle.kept_walk.specs.declared.kept.Change.{Change}
+use Rattle.kept_walk.specs.declared.journal_state.Change.{Change}
 use Rattle.kept_world.specs.States.{Born, HeadSeries, State, Entry, shown, shown_row, samples_of, with_last, grown, new_series, placed, has_room, max_samples, before_all, behind, added, added_each, entries_of, deleted, with_block, with_blocks, raised, rows_below, stepped, with_head, state_from, state_after}
 use Rattle.kept_world.specs.Births.{came_row, came_by, AreBornBy, IsPartOf, IsHeadAt, OnlyGrows, batches}
 

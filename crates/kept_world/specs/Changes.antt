@@ -1,7 +1,7 @@
 -- Events as code has them, and the states that they lead to.
 use Rattle.std.specs.Prelude.{◌≡◌, ◌+◌, ◌<◌, ℕ, List, map, take, length, Some, None}
 use Rattle.kept_walk.specs.Kept.{Event, event_of}
-use Rattle.kept_walk.specs.declared.kept.Change.{Change}
+use Rattle.kept_walk.specs.declared.journal_state.Change.{Change}
 use Rattle.kept_world.specs.States.{State, state_after}
 use Rattle.kept_world.specs.declared.world.Replay.{Replay}
 use Rattle.kept_world.specs.declared.world.Replay.TheVariants.{Last, Refused}

@@ -28,7 +28,7 @@ use Rattle.page.specs.declared.write.Page.{Page}
 use Rattle.page.specs.Asking.{IsSaid}
 use Rattle.page.specs.Saying.{claim_text, plain_claim, plain_state, state_text}
 use Rattle.state_claims.specs.Claiming.{IsStateClaimed, unjudged_in}
-use Rattle.state_claims.specs.declared.said.StateSaid.{StateSaid}
+use Rattle.state_claims.specs.declared.verdicts.StateSaid.{StateSaid}
 
 -- what a judge said over a store, if one was asked
 abbrev pub state_of : Shown → Option StateSaid

@@ -10,7 +10,7 @@ use Rattle.page_claims.specs.declared.claim.Completeness.{Completeness}
 use Rattle.page_claims.specs.declared.claim.Completeness.TheVariants.{Judged, DirectoriesJudged}
 use Rattle.page_claims.specs.declared.claim.Completeness.TheVariants.{Certified, NotShown}
 use Rattle.state_claims.specs.Claiming.{is_right_of_state, otherwise_of}
-use Rattle.state_claims.specs.declared.said.StateSaid.{StateSaid}
+use Rattle.state_claims.specs.declared.verdicts.StateSaid.{StateSaid}
 
 -- a green box for a claim that a judge stands behind, a red one for a claim that is not made, and
 -- else a plain one

@@ -16,6 +16,6 @@
 #![tactic(auto)]
 
 mod answer;
-mod kept;
+mod cache;
 
-pub use kept::{KeptSelectors, MAX_KEPT_BYTES, MAX_KEPT_PATTERNS};
+pub use cache::{KeptSelectors, MAX_KEPT_BYTES, MAX_KEPT_PATTERNS};

@@ -16,7 +16,7 @@ ghost use Rattle.snapshots.specs.Replays.{IsAfter};
 use crate::group::Group;
 use crate::naming::Naming;
 use crate::prefix::LogPrefix;
-use crate::press::{Press, publish_group, roll_if_due, taken};
+use crate::publishing::{Press, publish_group, roll_if_due, taken};
 use crate::tip::Tip;
 use head::CommitError;
 use keeper::{KeepError, Keeper, NoKeeper};

@@ -2,7 +2,7 @@
 
 use crate::naming::Naming;
 use crate::prefix::LogPrefix;
-use crate::standing::Standing;
+use crate::replayed_state::Standing;
 use head::Snapshot;
 use std::sync::Arc;
 

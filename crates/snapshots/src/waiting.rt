@@ -8,7 +8,7 @@ ghost use Rattle.snapshots.specs.Tips.{IsBehind};
 
 use crate::naming::Naming;
 use crate::prefix::LogPrefix;
-use crate::standing::Standing;
+use crate::replayed_state::Standing;
 use core::mem::swap;
 use keeper::Keeper;
 use std::alloc::{AllocError, Global};

@@ -15,7 +15,7 @@ use Rattle.page_claims.specs.Judging.{names_of, same_name, names_in_order}
 use Rattle.page_claims.specs.declared.claim.Completeness.{Completeness}
 use Rattle.page_claims.specs.declared.claim.Completeness.TheVariants.{Judged, Certified, NotShown}
 use Rattle.page_claims.specs.declared.told.Told.{Told}
-use Rattle.state_claims.specs.declared.said.StateSaid.{StateSaid}
+use Rattle.state_claims.specs.declared.verdicts.StateSaid.{StateSaid}
 
 -- THE LINES
 

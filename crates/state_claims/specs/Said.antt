@@ -1,7 +1,7 @@
 -- What is shown of a state that a judge found.
 use Rattle.std.specs.Prelude.{◌≡◌, ⊤, Option, None, Some, string_bytes}
 use Rattle.state_claims.specs.declared.found.FoundState.{FoundState}
-use Rattle.state_claims.specs.declared.said.StateSaid.{StateSaid}
+use Rattle.state_claims.specs.declared.verdicts.StateSaid.{StateSaid}
 
 -- what is shown of a state is what was found
 pub record IsSaidOf (state : FoundState) (said : StateSaid) : Type 0 where

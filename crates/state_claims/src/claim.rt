@@ -9,7 +9,7 @@ ghost use Rattle.state_claims.specs.Claiming.{IsStateClaimed, completeness_over,
 ghost use Rattle.state_claims.specs.Claiming.{is_otherwise, is_right_of_state, is_whole};
 ghost use Rattle.state_claims.specs.Claiming.{otherwise_of, part_in, unjudged_in};
 
-use crate::said::{StateSaid, is_of};
+use crate::verdicts::{StateSaid, is_of};
 use cover::PartName;
 use page_claims::{Claim, Completeness, Told, find_claim, names_in_order, names_of};
 use std::alloc::{AllocError, Global};

@@ -2,7 +2,7 @@
 
 ghost use Rattle.state_claims.specs.Said.{IsSaidOf, ShowsState};
 
-use crate::said::StateSaid;
+use crate::verdicts::StateSaid;
 use whole_audit::StateLine;
 
 /// The lines of a reply over a state of a store, and which state it is.

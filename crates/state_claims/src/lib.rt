@@ -16,8 +16,8 @@
 
 mod claim;
 mod found;
-mod said;
+mod verdicts;
 
 pub use claim::{find_state_claim, is_right_of_state, otherwise_of};
 pub use found::{FoundState, said_in};
-pub use said::{StateSaid, grade_of};
+pub use verdicts::{StateSaid, grade_of};

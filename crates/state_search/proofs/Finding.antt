@@ -3,7 +3,7 @@ use Rattle.std.proofs.Common.{◌≡◌, ℕ, ◌+◌, ◌<◌, ◌≤◌, inl, 
 use Rattle.std.proofs.lemmas.Bool.{cases_lt}
 use Rattle.labels.specs.Parts.{Part}
 use Rattle.kept_walk.specs.Kept.{Event, event_of, batch, deletion, cut}
-use Rattle.kept_walk.specs.declared.kept.Change.{Change}
+use Rattle.kept_walk.specs.declared.journal_state.Change.{Change}
 use Rattle.kept_world.specs.States.{State, numbered, stepped, state_from, state_after}
 use Rattle.kept_world.specs.Changes.{LeadsTo, IsRefusedAt, events_of}
 use Rattle.kept_world.proofs.Growing.{next_number, from-append}

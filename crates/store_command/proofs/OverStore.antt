@@ -9,7 +9,7 @@ use Rattle.auditor.specs.declared.judgement.BlockTable.TheVariants.{Walked}
 use Rattle.audit_command.specs.declared.fault.Fault.TheVariants as faults
 use Rattle.kept_folder.specs.declared.reading.FoundStore.{FoundStore}
 use Rattle.kept_walk.specs.Kept.{Event, event_of}
-use Rattle.kept_walk.specs.declared.kept.Change.{Change}
+use Rattle.kept_walk.specs.declared.journal_state.Change.{Change}
 use Rattle.store_audit.specs.Reports.{IsJudgement}
 use Rattle.store_audit.specs.declared.judging.StateReport.{StateReport}
 use Rattle.store_audit.specs.declared.judging.StoreJudgement.{StoreJudgement}

@@ -23,8 +23,8 @@ ghost use Rattle.store_folder.specs.declared.error.StartCause.TheVariants.{Refus
 
 use crate::blocks::read_blocks;
 use crate::error::StartError;
+use crate::headless::{adopt, begins_plain};
 use crate::journals::{FoundJournal, read_journal};
-use crate::plain::{adopt, begins_plain};
 use block::Block;
 use data_folder::{Folder, JOURNAL};
 use std::alloc::Global;

@@ -3,7 +3,7 @@
 ghost use Rattle.std.specs.Prelude.{◌≡◌};
 ghost use Rattle.store_folder.specs.Starting.{is_due};
 
-use crate::kinds::has_cut;
+use crate::event_kinds::has_cut;
 use crate::starting::StartedStore;
 use crate::store_journal::Beginning;
 use data_folder::Folder;

@@ -7,6 +7,6 @@ mod first_page;
 #[cfg(test)]
 mod replies;
 #[cfg(test)]
-mod said;
+mod told_lines;
 #[cfg(test)]
 mod worked_block;

@@ -1,7 +1,7 @@
 use Rattle.std.proofs.Common.{◌≡◌, ℕ, List, None, Some, length, take, refl, sym, ap, ◌∙◌, if◌then◌else◌}
 use Rattle.std.proofs.lemmas.List.{length-map, take-map}
 use Rattle.kept_walk.specs.Kept.{Event, event_of}
-use Rattle.kept_walk.specs.declared.kept.Change.{Change}
+use Rattle.kept_walk.specs.declared.journal_state.Change.{Change}
 use Rattle.kept_world.specs.Changes.{LeadsTo, events_of}
 use Rattle.kept_world.specs.States.{State, state_after}
 use Rattle.whole_audit.specs.declared.lines.StateLine.{StateLine}

@@ -4,7 +4,7 @@ use Rattle.std.proofs.lemmas.Result.{err_from_is_err_and}
 use Rattle.audit_command.proofs.Endings.{keeps_itself}
 use Rattle.kept_folder.specs.declared.reading.FoundJournal.{FoundJournal}
 use Rattle.kept_walk.specs.Kept.{event_of}
-use Rattle.kept_walk.specs.declared.kept.Change.{Change}
+use Rattle.kept_walk.specs.declared.journal_state.Change.{Change}
 use Rattle.store_command.specs.Marks.{mark_at, mark_text}
 use Rattle.store_command.specs.Running.{by_writing, mark_line}
 use Rattle.store_command.specs.declared.mark.Mark.{Mark}

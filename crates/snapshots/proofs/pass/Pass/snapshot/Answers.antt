@@ -19,6 +19,6 @@ returns-after-taken-clause-told g c = elim c.match-taken.branch [
 pub returns-after-taken-clause-asked : goal.returns-after-taken-clause-asked
 returns-after-taken-clause-asked g c = elim c.match-taken.branch [
   | in-Some-taken w ↦ (rw w.result-is (accepted_asked g.J.Naming.asked c.log-seen.result
-    (rw (c.log-seen.ensures.log, c.get.ensures) (c.in-Ok.ensures.1.0.3))))
+      (rw (c.log-seen.ensures.log, c.get.ensures) (c.in-Ok.ensures.1.0.3))))
   | in-None w ↦ rw w.result-is tt
 ]

@@ -1,4 +1,0 @@
-use Rattle.blocktool.proofs.said.rows_said.Goals as goal
-
-pub returns : goal.returns
-returns c = (_, c.in_ok-rows.ensures, c.tell.ensures)

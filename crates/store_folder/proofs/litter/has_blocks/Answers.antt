@@ -1,9 +1,0 @@
-use Rattle.store_folder.proofs.litter.has_blocks.Goals as goal
-
-pub returns-in-Ok-clause-untouched : goal.returns-in-Ok-clause-untouched
-returns-in-Ok-clause-untouched g c =
-    record { all = c.names.ensures.all; time = c.names.ensures.time }
-
-pub returns-in-Err-clause-untouched : goal.returns-in-Err-clause-untouched
-returns-in-Err-clause-untouched g c =
-    record { all = c.names.ensures.all; time = c.names.ensures.time }
