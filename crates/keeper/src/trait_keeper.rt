@@ -1,7 +1,7 @@
 //! Where events are kept before they are published.
 
 ghost use Rattle.std.specs.Prelude.{◌≡◌, ◌⊎◌, ◌++◌, ℕ, Bool, List, true, false, Err, OnOk};
-ghost use Rattle.std.specs.Prelude.{◌≤◌, None, OnErr, IfOk, IsErrOf, Ok};
+ghost use Rattle.std.specs.Prelude.{◌≤◌, None, OnErr, IfOk, IfSome, IsErrOf, Ok, length};
 ghost use Rattle.head.specs.Heads.{SnapshotParts, world_of};
 ghost use Rattle.head.specs.Worlds.{Event as Change, World};
 ghost use Rattle.keeper.specs.Finding.{AreAll, AreAllAndMore, AreAllAndSome, IsOfAll};
@@ -155,6 +155,9 @@ pub trait Keeper {
             → (result ≡ Ok None) × (self.new ≡ self.old) }
         ensures saves { result ≡ Ok None
             → (due self.old snapshot.now ≡ false) ⊎ (closed self.old ≡ true) }
+        // What it saves are the blocks of the snapshot.
+        ensures counted { IfOk result (λ saved. IfSome saved (λ count.
+            count ≡ length snapshot.now.blocks)) }
         // Where nothing is kept nothing is saved.
         ensures needed { idle ≡ true → result ≡ Ok None }
         ensures open { OnOk result (closed self.new ≡ closed self.old) }

@@ -1,6 +1,7 @@
 //! What keeps the events of a store and publishes them.
 
-ghost use Rattle.std.specs.Prelude.{◌≡◌, ◌⊎◌, [], false, true, IfErr, None, OnErr, OnOk, Ok};
+ghost use Rattle.std.specs.Prelude.{◌≡◌, ◌⊎◌, [], false, length, true, IfErr, IfOk, IfSome, None};
+ghost use Rattle.std.specs.Prelude.{OnErr, OnOk, Ok};
 ghost use Rattle.std.specs.Arc.{arc_value};
 ghost use mathlib.Core.List.{IsPrefix};
 ghost use Rattle.head.specs.Heads.{world_of};
@@ -162,6 +163,13 @@ impl<J: Naming, R: Wait + Drop, K: Keeper + Drop> Book<J, R, K> {
         ensures finds { K.closed self.old.keeper ≡ false → K.idle ≡ false
             → (left : K.Left) → K.left_since self.new.keeper (K.moment self.old.keeper) left
             → K.makes left (world_of self.old.parts) }
+        // It saves all blocks of what is published, if that is worth it, and else does nothing.
+        ensures rests { K.due self.old.keeper self.old.parts ≡ false
+            → (result ≡ Ok None) × (self.new.keeper ≡ self.old.keeper) }
+        ensures saves { result ≡ Ok None
+            → (K.due self.old.keeper self.old.parts ≡ false) ⊎ (K.closed self.old.keeper ≡ true) }
+        ensures counted { IfOk result (λ saved. IfSome saved (λ count.
+            count ≡ length self.old.parts.blocks)) }
         ensures needed { K.idle ≡ true → result ≡ Ok None }
     {
         roll_if_due(alloc, &self.press, &mut self.keeper)

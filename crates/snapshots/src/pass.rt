@@ -6,7 +6,7 @@ ghost use mathlib.Core.List.{IsPrefix};
 ghost use Rattle.left_right.specs.Sides.{view};
 ghost use Rattle.snapshots.specs.Asking.{AreAsked};
 ghost use Rattle.snapshots.specs.Marks.{accepted};
-ghost use Rattle.snapshots.specs.Replays.{IsAfter};
+ghost use Rattle.snapshots.specs.Replays.{AreAccepted, IsAfter};
 ghost use Rattle.snapshots.specs.Views.{nothing};
 
 use crate::entry::Entry;
@@ -35,6 +35,7 @@ impl<J: Naming> Model for Pass<J> {
     ghost use Rattle.std.specs.Prelude.{◌≡◌, Some, None};
     ghost use Rattle.left_right.specs.Sides.{view as seen_by};
     ghost use Rattle.snapshots.specs.Marks.{accepted};
+    ghost use Rattle.snapshots.specs.Replays.{AreAccepted};
     ghost use Rattle.snapshots.specs.Views.{Known};
 
     ghost Value = { Known };
@@ -42,13 +43,15 @@ impl<J: Naming> Model for Pass<J> {
     ghost view = { λ p. record { seen = accepted p.seen; told = accepted p.told } };
 
     ghost invariant = { λ p.
-        elim p.reader [ Some r ↦ seen_by r.place ≡ accepted p.seen | None ↦ ⊥ ] };
+        elim p.reader [ Some r ↦ seen_by r.place ≡ accepted p.seen | None ↦ ⊥ ]
+        × AreAccepted J.opening (accepted p.seen) × J.kept (accepted p.seen) };
 }
 
 impl<J: Naming> Pass<J> {
     pub(crate) fn of(reader: Reader<Plate, [Entry; 0], Grows<J>>, log: &LogPrefix<J>) -> Pass<J>
         requires fresh { view reader.place ≡ [] }
         requires empty { log.now ≡ [] }
+        requires kept { J.kept [] }
         ensures { result ≡ nothing }
     {
         Pass {
@@ -70,7 +73,9 @@ impl<J: Naming> Pass<J> {
     /// takes no memory.
     pub fn receipt(&self) -> Receipt<J>
         ensures list { result ≡ self.now.seen }
+        ensures accepted { AreAccepted J.opening result }
         ensures asked { AreAsked J.asked result }
+        ensures held { J.kept result }
     {
         Receipt::whole(&self.seen)
     }

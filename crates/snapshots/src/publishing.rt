@@ -1,7 +1,7 @@
 //! What publishes versions.
 
 ghost use Rattle.std.specs.Prelude.{◌≡◌, ◌⊎◌, ◌++◌, List, MatchBool, false, IfErr, MatchResult};
-ghost use Rattle.std.specs.Prelude.{None, Ok, OnOk, true};
+ghost use Rattle.std.specs.Prelude.{None, Ok, OnOk, true, IfOk, IfSome, length};
 ghost use Rattle.std.specs.Arc.{arc_value};
 ghost use mathlib.Core.List.{IsPrefix};
 ghost use Rattle.keeper.specs.Finding.{AreAll, AreAllAndSome, LeavesEvents};
@@ -119,6 +119,13 @@ pub fn roll_if_due<J: Naming, K: Keeper>(
         → K.closed keeper.old ≡ false
         → LeavesEvents K.moment K.left_since K.stands keeper.old keeper.new
         (AreAll (kept_of J.before entries)) }
+    // It saves all blocks of what is published, if that is worth it, and else does nothing.
+    ensures rests { K.due keeper.old press.now.desk.shown.value.version.parts ≡ false
+        → (result ≡ Ok None) × (keeper.new ≡ keeper.old) }
+    ensures saves { result ≡ Ok None
+        → (K.due keeper.old press.now.desk.shown.value.version.parts ≡ false) ⊎ (K.closed keeper.old ≡ true) }
+    ensures counted { IfOk result (λ saved. IfSome saved (λ count.
+        count ≡ length press.now.desk.shown.value.version.parts.blocks)) }
     ensures needed { K.idle ≡ true → result ≡ Ok None }
 {
     keeper.roll_if_due(alloc, press.published().version.snapshot())

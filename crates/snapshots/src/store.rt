@@ -112,7 +112,8 @@ fn passes_of<J: Naming>(
     log: &LogPrefix<J>,
     count: usize,
 ) -> Result<Vec<Pass<J>>, OpenError>
-    requires { log.now ≡ [] }
+    requires empty { log.now ≡ [] }
+    requires kept { J.kept [] }
     ensures made { IfOk result (λ v. (vec_len v ≡ count) × All (λ p. p ≡ nothing) v.items) }
     ensures refused { IfErr result (λ e. ¬ (e ≡ OpenError.BadPasses) × ¬ (e ≡ OpenError.Limit)) }
 {
