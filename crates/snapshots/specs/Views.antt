@@ -5,7 +5,7 @@ use Rattle.head.specs.Heads.{SnapshotParts}
 use Rattle.snapshots.specs.declared.entry.Entry.{Entry}
 use Rattle.snapshots.specs.declared.entry.Mark.{Mark}
 
--- a version: of which store, the log up to the try of its last event, and its snapshot
+-- a version: of which store, the log that has accepted its list, and its snapshot
 pub record Edition : Type 0 where
   pub book : Book
   pub marks : List Mark

@@ -16,7 +16,7 @@
 //! kept, it is given up, with what was tried meanwhile. A store in memory alone has [`NoKeeper`];
 //! [`Store::resume`] opens one over what a start found. Each type carries the name of its store
 //! ([`Naming`]), so a pass, a receipt and a seat of another store have other types. The name says
-//! which events were asked for, too, and what a keeper has come to hold; nothing else is published.
+//! which events were asked for, too, and what a keeper holds for good; nothing else is published.
 //! Under [`Open`] anything may be asked for.
 //!
 //! ```

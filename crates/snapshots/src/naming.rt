@@ -3,7 +3,7 @@
 use std::marker::{Brand, PhantomData};
 
 /// Which store it is, the snapshot that it opened with, the events that were kept before, what its
-/// callers have asked for, and what its keeper has come to hold. The call that opens a store is
+/// callers have asked for, and what its keeper holds for good. The call that opens a store is
 /// generic in it.
 pub trait Naming {
     ghost use Rattle.std.specs.Prelude.{ℕ, List};
@@ -22,7 +22,7 @@ pub trait Naming {
     /// seat.
     ghost asked: { Event → ℕ → ℕ → Type 0 };
 
-    /// These entries are kept: a keeper of the store has come to hold them.
+    /// These entries are kept: a keeper of the store has come to hold them for good.
     ghost kept: { List Entry → Type 0 };
 }
 

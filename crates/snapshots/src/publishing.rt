@@ -31,8 +31,8 @@ use std::sync::{Arc, Mutex, MutexGuard, Wait};
 /// there is one at most, and each pass of the store reads what it shows.
 pub type Press<J> = Writer<Plate, Version, [Entry; 0], Grows<J>>;
 
-/// Publishes one whole version. Where it is refused, the version is left pending, and the next one
-/// overtakes it.
+/// Publishes one whole version. Where it is refused, it may be left pending, till it is published
+/// with the next one.
 fn publish<J: Naming, R: Wait>(rt: &R, mut press: Press<J>, next: Version) -> (Press<J>, bool)
     requires { MayFollow J.book J.opening J.asked J.kept press.desk.shown.value.version next }
     ensures { MatchBool result.1 (result.0.desk.shown.value.version ≡ next)

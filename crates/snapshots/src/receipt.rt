@@ -1,4 +1,4 @@
-//! What an accepted event leaves in the hands of its caller.
+//! What callers are told of the list that is published.
 
 ghost use Rattle.std.specs.Prelude.{◌≡◌, length, IfSome};
 ghost use mathlib.Core.List.{IsPrefix};
@@ -9,8 +9,8 @@ use crate::naming::Naming;
 use crate::prefix::LogPrefix;
 use std::marker::Model;
 
-/// What was published up to an event of the caller's. Contracts see it as the events up to this
-/// one, each with the number of its seat. The log that it holds may have accepted more.
+/// What was published up to some event. Contracts see it as the events up to this one, each with
+/// the number of its seat. The log that it holds may have accepted more.
 #[derive(Drop)]
 pub struct Receipt<J: Naming> {
     log: LogPrefix<J>,

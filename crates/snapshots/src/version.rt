@@ -104,7 +104,8 @@ impl Version {
 }
 
 /// The rule of the published versions: each is of the store `J` and shown by a right of that store,
-/// each event of its list was asked for, the list is kept, and lists only grow.
+/// each event of its list was asked for, and each that waits beside it, the list is kept, and lists
+/// only grow.
 pub struct Grows<J> {
     of: PhantomData<J>,
 }

@@ -1,10 +1,10 @@
 -- A store that goes on, and one that begins.
-use Rattle.std.proofs.Common.{◌≡◌, ℕ, zero, suc, ◌≤◌, Bool, true, false, List, [], ◌++◌, Option}
+use Rattle.std.proofs.Common.{◌≡◌, ℕ, zero, suc, ◌≤◌, ◌<◌, ◌+◌, Bool, true, false, List, [], ◌∷◌, ◌++◌, Option}
 use Rattle.std.proofs.Common.{None, Some, length, take, Result, Ok, Err, refl, sym, ap, subst, subst₂, ◌∙◌}
 use Rattle.std.proofs.Common.{◌≢◌, arith, inl, inr, ⊎_elim, ℤ, Vec}
 use Rattle.std.specs.declared.alloc.Global.{Global}
-use Rattle.std.specs.Prelude.{IfOk, IfErr, OnOk}
-use Rattle.std.proofs.lemmas.List.{append-nil}
+use Rattle.std.specs.Prelude.{IfOk, IfErr, OnOk, slice_index_or}
+use Rattle.std.proofs.lemmas.List.{append-nil, take_more}
 use Rattle.block_folder.specs.declared.values.Values.{Values}
 use Rattle.data_folder.specs.declared.journal_file.JournalFile.{JournalFile}
 use Rattle.data_folder.specs.Folders.{Left, LeavesOnly, MayLeaveOf}
@@ -19,7 +19,8 @@ use Rattle.head.specs.Blocks.{opening_of}
 use Rattle.head.specs.Heads.{BlockPart, HeadSeries, SnapshotParts, world_of}
 use Rattle.head.specs.Refusals.{Refusal}
 use Rattle.head.specs.Resuming.{Denies, MayStand, resumed}
-use Rattle.head.specs.Worlds.{Event, World, replayed}
+use Rattle.head.specs.Kept.{KeepsBlocks}
+use Rattle.head.specs.Worlds.{Event, World, replayed, stepped}
 use Rattle.head.specs.declared.error.ResumeError.{ResumeError}
 use Rattle.head_record.specs.Saved.{Place, Saved}
 use Rattle.head_record.specs.Spelling.{head_texts, IsSaved}
@@ -36,7 +37,7 @@ use Rattle.store_folder.specs.Finding.{IsFoundStore}
 use Rattle.store_folder.specs.Holding.{HoldsAfterHead, HoldsAt, HoldsLike, StandsForThese}
 use Rattle.store_folder.specs.KeeperLaws.{has_journal, stands_for}
 use Rattle.store_folder.specs.Origins.{Origin, beginning}
-use Rattle.store_folder.specs.Starting.{DeniesStart, GoesOn, IsNoneOrNothing}
+use Rattle.store_folder.specs.Starting.{DeniesStart, GoesOn, IsNoneOrNothing, LeadTo}
 use Rattle.store_folder.specs.Starting.{IsRefusedEvent}
 use Rattle.store_folder.specs.Starting.{StartFinds}
 use Rattle.store_folder.specs.Starting.{nothing_with}
@@ -65,6 +66,40 @@ goes_on saved parts floor head events given s (Ok x) is floors heads same h =
     (subst (λ (y : SnapshotParts). replayed (world_of y) given ≡ Ok (world_of x))
     (is_started saved parts floor head s is floors heads) h)
 goes_on saved parts floor head events given s (Err e) is floors heads same h = tt
+
+-- it is reached event by event
+
+lead_last : (s t u : SnapshotParts) (events : List Event) (e : Event) → LeadTo s events t
+    → stepped (world_of t) e ≡ Ok (world_of u) → KeepsBlocks e t u.blocks
+    → LeadTo s (events ++ e ∷ []) u
+lead_last s t u [] e same step kept = (
+  u,
+  subst (λ (x : SnapshotParts). stepped (world_of x) e ≡ Ok (world_of u)) same step,
+  subst (λ (x : SnapshotParts). KeepsBlocks e x u.blocks) same kept,
+  refl,
+)
+lead_last s t u (d ∷ events) e lead step kept =
+    (lead.0, lead.1, lead.2, lead_last lead.0 t u events e lead.3 step kept)
+
+pub leads_more : (s t u : SnapshotParts) (events : List Event) (at : ℕ) (event : Event)
+    → at < length events → event ≡ slice_index_or events at event → LeadTo s (take at events) t
+    → stepped (world_of t) event ≡ Ok (world_of u) → KeepsBlocks event t u.blocks
+    → LeadTo s (take (at + 1) events) u
+leads_more s t u events at event inside is lead step kept =
+    subst (λ (es : List Event). LeadTo s es u)
+    (sym (take_more events at event inside
+    ∙ ap (λ (e : Event). take at events ++ e ∷ []) (sym is)))
+    (lead_last s t u (take at events) event lead step kept)
+
+pub reaches : (saved : Saved) (parts : List BlockPart) (floor : ℤ) (head : List HeadSeries)
+    (events given : List Event) (s : SnapshotParts) (r : Result SnapshotParts StartError)
+    → s ≡ resumed parts floor head → floor ≡ saved.floor → head ≡ saved.head → given ≡ events
+    → IfOk r (λ x. LeadTo s given x) → IfOk r (λ x. LeadTo (started saved parts) events x)
+reaches saved parts floor head events given s (Ok x) is floors heads same h =
+    subst (λ (es : List Event). LeadTo (started saved parts) es x) same
+    (subst (λ (y : SnapshotParts). LeadTo y given x)
+    (is_started saved parts floor head s is floors heads) h)
+reaches saved parts floor head events given s (Err e) is floors heads same h = tt
 
 denies_event : (saved : Saved) (parts : List BlockPart) (events : List Event) (e : StartError)
     → IsRefusedEvent (world_of (started saved parts)) events e → DeniesStart saved parts events e

@@ -1,5 +1,6 @@
 -- What a start answers, and what a crash leaves meanwhile.
 use Rattle.std.specs.Prelude.{◌≡◌, ◌==◌, ◌⊎◌, ◌&&◌, ◌||◌, ℕ, Bool, false, not, nat_lt, List, []}
+use Rattle.std.specs.Prelude.{◌∷◌}
 use Rattle.std.specs.Prelude.{Option, None, Ok, length}
 use Rattle.block_folder.specs.declared.values.Values.{Values}
 use Rattle.block_folder.specs.declared.values.Values.TheVariants.{Whole}
@@ -10,7 +11,8 @@ use Rattle.head.specs.declared.error.RefusedEvent.{RefusedEvent}
 use Rattle.head.specs.Heads.{BlockPart, SnapshotParts, world_of}
 use Rattle.head.specs.Replaying.{RefusesAt}
 use Rattle.head.specs.Resuming.{Denies, MayStand}
-use Rattle.head.specs.Worlds.{Event, World, replayed}
+use Rattle.head.specs.Kept.{KeepsBlocks}
+use Rattle.head.specs.Worlds.{Event, World, replayed, stepped}
 use Rattle.head_record.specs.Saved.{Place, Saved}
 use Rattle.labels.specs.declared.sample.TheConstants.{MIN_TIME}
 use Rattle.store_folder.specs.declared.error.StartCause.TheVariants.{Refused}
@@ -40,6 +42,14 @@ pub record IsRefusedEvent (w : World) (events : List Event) (e : StartError) : T
 -- the error tells no fault of what the folder has: memory or the folder failed
 abbrev pub IsNoRefusal : StartError → Type 0
 IsNoRefusal e = cause_of e ≡ Refused → ⊥
+
+-- The events, one after another, take the snapshot to the other one: each is accepted, and the next
+-- snapshot has the world that it makes, and the blocks that it leaves.
+abbrev pub LeadTo : SnapshotParts → List Event → SnapshotParts → Type 0
+LeadTo s [] t = t ≡ s
+LeadTo s (event ∷ events) t =
+    (next : SnapshotParts) × (stepped (world_of s) event ≡ Ok (world_of next))
+    × KeepsBlocks event s next.blocks × LeadTo next events t
 
 -- A store goes on: these events since the first world make the snapshot, and they are held, after a
 -- head that names blocks like these at these places.

@@ -87,8 +87,7 @@ impl<N: Beginning, F: Folder + Drop> StoreKeeper<N, F> {
     /// head of the snapshot has. Then what the blocks before left behind is removed. How many
     /// blocks the head names.
     ///
-    /// Where it fails the journal goes on as it was, unless the fault is `Folder(Lost)`: then it is
-    /// closed.
+    /// Where it fails the journal goes on, unless the fault is `Folder(Lost)`: then it is closed.
     pub fn roll(&mut self, alloc: Global, snapshot: &Snapshot) -> Result<usize, RollFault>
         requires { (events : List Change)
             × HoldsOrLost F.shows F.kept F.sound F.moment F.left_since N.first

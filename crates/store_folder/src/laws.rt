@@ -28,8 +28,7 @@ pub fn may_start()
         → IsState saved parts events left → MayStand (started saved parts) → MayStart left }
 {}
 
-/// Blocks that were written anew by their rows make the same world, so a journal may begin with
-/// them.
+/// Blocks that were written anew by their rows make the same world.
 pub fn rewritten_blocks()
     ensures { (first : World) (events : List Change) (s : SnapshotParts) (saved : Saved)
         (parts : List BlockPart) → HaveSame s.blocks parts → s.head ≡ saved.head

@@ -9,8 +9,9 @@
 //! [`RollTerms`] are met.
 //!
 //! [`read_journal`] gives the head and the events of a journal's file, or the first fault, `J1` to
-//! `J14`, `J19`, `J20`; [`read_blocks`] gives the blocks at places, and [`open_block`] the block
-//! that files spell. What a crash leaves of a store makes one world ([`one_world`]).
+//! `J4`, `J8` to `J14`, `J19`, `J20`; [`read_blocks`] gives the blocks at places, and
+//! [`open_block`] the block that files spell. What a crash leaves of a store makes one world
+//! ([`one_world`]).
 //!
 //! The head says what the values of the store mean. That is asked for when the store begins, and is
 //! never changed ([`Meaning`], [`one_meaning`]).

@@ -12,7 +12,7 @@ ghost use Rattle.journal.specs.declared.error.JournalError.TheVariants.{Memory a
 ghost use Rattle.store_folder.specs.Codes.{cause_of};
 ghost use Rattle.store_folder.specs.Finding.{IsFoundStore};
 ghost use Rattle.store_folder.specs.Holding.{HoldsAt, HoldsLike, HoldsStore, HoldsThese};
-ghost use Rattle.store_folder.specs.Starting.{DeniesStart, GoesOn};
+ghost use Rattle.store_folder.specs.Starting.{DeniesStart, GoesOn, LeadTo};
 ghost use Rattle.store_folder.specs.Starting.{IsNoneOrNothing, IsNoRefusal, IsRefusedEvent};
 ghost use Rattle.store_folder.specs.Starting.{StartFinds, nothing_saved, nothing_with};
 ghost use Rattle.store_folder.specs.Refusals.{IsRefusal};
@@ -57,6 +57,7 @@ pub struct StartedStore<N: Beginning, F: Folder + Drop> {
 /// The snapshot after events, as `head::replay` gives it.
 fn after_events(alloc: Global, snapshot: Snapshot, events: &[Event]) -> Result<Snapshot, StartError>
     ensures ok { IfOk result (λ s. replayed (world_of snapshot) events.now ≡ Ok (world_of s)) }
+    ensures reached { IfOk result (λ s. LeadTo snapshot events.now s) }
     ensures refused { IfErr result (λ e. IsRefusedEvent (world_of snapshot) events.now e) }
 {
     let mut at = snapshot;
@@ -77,6 +78,8 @@ fn snapshot_of(
 ) -> Result<Snapshot, StartError>
     ensures world { IfOk result (λ s. HasWorld journal.now.head (map part_in blocks.items)
         journal.now.events.items (world_of s)) }
+    ensures reached { IfOk result (λ s. LeadTo
+        (started journal.now.head (map part_in blocks.items)) journal.now.events.items s) }
     ensures stands { OnOk result (MayStand
         (started journal.now.head (map part_in blocks.items))) }
     ensures refused { IfErr result (λ e. DeniesStart journal.now.head (map part_in blocks.items)
@@ -318,6 +321,11 @@ pub fn resume_store<N: Beginning, F: Folder + Drop>(
         N.first x.keeper.store.events.journal.medium x.keeper.store.events.journal.len
         x.keeper.store.events.journal.closed x.journal.events.items x.keeper.places.items
         (map part_in x.keeper.blocks.items) x.snapshot) }
+    // It is reached event by event: its blocks are those that the head names, and what the events
+    // leave of them and add.
+    ensures reached { IfOk result (λ x. LeadTo
+        (started found.journal.head (map part_in found.blocks.items))
+        found.journal.events.items x.snapshot) }
     // They may be a snapshot: else the start is refused.
     ensures stands { OnOk result (MayStand
         (started found.journal.head (map part_in found.blocks.items))) }

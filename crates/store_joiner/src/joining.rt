@@ -39,7 +39,7 @@ use store_folder::{Beginning, FoundStore, RollFault, StartError, StoreJournal, o
 /// How many blocks a store had, and how many it has.
 #[derive(Clone, Copy, Drop)]
 pub struct BlockCounts {
-    /// Before the join.
+    /// Before the join, once its events were saved.
     pub before: usize,
     /// After it.
     pub after: usize,

@@ -36,8 +36,8 @@ pub struct ReplacedStore<F: Drop> {
 /// store's is removed. The journal has no events, and its head names the blocks at the held places.
 ///
 /// A crash at any moment leaves a store that a start finds: as it was, or the other. An `Err` gives
-/// the folder back. Unless it is `Folder(Lost)`, the store is as it was, and what was written goes
-/// when the store is saved again.
+/// the folder back. Unless it is `Folder(Lost)`, the store is as it was, and what was written may
+/// go when the store is saved again.
 pub fn replace_store<N: Beginning, F: Folder + Drop>(
     alloc: Global,
     store: StoreJournal<N, F>,
