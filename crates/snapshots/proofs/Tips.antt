@@ -8,15 +8,13 @@ use Rattle.logbook.specs.Pages.{Book}
 use Rattle.snapshots.specs.declared.entry.Entry.{Entry}
 use Rattle.snapshots.specs.declared.entry.Mark.{Mark}
 use Rattle.snapshots.specs.declared.entry.Mark.TheVariants.{Try, Seal, Done, Void}
-use Rattle.snapshots.specs.Asking.{AreAsked}
-use Rattle.snapshots.specs.Grows.{Shows, MayFollow}
 use Rattle.snapshots.specs.Keeping.{IsGroup, SpellAll, kept_of}
 use Rattle.snapshots.specs.Marks.{accepted, list_of, tried_of}
 use Rattle.snapshots.specs.Replays.{events_in, IsAfter, Steps}
 use Rattle.snapshots.specs.Seats.{AreCounts}
 use Rattle.snapshots.specs.Standings.{StandsFor, current}
 use Rattle.snapshots.specs.Tips.{IsBehind}
-use Rattle.snapshots.specs.Views.{Edition, Ledger}
+use Rattle.snapshots.specs.Views.{Ledger}
 use Rattle.snapshots.proofs.Accepts.{accepted_begins, accepted_begins_tried, accepted_seal, accepted_try, accepted_void, known, list_begins, list_done, list_seal, list_try, tried_done, tried_seal, tried_try}
 use Rattle.snapshots.proofs.Counting.{counts_next}
 use Rattle.snapshots.proofs.Keeps.{kept_more, spell_nothing}

@@ -1,4 +1,3 @@
-use Rattle.snapshots.specs.Marks.{tried_of}
 use Rattle.snapshots.proofs.Asked.{accepted_asked}
 use Rattle.snapshots.proofs.Growing.{enters}
 use Rattle.snapshots.proofs.pass.Pass.snapshot.Goals as goal

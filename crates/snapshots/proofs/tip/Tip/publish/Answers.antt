@@ -3,7 +3,7 @@ use Rattle.std.specs.Arc.{arc_value}
 use Rattle.snapshots.specs.Marks.{accepted, list_of}
 use Rattle.snapshots.specs.Views.{Ledger}
 use Rattle.snapshots.proofs.Held.{held_as, held_by}
-use Rattle.snapshots.proofs.Tips.{accepted_done, behind_kept, behind_while, done_begins, done_behind, done_current, done_stands, done_whole, listed, published_begins, stands_as, stands_tried}
+use Rattle.snapshots.proofs.Tips.{accepted_done, behind_kept, behind_while, done_begins, done_behind, done_current, done_stands, done_whole, listed, published_begins, stands_tried}
 use Rattle.snapshots.proofs.tip.Tip.publish.Goals as goal
 
 pub invariant_of-self-2 : goal.invariant_of-self-2
