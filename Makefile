@@ -14,7 +14,7 @@ TESTS_OF := kept_tests:kept_walk,kept_world,state_search,reply_state,store_audit
 	remote_tests:stored_doubles,varints,snappy,protobuf_fields,remote_write,remote_read,remote_requests,remote_rows \
 	tests/serving.sh:guard \
 	tests/store_audits.py:kept_folder,store_command \
-	tests/durable/run.py:keeper,name_table,numbered_text,event_journal,cut_schedule,folder_lock,data_folder,store_joiner,store_backup \
+	tests/durable/run.py:keeper,name_table,numbered_text,event_journal,cut_schedule,join_schedule,block_upkeep,block_joiner,span_text,folder_lock,data_folder,store_joiner,store_backup \
 	tests/scraping.sh:server_metrics \
 	tests/live/run.py:waiting_room,text_choices,page_requests,answer_pages \
 	tests/importing.sh:imported_values,kept_samples,time_cuts,block_folder,block_outputs,double_text,open_metrics,metrics_writer,exposition,blocktool \

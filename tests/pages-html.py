@@ -283,6 +283,17 @@ def lacks(*texts):
     return lambda name, page: [holds(f"{name}: no {text}", text not in page) for text in texts]
 
 
+def articles(*texts):
+    """A text for each searched part, in the reply's order, which its article has, and no other's text."""
+    def check(name, page):
+        found = re.findall(r'<article class="part" id="p\d+">(.*?)</article>', page, re.S)
+        holds(f"{name}: {len(found)} articles", len(found) == len(texts))
+        for at, (article, wanted) in enumerate(zip(found, texts)):
+            has_each = {text: text in article for text in texts}
+            holds(f"{name}: article {at}: {wanted}", has_each == {text: text == wanted for text in texts})
+    return check
+
+
 # ---- replies
 
 
@@ -544,6 +555,14 @@ def kept():
     says_no = says(NOT_SHOWN, "bad", "The auditor found a flaw: head: F8")
     yield Case("kept-hidden", hidden, words, status=1, checks=[says_no, has("head: F8", wrong)])
     yield Case("text-kept-hidden", hidden, [*words, "--text"], status=1, checks=[has(plain_wrong)])
+    # The head is named twice, once as it is, and once with its series hidden.
+    twice = json.loads(answer)
+    twice["parts"].append(hidden["parts"][1])
+    yield Case("kept-twice", twice, words, status=1, checks=[
+        has("head: valid", "head: F8", "parts: F11"), articles(
+            "The auditor judged this part for what is missing",
+            "The auditor judged this part: it is valid.",
+            "The auditor names a flaw of this part: see above.")])
 
 
 def half_judged(answer, words):
@@ -589,6 +608,29 @@ def half_judged(answer, words):
         one = copy()
         one["parts"].insert(part, one["parts"][part])
         yield Case(f"named-twice-{part}", one, [*words, "good"], **shown(says(CERTIFIED, "plain", "head")))
+    # A block that is named twice, once as it is, and once lied about: each article has its own judgement.
+    right, wrong = ("The auditor judged this part: it is valid.",
+                    "The auditor names a flaw of this part: see above.")
+    nobody = "The auditor did not judge this part"
+    one = copy()
+    one["parts"].insert(head, copy()["parts"][block])
+    one["parts"][head]["intervals"][3]["verdict"] = 0
+    yield Case("twice-then-lied", one, [*words, "good"], status=1, checks=[
+        has("block 0: valid", "block 0: F3"), articles(right, wrong, nobody)])
+    one = json.loads(json.dumps(one))
+    one["parts"][:2] = one["parts"][1::-1]
+    yield Case("twice-lied-first", one, [*words, "good"], status=1, checks=[
+        has("block 0: F3", "block 0: valid"), articles(wrong, right, nobody)])
+    one = copy()
+    one["parts"].insert(head, {"part": "block 0", "intervals": [], "rows": [], "separators": []})
+    yield Case("twice-then-emptied", one, [*words, "good"], status=1, checks=[
+        has("block 0: valid", "block 0: F1"), articles(right, wrong, nobody),
+        has("This part is told to have no series"), lacks("This part has no series")])
+    one = copy()
+    one["parts"].insert(head, {"part": "block 0", "skipped": True})
+    yield Case("twice-then-skipped", one, [*words, "good"], status=1, checks=[
+        has("block 0: valid", "block 0: F9", "block 0: the auditor names a flaw of this"),
+        has(">told to be skipped<"), articles(right, nobody), lacks("selects nothing")])
     # Two directories, of which each is named, or one.
     yield Case("one-of-two", copy(), [*words, "good", "good"], status=1, checks=[has("block 1: F9")])
     one = copy()

@@ -7,7 +7,7 @@ import time
 import urllib.request
 
 from house import (
-    LEAST, MOST, OK, Batch, Cut, Deletion, Server, World, equals, read, recovered, refused, run,
+    LEAST, MOST, OK, Batch, Cut, Deletion, Server, World, equals, read, refused, run,
 )
 from lib import free_port
 
@@ -40,15 +40,25 @@ def follow(world, every, after=None):
     return at
 
 
-def wait_for(looks, what, server, world, seconds=20):
+def said(parts, joins):
+    """What parts say; where a server joins its blocks, which of them it does is not said."""
+    if not joins:
+        return [sorted(map(repr, part.items())) for part in parts]
+    rows = {}
+    for part in parts[:-1]:
+        for one, samples in part.items():
+            rows.setdefault(one, {}).update(samples)
+    return said([rows, parts[-1]], False)
+
+
+def wait_for(looks, what, server, world, seconds=20, joins=False):
     """Waits until the server says what the world says, and a little, in which nothing more happens."""
     for _ in range(seconds * 20):
-        if server.select()[0] == world.parts():
+        if said(server.select()[0], joins) == said(world.parts(), joins):
             break
         time.sleep(0.05)
     time.sleep(0.3)
-    looks.at(what, [sorted(map(repr, part.items())) for part in world.parts()],
-             [sorted(map(repr, part.items())) for part in server.select()[0]])
+    looks.at(what, said(world.parts(), joins), said(server.select()[0], joins))
 
 
 def counts(status):
@@ -77,7 +87,7 @@ def session():
     ]
 
 
-def times(looks, querier, words, what):
+def times(looks, querier, words, what, joins=False):
     """A session, event by event; where a store is kept, it is there after a new start."""
     status = free_port()
     server, world, cuts = (
@@ -94,46 +104,51 @@ def times(looks, querier, words, what):
         if at is not None:
             cuts.append(at)
         looks.at(f"{what}: the cut that {event.line()} brings", wanted, at, tell=False)
-        wait_for(looks, f"{what}: the parts after {event.line()}", server, world)
+        wait_for(looks, f"{what}: the parts after {event.line()}", server, world, joins=joins)
     looks.at(f"{what}: a sample below the cut", refused("E1", 0), server.tell(up((18999, 1), a="fourth")))
     looks.at(f"{what}: a sample at the cut", OK, server.tell(up((19000, 1), a="fourth")))
     world.apply(up((19000, 1), a="fourth"))
     looks.at(f"{what}: a cut at the cut", refused("E5"), server.tell(Cut(19000)))
     looks.at(f"{what}: a cut of a client", OK, server.tell(Cut(20001)))
     world.apply(Cut(20001))
-    wait_for(looks, f"{what}: the parts after it", server, world)
+    wait_for(looks, f"{what}: the parts after it", server, world, joins=joins)
     got = counts(status)
     for name, count in [
-        ('events_total{kind="cut"}', len(cuts) + 1), ("blocks", len(world.blocks)), ("workers", 4),
-        ('requests_total{path="cut",status="200"}', 1),
+        ('events_total{kind="cut"}', len(cuts) + 1), ("workers", 4), ('requests_total{path="cut",status="200"}', 1),
     ]:
         looks.at(f"{what}: the count of {name}", str(count), got.get(f"fuzzledge_{name}"))
+    few = int(got["fuzzledge_blocks"])
+    looks.that(f"{what}: the count of blocks", few < len(world.blocks) if joins else few == len(world.blocks), few)
+    looks.that(f"{what}: the count of joins", (int(got["fuzzledge_joins_total"]) > 0) == joins)
     looks.at(f"{what}: what it tells", [], [line for line in server.told_err if line.startswith("cannot")])
     server.end()
     return world, cuts
 
 
 def kept(looks, querier, work):
+    """A store in a folder, whose blocks are joined meanwhile: a journal that a join has begun anew has no cut
+    from before."""
     folder = f"{work}/kept"
-    world, cuts = times(looks, querier, ("--data", folder), "kept")
+    world, cuts = times(looks, querier, ("--data", folder), "kept", joins=True)
     status, out, _ = run([querier, "journal", folder])
-    listed = [line.split(" ", 1)[1] for line in out.splitlines() if " cut at " in line]
-    looks.at("kept: the cuts of its journal", [f"cut at {at}" for at in [*cuts, 20001]], listed)
+    listed = [int(line.split(" cut at ")[1]) for line in out.splitlines() if " cut at " in line]
+    all_cuts = [*cuts, 20001]
+    looks.at("kept: the cuts of its journal", all_cuts[len(all_cuts) - len(listed):], listed)
     before = read(f"{folder}/journal")
     server = Server(querier, "--data", folder)
     server.wait()
-    looks.at("kept: a start without --cut-every", recovered(len(out.splitlines()) - 2), server.first_told())
-    wait_for(looks, "kept: what it says", server, world)
+    looks.that("kept: a start without --cut-every", server.first_told().startswith("recovered "), server.told)
+    wait_for(looks, "kept: what it says", server, world, joins=True)
     looks.at("kept: a late sample is no reason to cut", OK, server.tell(up((10**6, 1))))
     world.apply(up((10**6, 1)))
-    wait_for(looks, "kept: nothing is cut", server, world)
+    wait_for(looks, "kept: nothing is cut", server, world, joins=True)
     server.end()
     looks.that("kept: no event but that one", len(read(f"{folder}/journal")) < len(before) + 100)
     # what was due is cut at the next start
     server = Server(querier, "--data", folder, "--cut-every", str(EVERY))
     server.wait()
     looks.at("kept: the cut of a start", 999000, follow(world, EVERY))
-    wait_for(looks, "kept: the parts after the cut of a start", server, world)
+    wait_for(looks, "kept: the parts after the cut of a start", server, world, joins=True)
     server.end()
 
 

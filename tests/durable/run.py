@@ -22,6 +22,8 @@ parts, which are all run if none is named:
            above; what is refused
   backup   `querier backup`: beside a server that writes and rolls, each copy is the store at some moment; the
            copy is killed at each of its calls, and each of them fails; what is refused
+  upkeep   a server that joins the blocks of its cuts, and with --keep lets old samples leave: it has few blocks,
+           and says what a plain map says, also after it was killed at random moments
   rounds   ROUNDS (100) crashes beside four clients: what was acknowledged is there, what was under way is
            there whole or not at all, and nothing else. In some rounds the power is cut too: what was not
            synced is lost.
@@ -57,10 +59,11 @@ from joining import joining  # noqa: E402
 from lib import TOP, end_all, find_program  # noqa: E402
 from rounds import rounds  # noqa: E402
 from running import running  # noqa: E402
+from upkeep import upkeep  # noqa: E402
 
 PARTS = [
     "folders", "events", "cuts", "blocks", "running", "damage", "faults", "joining", "adding", "backup",
-    "rounds",
+    "upkeep", "rounds",
 ]
 
 
@@ -95,6 +98,7 @@ def parts_of(names, preload):
         "joining": lambda looks, work: joining(looks, querier, others, preload, work, script),
         "adding": lambda looks, work: adding(looks, querier, others, preload, work),
         "backup": lambda looks, work: backup(looks, querier, preload, work, count),
+        "upkeep": lambda looks, work: upkeep(looks, querier, work, seed),
         "rounds": lambda looks, work: rounds(looks, (querier, auditor), preload, work, count, seed),
     }
 

@@ -15,6 +15,7 @@ pub mod Running
 pub mod OptionRules
 pub mod ServingLines
 pub mod ServingRuns
+pub mod Upkeep
 pub mod Guarding
 pub mod Keeping
 pub mod Listing

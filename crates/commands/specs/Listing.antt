@@ -10,7 +10,7 @@ use Rattle.block_writer.specs.InUse.{HoldsEachOnce}
 use Rattle.labels.specs.Labels.{Labels, labels_cmp}
 use Rattle.matchers.specs.Grammar.{op_text, written}
 use Rattle.matchers.specs.Views.{MatcherView}
-use Rattle.head.specs.Worlds.{Event, batch, deletion, cut}
+use Rattle.head.specs.Worlds.{Event, batch, deletion, cut, joined}
 use Rattle.head.specs.Heads.{HeadSeries}
 use Rattle.head_record.specs.Saved.{Saved}
 use Rattle.head_record.specs.Spelling.{head_texts}
@@ -100,11 +100,12 @@ abbrev pub cut_line : ℕ → ℤ → List ℕ
 cut_line number at =
     decimal number ++ (codes " cut at " ++ (signed_decimal at ++ codes "\n"))
 
--- the line of an event with its number
+-- the line of an event with its number; a join has none, and no journal has one
 abbrev pub IsEventLine : ℕ → Event → List ℕ → Type 0
 IsEventLine number (batch xs) line = IsBatchLine number xs line
 IsEventLine number (deletion ms from to) line = line ≡ deletion_line number ms from to
 IsEventLine number (cut t) line = line ≡ cut_line number t
+IsEventLine number (joined at count made) line = ⊥
 
 -- the lines of events, in their order, that are numbered after a number
 abbrev pub AreLines : ℕ → List Event → List ℕ → Type 0

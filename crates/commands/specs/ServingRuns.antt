@@ -13,6 +13,7 @@ use Rattle.commands.specs.Keeping.{IsDataFault, IsPortFault}
 use Rattle.commands.specs.Opening.{AreBlocksAt, IsOpeningFault}
 use Rattle.commands.specs.Reading.{Host}
 use Rattle.commands.specs.Selecting.{KeepsAt}
+use Rattle.commands.specs.Upkeep.{IsKeepFault}
 use Rattle.commands.specs.declared.command.Serving.{Serving}
 use Rattle.commands.specs.declared.fault.Fault.{Fault}
 use Rattle.commands.specs.declared.fault.Fault.TheVariants.{Refused, CannotWrite, CannotListen}
@@ -147,12 +148,15 @@ IsFaultOf None reads directories serving old new fault =
 IsFaultOf (Some folder) reads directories serving old new fault =
     IsFolderRunFault folder.now serving old new fault
 
--- Why a line of `serve` ends before each worker has: by the file of its token; by the status port
--- or that of Prometheus; by the directories, or where a store is kept by its folder; or by the
--- store, the port or the writer, or once the port was told by the listener, a thread or want of
--- memory. Before that the writer holds what it held, unless it failed.
+-- Why a line of `serve` ends before each worker has: by the options of how long samples are kept;
+-- by the file of its token; by the status port or that of Prometheus; by the directories, or if a
+-- store is kept by its folder; or by the store, the port or the writer, or once the port was told
+-- by the listener, a thread or want of memory. Before that the writer holds what it held, unless it
+-- failed.
 pub data IsServeFault (reads : Host) (directories : List (List ℕ)) (serving : Serving)
     (old new : Option (List ℕ)) (fault : Fault) : Type 0 where
+  by_keep : IsKeepFault serving fault → KeepsAt fault old new
+      → IsServeFault reads directories serving old new fault
   by_guard : IsGuardFault serving fault → KeepsAt fault old new
       → IsServeFault reads directories serving old new fault
   by_watch : IsWatchFault serving fault → KeepsAt fault old new

@@ -22,8 +22,8 @@ ghost use Rattle.commands.specs.Lines.{texts_of};
 
 use crate::help::{
     BACKUPS, CHECKS, COPY, CUT_AFTER, CUT_EVERY, DATA, EXAMPLE, FROM, GUARD, IDLE, JOURNAL_MB,
-    JOURNALS, PATH, PORT, PROMETHEUS_PORT, PROMETHEUS_WORKERS, QUIET, READ_ONLY, REQUESTS, SERVES,
-    SOURCE, STATUS_PORT, STATUSES, TO, VERSION, WORKERS,
+    JOURNALS, KEEP, KEEP_GB, PATH, PORT, PROMETHEUS_PORT, PROMETHEUS_WORKERS, QUIET, READ_ONLY,
+    REQUESTS, SERVES, SOURCE, STATUS_PORT, STATUSES, TO, VERSION, WORKERS,
 };
 use clap::builder::ValueParser;
 use clap::error::ErrorKind;
@@ -69,6 +69,10 @@ pub struct Serving<'a> {
     pub folder: Option<&'a str>,
     /// With how many MB of changes its journal is begun anew.
     pub journal_mb: u64,
+    /// How long its samples are kept, if not for ever. The text is not checked.
+    pub keep: Option<&'a str>,
+    /// How many GB its blocks may have before the oldest samples leave, or 0 for any number.
+    pub keep_gb: u64,
 }
 
 /// What is read, as it was written.
@@ -254,6 +258,8 @@ fn serve<'a>(alloc: Global) -> Result<Command<'a>, AllocError>
     ensures { IfOk result (λ command. app_of command ≡ serve_app) }
 {
     counts(alloc)?
+        .arg(text(alloc, "keep", "D", KEEP))?
+        .arg(count(alloc, "keep-gb", "GB", (1, 1048576), KEEP_GB))?
         .arg(flag(alloc, "read-only", READ_ONLY))?
         .arg(text(alloc, "guard", "FILE", GUARD))?
         .arg(text(alloc, "data", "DIR", DATA))?
@@ -396,6 +402,7 @@ fn serving_in<'a>(found: &ArgMatches<'a>) -> Serving<'a>
     let cut_every = count_in(found, "cut-every", 0);
     let cut_after = count_in(found, "cut-after", cut_every - cut_every / 2);
     let journal_mb = count_in(found, "journal-mb", 8);
+    let keep_gb = count_in(found, "keep-gb", 0);
     Serving {
         port,
         workers,
@@ -410,6 +417,8 @@ fn serving_in<'a>(found: &ArgMatches<'a>) -> Serving<'a>
         guard: given_in(found, "guard"),
         folder: given_in(found, "data"),
         journal_mb,
+        keep: given_in(found, "keep"),
+        keep_gb,
     }
 }
 
@@ -504,6 +513,27 @@ fn both_stores(alloc: Global) -> Result<Error, AllocError>
         ErrorKind::ArgumentConflict,
         "the argument '--data <DIR>' cannot be used with '[DIR]...'",
     )
+}
+
+/// The fault of words by which a store that is not kept, or not cut, is to be kept for a time.
+pub(crate) fn no_upkeep(alloc: Global) -> Result<Error, AllocError>
+    ensures { IfOk result (λ e. kind_of e ≡ ErrorKind.MissingRequiredArgument) }
+{
+    querier(alloc)?.error(
+        ErrorKind::MissingRequiredArgument,
+        "the arguments '--keep <D>' and '--keep-gb <GB>' need '--data <DIR>' and \
+         '--cut-every <MS>'",
+    )
+}
+
+/// The fault of words that write no time for which samples are kept.
+pub(crate) fn no_span(alloc: Global, text: &str) -> Result<Error, AllocError>
+    ensures { IfOk result (λ e. kind_of e ≡ ErrorKind.ValueValidation) }
+{
+    let message = format!(in alloc;
+        "invalid value '{text}' for '--keep <D>': it is no number, nor one with s, m, h or d"
+    )?;
+    querier(alloc)?.error(ErrorKind::ValueValidation, message.as_str())
 }
 
 /// The fault of words that ask for no line, though `clap` takes them.

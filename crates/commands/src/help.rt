@@ -104,6 +104,12 @@ pub(crate) const DATA: &str =
 pub(crate) const JOURNAL_MB: &str =
     "After how many MB the journal of --data is begun anew, 1 to 1048576 [default: 8]";
 
+pub(crate) const KEEP: &str =
+    "How long samples are kept: 90d, 36h, 30m, 45s or milliseconds [default: for ever]";
+
+pub(crate) const KEEP_GB: &str =
+    "With how many GB of blocks the oldest samples leave, 1 to 1048576 [default: never]";
+
 pub(crate) const PATH: &str = "A journal, or the folder of --data that it stands in";
 
 pub(crate) const JOURNALS: &str =
@@ -218,6 +224,13 @@ the last one that lies --cut-after milliseconds, or more, before the newest samp
 (half of MS by default). So samples may be as late as that. If a cut is refused, standard error says
 `cannot cut at T: CODE`, and a later one is tried; after E4 first one at half its distance from the
 floor.
+
+With --data and --cut-every, the server also joins the blocks of its cuts into fewer, and tells
+`joined N blocks into N`; so there is room for more cuts. With --keep D, samples leave once the
+block that they are in has ended for D, by the floor and by the clock: it tells `dropped samples
+before T: N blocks`. With --keep-gb GB, the oldest leave as soon as the blocks have more bytes, of
+which 16 are reckoned for each sample and series. Series stay known. Both options need --data and
+--cut-every.
 
 A status port, and cuts, each take the room of one worker of 64, and so does each worker of the
 port of Prometheus: more are refused (O2).

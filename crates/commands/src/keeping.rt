@@ -37,7 +37,7 @@ use block_folder::Values;
 use data_folder::{Folder, HostFolder, RollError};
 use guard::Rules;
 use server::{Shift, Workers, report_opening};
-use snapshots::{Naming, Open, Store};
+use snapshots::{Joining, Naming, Store};
 use std::alloc::Global;
 use std::io::Write;
 use std::marker::Brand;
@@ -506,7 +506,7 @@ fn serve_kept<
     let seats = seats_of(serving);
     let passes = passes_of(serving);
     let found = (snapshot, keeper);
-    let opened = Workers::<Open<J>, &R, StoreKeeper<N, H>>::resume(
+    let opened = Workers::<Joining<J>, &R, StoreKeeper<N, H>>::resume(
         rt, alloc, store, found, passes, seats,
     )?;
     let workers = with_roles(alloc, opened, serving)?;

@@ -49,6 +49,7 @@ pub mod run;
 pub mod select;
 mod sending;
 pub mod serve;
+mod upkeep;
 mod writing;
 
 pub use check::Outcome;

@@ -27,13 +27,14 @@ use crate::opening::open_blocks;
 use crate::process::Process;
 use crate::rules::rules_of;
 use crate::sending::send;
+use crate::upkeep::{check_upkeep, upkeep_of};
 use block::Block;
 use guard::Rules;
 use keeper::Keeper;
 use server::{
     Listeners, Schedule, ServeError, Shift, Terms, Watch, Workers, report_opening, serve_watched,
 };
-use snapshots::{Naming, Open, OpenNaming, Store};
+use snapshots::{Joining, JoiningNaming, Naming, OpenNaming, Store};
 use std::alloc::{AllocError, Global};
 use std::io::Write;
 use std::marker::Brand;
@@ -125,7 +126,7 @@ pub(crate) fn watch_at<'a, F>(
 /// Runs workers, and meanwhile answers those that watch, if any can.
 fn run_workers<
     'a,
-    J: OpenNaming + Send + Sync,
+    J: JoiningNaming + Send + Sync,
     K: Keeper + Drop + Send,
     R: Wait + Threads + Clock + Eprint + Sync,
     F: ReadFiles,
@@ -193,7 +194,7 @@ pub(crate) fn passes_of(serving: Serving<'_>) -> usize
 
 /// The workers of the first port, of as many as there are seats. The others serve the port of
 /// Prometheus, as many as the options ask for. One seat is for the cuts of the server itself, if
-/// the options ask for them.
+/// the options ask for them, and for the joins of the blocks of a store that is kept.
 pub(crate) fn with_roles<J: OpenNaming, C: Wait + Drop, K: Keeper + Drop>(
     alloc: Global,
     workers: Workers<J, C, K>,
@@ -210,7 +211,7 @@ pub(crate) fn with_roles<J: OpenNaming, C: Wait + Drop, K: Keeper + Drop>(
             every: serving.cut_every,
             after: serving.cut_after,
         };
-        Ok(workers.cutting(when))
+        Ok(workers.cutting(alloc, when, upkeep_of(serving)))
     }
 }
 
@@ -218,7 +219,7 @@ pub(crate) fn with_roles<J: OpenNaming, C: Wait + Drop, K: Keeper + Drop>(
 /// Returns what each has done.
 pub(crate) fn serve_workers<
     'a,
-    J: OpenNaming + Send + Sync,
+    J: JoiningNaming + Send + Sync,
     K: Keeper + Drop + Send,
     R: Wait + Threads + Net<Listener = TcpListener, Stream = TcpStream> + Clock + Eprint + Sync,
     F: ReadFiles,
@@ -283,7 +284,7 @@ fn serve_blocks<
 {
     let seats = seats_of(serving);
     let passes = passes_of(serving);
-    let opened = Workers::<Open<J>, &R>::open(rt, alloc, store, blocks, passes, seats)?;
+    let opened = Workers::<Joining<J>, &R>::open(rt, alloc, store, blocks, passes, seats)?;
     let workers = with_roles(alloc, opened, serving)?;
     serve_workers(rt, alloc, files, workers, rules, doors, serving, out)
 }
@@ -422,11 +423,11 @@ fn serve_directories<
 /// name one. Otherwise it is a store over the blocks in these directories, with an empty head over
 /// them.
 ///
-/// The rules are read first, and the status port and that of Prometheus are listened on. Then the
-/// folder is locked and its journal replayed, or the directories are opened as by `select`. Then
-/// the store is opened, the port is listened on, and `listening P` is written. It refuses with `O5`
-/// if the port of Prometheus is asked for and the folder has a store of whole numbers, which then
-/// stays as it was.
+/// The options of how long samples are kept are looked at first. Then the rules are read, and the
+/// status port and that of Prometheus are listened on. Then the folder is locked and its journal
+/// replayed, or the directories are opened as by `select`. Then the store is opened, the port is
+/// listened on, and `listening P` is written. It refuses with `O5` if the port of Prometheus is
+/// asked for and the folder has a store of whole numbers, which then stays as it was.
 pub fn serve<
     R: Wait + Threads + Net<Listener = TcpListener, Stream = TcpStream> + Clock + Eprint + Sync,
     F: ReadFiles,
@@ -446,6 +447,7 @@ pub fn serve<
     ensures err { IfErr result (λ fault. IsServeFault (F.may_read files.now)
         (paths_of directories.now) serving.entry (W.contents out.old) (W.contents out.new) fault) }
 {
+    check_upkeep(alloc, serving)?;
     let rules = rules_of(alloc, files, serving)?;
     let listener = listen_beside(rt, serving)?;
     let door = listen_prometheus(rt, serving)?;

@@ -18,6 +18,7 @@ pub fn list_names<F: Folder>(
     requires { F.sound folder.old ≡ true }
     ensures sound { F.sound folder.new ≡ true }
     ensures failed { OnErr result (F.failed folder.new ≡ true) }
+    ensures lasting { F.failed folder.old ≡ true → F.failed folder.new ≡ true }
     ensures listed { IfOk result (λ names. F.lists folder.new name.now (names_in names.items)) }
     ensures all { KeepsAll F.shows F.kept folder.old folder.new }
     ensures kept { (names : List (List ℕ))

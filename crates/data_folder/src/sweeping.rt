@@ -92,6 +92,7 @@ fn remove_litter<F: Folder>(folder: &mut F, name: &str, kept: &[String]) -> usiz
     requires { F.sound folder.old ≡ true }
     ensures few { result ≤ 1 }
     ensures sound { F.sound folder.new ≡ true }
+    ensures lasting { F.failed folder.old ≡ true → F.failed folder.new ≡ true }
     ensures kept { KeepsStore F.shows F.kept F.sound F.moment F.left_since
         (names_in kept.now) folder.old folder.new }
 {
@@ -113,6 +114,7 @@ fn remove_litter<F: Folder>(folder: &mut F, name: &str, kept: &[String]) -> usiz
 pub fn sweep<F: Folder>(folder: &mut F, names: &[String], kept: &[String]) -> usize
     requires { F.sound folder.old ≡ true }
     ensures sound { F.sound folder.new ≡ true }
+    ensures lasting { F.failed folder.old ≡ true → F.failed folder.new ≡ true }
     ensures kept { KeepsStore F.shows F.kept F.sound F.moment F.left_since
         (names_in kept.now) folder.old folder.new }
 {

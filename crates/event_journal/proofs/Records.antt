@@ -8,7 +8,7 @@ use Rattle.wire.specs.Spelling.{IsBytes}
 use Rattle.wire.proofs.ChecksumBound.{crc32c_below}
 use Rattle.wire.proofs.Fields.{bytes_again, number_again_4}
 use Rattle.wire.proofs.Steps.{same_value}
-use Rattle.head.specs.Worlds.{Event, batch, deletion, cut}
+use Rattle.head.specs.Worlds.{Event, batch, deletion, cut, joined}
 use Rattle.event_text.specs.Spelling.{event_text}
 use Rattle.journal.specs.Group.{AreRecords}
 use Rattle.journal.specs.Records.{record_of, records_of, IsContent}
@@ -65,6 +65,7 @@ unfolding event_text
 plain_text (batch xs) = refl
 plain_text (deletion ms a b) = refl
 plain_text (cut t) = refl
+plain_text (joined at count made) = refl
 
 -- records are written so far: those of the first events, by number
 pub record Numbered (first : List Label) (events : List Event) (rest out : List ℕ)

@@ -5,7 +5,7 @@ use Rattle.std.specs.Prelude.{◌&&◌, nat_le}
 use Rattle.std.proofs.lemmas.Bool.{eqb-true}
 use Rattle.wire.specs.Spelling.{IsBytes}
 use Rattle.wire.proofs.Steps.{same_value}
-use Rattle.head.specs.Worlds.{Event, batch, deletion, cut}
+use Rattle.head.specs.Worlds.{Event, batch, deletion, cut, joined}
 use Rattle.event_text.specs.Spelling.{event_text}
 use Rattle.event_text.proofs.Events.{one_text}
 use Rattle.journal.proofs.Scans.{one_reading}
@@ -53,6 +53,7 @@ unfolding event_text
 begins (batch xs) = refl
 begins (deletion ms a b) = refl
 begins (cut t) = refl
+begins (joined at count made) = refl
 
 by_kind : (names : List Label) (kind : ℕ) (rest : List ℕ) (four : Bool) (e : Event)
     (after : List Label) → eqb kind 4 ≡ four

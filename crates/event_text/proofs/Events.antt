@@ -7,7 +7,7 @@ use Rattle.wire.specs.Outcome.{Fails}
 use Rattle.wire.specs.Spelling.{IsBytes}
 use Rattle.wire.proofs.Steps.{bind_ok, passed, same_value}
 use Rattle.head.specs.Batches.{IsEvent}
-use Rattle.head.specs.Worlds.{Event, batch, deletion, cut}
+use Rattle.head.specs.Worlds.{Event, batch, deletion, cut, joined}
 use Rattle.event_text.specs.declared.error.TextError.{TextError}
 use Rattle.event_text.specs.declared.error.TextError.TheVariants.{Memory, Kind, Field, Labels, Runs}
 use Rattle.event_text.specs.declared.error.TextError.TheVariants.{Bounds, Rest}
@@ -21,11 +21,13 @@ pub is_within : (e : Event) → is_event e ≡ true → IsEvent e
 is_within (batch xs) h = h
 is_within (deletion ms a b) h = h
 is_within (cut t) h = h
+is_within (joined at count made) h = h
 
 within_is : (e : Event) → IsEvent e → is_event e ≡ true
 within_is (batch xs) h = h
 within_is (deletion ms a b) h = h
 within_is (cut t) h = h
+within_is (joined at count made) h = h
 
 record Alone (c e : Event) (rest : List ℕ) : Type 0 where
   same : c ≡ e

@@ -18,7 +18,7 @@ use Rattle.labels.specs.Labels.{Labels}
 use Rattle.matchers.specs.Views.{MatcherView}
 use Rattle.matchers.specs.declared.matcher.Op.{Op}
 use Rattle.matchers.specs.declared.matcher.Op.TheVariants.{Equal, NotEqual, Like, NotLike}
-use Rattle.head.specs.Worlds.{Event, batch, deletion, cut}
+use Rattle.head.specs.Worlds.{Event, batch, deletion, cut, joined}
 use Rattle.event_text.specs.declared.error.TextError.{TextError}
 use Rattle.event_text.specs.declared.error.TextError.TheVariants.{Kind, Field, Runs as BadRuns}
 use Rattle.event_text.specs.declared.error.TextError.TheVariants.{Labels as BadLabels}
@@ -417,3 +417,4 @@ event_again (deletion ms a b) rest h =
 event_again (cut t) rest h =
     let one = varint_again t rest h in
     rw one refl
+event_again (joined at count made) rest h = absurd h

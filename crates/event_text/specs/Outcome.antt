@@ -5,7 +5,7 @@ use Rattle.labels.specs.Names.{is_name}
 use Rattle.matchers.specs.Patterns.{IsRefusedPattern}
 use Rattle.matchers.specs.Satisfies.{takes_pattern}
 use Rattle.matchers.specs.Views.{MatcherView}
-use Rattle.head.specs.Worlds.{Event, batch, deletion, cut}
+use Rattle.head.specs.Worlds.{Event, batch, deletion, cut, joined}
 use Rattle.wire.specs.Outcome as outcome
 use Rattle.event_text.specs.declared.error.TextError.{TextError}
 use Rattle.event_text.specs.declared.error.TextError.TheVariants.{Memory}
@@ -35,6 +35,7 @@ abbrev pub HasRefusedMatcher : Event → Type 0
 HasRefusedMatcher (batch xs) = ⊥
 HasRefusedMatcher (deletion ms from to) = HasRefused ms
 HasRefusedMatcher (cut t) = ⊥
+HasRefusedMatcher (joined at count made) = ⊥
 
 -- where `Matcher::new` refused a matcher
 abbrev pub OnMatcherRefused : {X : Type 0} → Result X EventError → Type 0 → Type 0

@@ -1,6 +1,6 @@
 -- Reading an event: the value and the bytes after it, or the first fault.
 use Rattle.std.specs.Prelude.{ℕ, zero, suc, ℤ, Bool, ◌&&◌, List, [], ◌∷◌, length, Option}
-use Rattle.std.specs.Prelude.{None, Some, Result, Ok, Err, nat_le, ◌==◌, if◌then◌else◌}
+use Rattle.std.specs.Prelude.{None, Some, Result, Ok, Err, nat_le, nat_lt, ◌==◌, if◌then◌else◌}
 use Rattle.std.specs.List.{list_all}
 use Rattle.std.specs.Str.{is_utf8}
 use Rattle.std.specs.Ordering.{is_lt}
@@ -13,7 +13,7 @@ use Rattle.matchers.specs.Views.{MatcherView}
 use Rattle.matchers.specs.declared.matcher.Op.{Op}
 use Rattle.matchers.specs.declared.matcher.Op.TheVariants.{Equal, NotEqual, Like, NotLike}
 use Rattle.head.specs.Batches.{is_batch, is_deletion}
-use Rattle.head.specs.Worlds.{Event, batch, deletion, cut}
+use Rattle.head.specs.Worlds.{Event, batch, deletion, cut, joined}
 use Rattle.event_text.specs.declared.error.TextError.{TextError}
 use Rattle.event_text.specs.declared.error.TextError.TheVariants.{Kind, Field, Labels as BadLabels}
 use Rattle.event_text.specs.declared.error.TextError.TheVariants.{Runs, Bounds, Rest}
@@ -127,6 +127,7 @@ abbrev pub is_event : Event → Bool
 is_event (batch xs) = is_batch xs
 is_event (deletion ms a b) = is_deletion ms a b
 is_event (cut t) = is_time t
+is_event (joined at count made) = nat_lt made count
 
 -- nothing may be left, and the event has to be within its bounds
 abbrev pub alone : Event → List ℕ → Result Event TextError

@@ -1,5 +1,5 @@
 -- The one spelling of each event.
-use Rattle.std.specs.Prelude.{◌≡◌, ◌<◌, ◌^◌, ℕ, ℤ, true, List, ◌∷◌, ◌++◌, length}
+use Rattle.std.specs.Prelude.{◌≡◌, ◌<◌, ◌^◌, ℕ, ℤ, true, List, [], ◌∷◌, ◌++◌, length}
 use Rattle.std.specs.List.{flat_map, AllByRecursion}
 use Rattle.std.specs.Str.{is_utf8}
 use Rattle.wire.specs.Spelling.{uvarint, varint, zigzag}
@@ -9,7 +9,7 @@ use Rattle.matchers.specs.Views.{MatcherView}
 use Rattle.matchers.specs.declared.matcher.Op.{Op}
 use Rattle.matchers.specs.declared.matcher.Op.TheVariants.{Equal, NotEqual, Like, NotLike}
 use Rattle.head.specs.Batches.{IsEvent}
-use Rattle.head.specs.Worlds.{Event, batch, deletion, cut}
+use Rattle.head.specs.Worlds.{Event, batch, deletion, cut, joined}
 use Rattle.event_text.specs.Runs.{Run, runs_of}
 
 -- how many bytes, and the bytes
@@ -46,6 +46,8 @@ unfoldable pub event_text : Event → List ℕ
 event_text (batch xs) = 1 ∷ many_text run_text (runs_of xs)
 event_text (deletion ms a b) = 2 ∷ (many_text matcher_text ms ++ (varint a ++ varint b))
 event_text (cut t) = 3 ∷ varint t
+-- a join is kept by what it makes, and no text stands for it: this one is no event's
+event_text (joined at count made) = 3 ∷ []
 
 -- what has a spelling: texts are UTF-8, label sets are ones, and each number fits its type
 
@@ -79,6 +81,7 @@ HasSpelling (batch xs) = AreMany IsRun (runs_of xs)
 HasSpelling (deletion ms a b) =
     AreMany IsMatcher ms × (zigzag a < 2 ^ 64) × (zigzag b < 2 ^ 64)
 HasSpelling (cut t) = zigzag t < 2 ^ 64
+HasSpelling (joined at count made) = ⊥
 
 -- the bytes spell the event, which is within its bounds
 pub record Spells (bytes : List ℕ) (e : Event) : Type 0 where

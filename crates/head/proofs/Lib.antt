@@ -35,6 +35,7 @@ pub mod Leaving
 pub mod WorkedRows
 pub mod OwnSteps
 pub mod Replays
+pub mod JoinedRuns
 pub mod Resuming
 pub mod Points
 pub mod Steps

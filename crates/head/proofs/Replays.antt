@@ -9,7 +9,8 @@ use Rattle.head.specs.Refusals.{Refusal}
 use Rattle.head.specs.Heads.{BlockPart, SnapshotParts}
 use Rattle.head.specs.Kept.{KeepsBlocks}
 use Rattle.head.specs.Replaying.{DeleteNothing, IsNoDeletion, RefusesAt, StandFirst}
-use Rattle.head.specs.Worlds.{Event, World, batch, cut, deletion, stepped, replayed, replayed_from}
+use Rattle.head.specs.Worlds.{Event, World, batch, cut, deletion, joined, stepped, replayed}
+use Rattle.head.specs.Worlds.{replayed_from}
 use Rattle.head.specs.declared.error.CommitError.{CommitError}
 
 pub replayed_from-snoc : (r : Result World Refusal) (es : List Event) (e : Event) (v : World) → replayed_from r es ≡ Ok v → replayed_from r (es ++ e ∷ []) ≡ stepped v e
@@ -49,6 +50,7 @@ stand_first (batch xs) old new none kept = ([], kept ∙ sym (append-nil old.blo
 stand_first (deletion ms from to) old new none kept = absurd none
 stand_first (cut t) old new none kept =
     ⊎_elim (λ same. ([], same ∙ sym (append-nil old.blocks))) (λ one. (one.0 ∷ [], one.1)) kept
+stand_first (joined at count made) old new none kept = absurd none
 
 then_first : (a b c : List BlockPart) → StandFirst a b → StandFirst b c → StandFirst a c
 then_first a b c one two = (

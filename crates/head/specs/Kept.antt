@@ -7,7 +7,8 @@ use Rattle.labels.specs.Parts.{rows_in}
 use Rattle.block.specs.Grammar.{IsBlock}
 use Rattle.block_writer.specs.Writing.{chunks_text}
 use Rattle.block_writer.specs.Written.{IsWrittenIndex}
-use Rattle.head.specs.Worlds.{Event, batch, deletion, cut}
+use Rattle.head.specs.Joins.{IsJoined}
+use Rattle.head.specs.Worlds.{Event, batch, deletion, cut, joined}
 use Rattle.head.specs.Heads.{BlockPart, SnapshotParts, world_of}
 use Rattle.head.specs.Removing.{blocks_kept, survives}
 
@@ -30,7 +31,8 @@ pub record IsBlockOf (from to : ℤ) (samples : Content) (block : BlockPart) : T
 
 -- A commit keeps the blocks. A deletion takes from each block exactly the samples that it strikes,
 -- also those that a later block hides, and leaves the rest of each as it was. A cut keeps the
--- blocks and adds at most one, of the samples that leave the head.
+-- blocks and adds at most one, of the samples that leave the head. A join puts fewer blocks, which
+-- hold the same, in the place of some that stand side by side, and keeps all others.
 abbrev pub KeepsBlocks : Event → SnapshotParts → List BlockPart → Type 0
 KeepsBlocks (batch xs) old new = new ≡ old.blocks
 KeepsBlocks (deletion ms from to) old new = new ≡ blocks_kept (survives ms from to) old.blocks
@@ -38,3 +40,4 @@ KeepsBlocks (cut t) old new =
     (new ≡ old.blocks)
     ⊎ ((block : BlockPart) × (new ≡ old.blocks ++ block ∷ [])
     × IsBlockOf old.floor t (between old.floor t (world_of old).content) block)
+KeepsBlocks (joined at count made) old new = IsJoined at count made old.blocks new

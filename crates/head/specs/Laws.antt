@@ -5,7 +5,7 @@ use Rattle.labels.specs.Labels.{Labels}
 use Rattle.head.specs.declared.left.Reason.{Reason}
 use Rattle.head.specs.declared.left.Reason.TheVariants.{OutOfBounds, OutOfOrder, Duplicate, Limit}
 use Rattle.head.specs.Refusals.{Refusal, out_of_bounds, out_of_order, duplicate, limit, cut_too_low}
-use Rattle.head.specs.Refusals.{too_many_parts}
+use Rattle.head.specs.Refusals.{too_many_parts, no_such_blocks}
 use Rattle.head.specs.Worlds.{World, Batch, added}
 use Rattle.head.specs.Sifting.{Sifted, has, is_newest, sifted}
 
@@ -31,8 +31,8 @@ pub record IsRefusedAt (w : World) (xs : Batch) (left : ℕ × Refusal) : Type 0
 abbrev pub places : List (ℕ × Refusal) → List ℕ
 places left = map (λ l. l.0) left
 
--- Why a sample that is refused so is left out. No sample is refused as a cut is; if one were, a
--- limit would be told.
+-- Why a sample that is refused so is left out. No sample is refused as a cut or a join is; if one
+-- were, a limit would be told.
 abbrev pub reason_of : Refusal → Reason
 reason_of (out_of_bounds at) = OutOfBounds
 reason_of (out_of_order at) = OutOfOrder
@@ -40,6 +40,7 @@ reason_of (duplicate at) = Duplicate
 reason_of limit = Limit
 reason_of cut_too_low = Limit
 reason_of too_many_parts = Limit
+reason_of no_such_blocks = Limit
 
 -- why each sample that is left out is
 abbrev pub reasons : List (ℕ × Refusal) → List Reason

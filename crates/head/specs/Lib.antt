@@ -20,6 +20,7 @@ pub mod HeadRowLaws
 pub mod LendingLaws
 pub mod ChunkEnds
 pub mod Blocks
+pub mod Joins
 pub mod Kept
 pub mod Cuts
 pub mod Removing

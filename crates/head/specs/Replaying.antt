@@ -3,7 +3,7 @@ use Rattle.std.specs.Prelude.{◌≡◌, ◌++◌, ℕ, List, Ok, Some, slice_ge
 use Rattle.std.specs.List.{AllByRecursion}
 use Rattle.head.specs.Heads.{BlockPart}
 use Rattle.head.specs.Outcomes.{IsStepRefusal}
-use Rattle.head.specs.Worlds.{Event, World, batch, cut, deletion, replayed, stepped}
+use Rattle.head.specs.Worlds.{Event, World, batch, cut, deletion, joined, replayed, stepped}
 use Rattle.head.specs.declared.error.CommitError.{CommitError}
 
 -- the events before this place are accepted, and the step of the event there is refused so, or
@@ -20,6 +20,7 @@ abbrev pub IsNoDeletion : Event → Type 0
 IsNoDeletion (batch xs) = Unit {0}
 IsNoDeletion (deletion ms from to) = ⊥
 IsNoDeletion (cut t) = Unit {0}
+IsNoDeletion (joined at count made) = ⊥
 
 -- none of these events is a deletion
 abbrev pub DeleteNothing : List Event → Type 0

@@ -1,7 +1,7 @@
 -- The world, and the steps of events.
 use Rattle.std.specs.Prelude.{ℕ, ℤ, ◌+◌, Bool, false, not, ◌&&◌, ◌||◌, List, [], ◌∷◌, Option, None}
 use Rattle.std.specs.Prelude.{Some, Result, Ok, Err, nat_le, int_lt, length, filter, if◌then◌else◌}
-use Rattle.std.specs.Prelude.{is_none}
+use Rattle.std.specs.Prelude.{is_none, nat_lt, ◌-◌}
 use Rattle.std.specs.Ordering.{int_eq}
 use Rattle.std.specs.FinMap.Entries.{find, put}
 use Rattle.labels.specs.Labels.{Labels, point_cmp, labels_cmp, same_labels}
@@ -11,7 +11,7 @@ use Rattle.matchers.specs.Satisfies.{satisfies_all}
 use Rattle.head.specs.Fits.{fits}
 use Rattle.head.specs.Limits.{max_series, max_samples}
 use Rattle.head.specs.Refusals.{Refusal, out_of_bounds, out_of_order, duplicate, limit, cut_too_low}
-use Rattle.head.specs.Refusals.{too_many_parts}
+use Rattle.head.specs.Refusals.{too_many_parts, no_such_blocks}
 
 -- label sets, each with its newest committed sample, in order of creation
 abbrev pub Newest : Type 0
@@ -105,34 +105,45 @@ abbrev pub cut_at : (Content → Bool) → World → ℤ → Result World Refusa
 cut_at fits w t =
     if int_lt w.floor t then cut_off fits w t (between w.floor t w.content) else Err cut_too_low
 
+-- the step of a join: so many blocks from a place on have become fewer; all else stays
+abbrev pub joined_at : World → ℕ → ℕ → ℕ → Result World Refusal
+joined_at w at count made =
+    if nat_lt made count && nat_le (at + count) w.blocks
+    then Ok (record w { blocks = (w.blocks - count) + made })
+    else Err no_such_blocks
+
 -- the samples of a batch in their order, each with its label set
 abbrev pub Batch : Type 0
 Batch = List (Labels × (ℤ × ℤ))
 
 -- an event, as it was handed over: a batch, a deletion of the series that satisfy all matchers in a
--- closed range, or a cut
+-- closed range, a cut, or a join, which puts so many blocks in the place of more from a place on
 pub data Event : Type 0 where
   batch : Batch → Event
   deletion : List MatcherView → ℤ → ℤ → Event
   cut : ℤ → Event
+  joined : ℕ → ℕ → ℕ → Event
 
 -- the batch that an event is, if it is one
 abbrev pub batch_of : Event → Option Batch
 batch_of (batch xs) = Some xs
 batch_of (deletion ms a b) = None
 batch_of (cut t) = None
+batch_of (joined at count made) = None
 
 -- the matchers of a deletion, if an event is one
 abbrev pub matchers_of : Event → Option (List MatcherView)
 matchers_of (batch xs) = None
 matchers_of (deletion ms a b) = Some ms
 matchers_of (cut t) = None
+matchers_of (joined at count made) = None
 
 -- the step of an event
 abbrev pub stepped : World → Event → Result World Refusal
 stepped w (batch xs) = committed w xs
 stepped w (deletion ms a b) = Ok (deleted w (satisfies_all ms) a b)
 stepped w (cut t) = cut_at fits w t
+stepped w (joined at count made) = joined_at w at count made
 
 -- events in order after a world; the first refused one refuses all
 abbrev pub replayed_from : Result World Refusal → List Event → Result World Refusal

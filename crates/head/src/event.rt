@@ -60,6 +60,7 @@ fn are_timed(samples: &[(LabelSet, Sample)]) -> bool
 impl Event {
     ghost use Rattle.head.specs.Kinds.{change_seen};
     ghost use Rattle.head.specs.Batches.{IsEvent};
+    ghost use Rattle.head.specs.Joins.{IsNoJoin};
 
     /// Whether there are at most 4,096 samples, all at times: what a batch is made of.
     pub fn is_batch(samples: &[(LabelSet, Sample)]) -> bool
@@ -135,6 +136,7 @@ impl Event {
     pub fn view(&self) -> EventView<'_>
         ensures shown { change_seen result ≡ self.now }
         ensures kept { IsEvent self.now }
+        ensures unjoined { IsNoJoin self.now }
     {
         match &self.kind {
             Kind::Batch(samples) => EventView::Batch(samples.as_slice()),

@@ -83,6 +83,22 @@ impl HeadView {
         Ok(index)
     }
 
+    /// The same series, in a version that copied no sample.
+    pub(crate) fn again(&self) -> Result<HeadView, AllocError>
+        ensures series { IfOk result (λ head. series_of head ≡ series_of self.now) }
+        ensures copied { IfOk result (λ head. copied_of head ≡ 0) }
+    {
+        let series = self.series.try_clone()?;
+        let order = self.order.try_clone()?;
+        let index = self.index.try_clone()?;
+        Ok(HeadView {
+            series,
+            order,
+            index,
+            copied: 0,
+        })
+    }
+
     pub(crate) fn series(&self) -> &SeriesList
         ensures { result.now ≡ series_of self.now }
     {

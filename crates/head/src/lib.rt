@@ -25,6 +25,10 @@
 //! [`replay`] applies events one after another, and refuses (`J18`) the first that is none of such
 //! a list.
 //!
+//! A join puts blocks in the place of more that hold the same ([`apply_joined`]): of the world only
+//! the number of blocks changes. Its step is a step of the world as those of events are, but it is
+//! no [`Event`]: nobody hands it over, and no journal has it.
+//!
 //! ```
 //! let opening = Snapshot::opening(alloc, Vec::new(alloc)).ok()?;
 //! let labels = LabelSet::of_sorted_texts(alloc, &[("__name__", "up")]).ok()?;
@@ -54,6 +58,7 @@ mod event;
 mod growing;
 mod head;
 mod index;
+mod joined_blocks;
 mod joining;
 mod judge;
 mod laws;
@@ -80,6 +85,7 @@ pub use cut::MAX_BLOCKS;
 pub use error::{AppendError, CommitError, RefusedEvent, ResumeError};
 pub use event::{Event, EventView, MAX_BATCH};
 pub use head::HeadView;
+pub use joined_blocks::apply_joined;
 pub use laws::{
     a_sift_is_one_event_or_none, again_changes_nothing, an_accepted_batch_is_kept,
     each_sample_is_told, parts_are_as_the_whole, what_is_held_may_come_first,

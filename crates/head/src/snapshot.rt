@@ -6,6 +6,7 @@ ghost use Rattle.labels.specs.Contents.{is_time};
 ghost use Rattle.head.specs.Heads.{world_of, IsSoundSnapshot};
 ghost use Rattle.head.specs.Batches.{is_batch, set_count, CopiesFew};
 ghost use Rattle.head.specs.BatchRows.{batch_of_rows, batch_in};
+ghost use Rattle.head.specs.Joins.{IsNoJoin};
 ghost use Rattle.head.specs.Kept.{KeepsBlocks};
 ghost use Rattle.head.specs.Worlds.{stepped, committed, batch};
 ghost use Rattle.head.specs.OnWay.{with_slots, IsReached};
@@ -180,6 +181,7 @@ pub fn apply(alloc: Global, at: &Snapshot, event: &Event) -> Result<Snapshot, Co
         IsStepRefusal e (stepped (world_of at.now) event.now)) }
     ensures kept { IfOk result (λ s. KeepsBlocks event.now at.now s.blocks) }
     ensures copied { IfOk result (λ s. CopiesFew event.now s.copied) }
+    ensures unjoined { IsNoJoin event.now }
 {
     match event.view() {
         EventView::Batch(samples) => snapshot_with(alloc, at, Samples::Pairs(samples)),

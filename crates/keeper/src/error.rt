@@ -12,7 +12,7 @@ use std::alloc::{AllocError, AllocFailed};
 pub enum KeepError {
     /// No memory is left.
     Memory,
-    /// The text of an event is too long to be kept.
+    /// The text of an event, or what is saved, is too long to be kept.
     TooLong,
     /// The events could not be written.
     Failed,

@@ -20,8 +20,9 @@ use std::alloc::Global;
 /// world (`finds_only`). What is kept may be begun anew: a head then says the world of the events
 /// before it, and these are gone, though what is left still stands for them.
 ///
-/// What it was handed last can be taken back, once: [`Keeper::keep`] gives the right to that, and
-/// one who gives the right up ([`Keeper::settle`]) has it shown that the events stay.
+/// What it was handed last can be taken back, once: [`Keeper::keep`] and [`Keeper::save`] give the
+/// right to that, and one who gives the right up ([`Keeper::settle`]) has it shown that the events
+/// stay.
 pub trait Keeper {
     /// The right to take back what was kept last. Keeping alone gives one.
     type Last: Drop;
@@ -110,6 +111,40 @@ pub trait Keeper {
         // Any other refusal but memory's has a cause: there is no room, or writing failed. It
         // closes for no cause but that.
         ensures full { IsErrOf result KeepError.TooLong → full self.old }
+        ensures failed { IsErrOf result KeepError.Failed → failed self.new ≡ true }
+        ensures lost { closed self.new ≡ true
+            → (closed self.old ≡ true) ⊎ (failed self.new ≡ true) };
+
+    /// Keeps several events more by saving what all of them make, in the place of all that is kept,
+    /// as a roll does: a head then says the world of all of them. So events that have no record are
+    /// kept, as one that joins blocks. The snapshot is what all of them make, and no event is kept
+    /// meanwhile. After an `Err` it keeps what it kept.
+    fn save(&mut self, alloc: Global, snapshot: &Snapshot) -> Result<Self::Last, KeepError>
+        requires made { idle ≡ false → (events more : List Change) × holds self.old events
+            × may (events ++ more) × IsOfAll first (events ++ more) (world_of snapshot.now) }
+        ensures ok { OnOk result ((events more : List Change) → holds self.old events
+            → (idle ≡ false → IsOfAll first (events ++ more) (world_of snapshot.now))
+            → holds self.new (events ++ more)) }
+        ensures last { IfOk result (λ last. (events more : List Change) → holds self.old events
+            → (idle ≡ false → IsOfAll first (events ++ more) (world_of snapshot.now))
+            → kept_last self.new last events more) }
+        ensures err { OnErr result ((events more : List Change) → holds self.old events
+            → (idle ≡ false → IsOfAll first (events ++ more) (world_of snapshot.now))
+            → holds self.new events) }
+        // Nothing can fail where nothing is kept.
+        ensures needed { OnErr result (idle ≡ false) }
+        // A crash at any moment of the call leaves all that it kept, and the first few of these.
+        ensures any_moment { (events more : List Change) → holds self.old events
+            → (idle ≡ false → IsOfAll first (events ++ more) (world_of snapshot.now))
+            → closed self.old ≡ false
+            → LeavesEvents moment left_since stands self.old self.new
+            (AreAllAndSome events more) }
+        // It is open after `Ok`. Where it is closed it says so, and nowhere else, and does nothing.
+        ensures open { OnOk result (closed self.new ≡ false) }
+        ensures closed { closed self.old ≡ true → (result ≡ Err KeepError.Closed)
+            × (self.new ≡ self.old) }
+        ensures told { IsErrOf result KeepError.Closed → closed self.old ≡ true }
+        // `Failed` has a cause: writing failed. It closes for no cause but that.
         ensures failed { IsErrOf result KeepError.Failed → failed self.new ≡ true }
         ensures lost { closed self.new ≡ true
             → (closed self.old ≡ true) ⊎ (failed self.new ≡ true) };
@@ -241,6 +276,10 @@ impl Keeper for NoKeeper {
     }
 
     fn keep(&mut self, _records: &[u8]) -> Result<(), KeepError> {
+        Ok(())
+    }
+
+    fn save(&mut self, _alloc: Global, _snapshot: &Snapshot) -> Result<(), KeepError> {
         Ok(())
     }
 

@@ -8,7 +8,7 @@ use Rattle.labels.specs.Labels.{Labels, point_cmp, same_labels}
 use Rattle.labels.specs.Rows.{Row}
 use Rattle.labels.specs.Parts.{Part, rows_in}
 use Rattle.head.specs.Refusals.{Refusal, limit, out_of_bounds, out_of_order, duplicate, cut_too_low}
-use Rattle.head.specs.Refusals.{too_many_parts}
+use Rattle.head.specs.Refusals.{too_many_parts, no_such_blocks}
 use Rattle.head.specs.Worlds.{World, Newest}
 use Rattle.head.specs.Worlds as worlds
 use Rattle.kept_walk.specs.Kept.{Event, batch, deletion, cut}
@@ -55,6 +55,7 @@ is_limit (duplicate at) = false
 is_limit limit = true
 is_limit cut_too_low = false
 is_limit too_many_parts = false
+is_limit no_such_blocks = false
 
 -- both accept, with a state and a world that are alike, or both refuse
 abbrev pub Agrees : Result World Refusal → Option State → Type 0

@@ -9,6 +9,7 @@ use Rattle.regex_meta.specs.contracts.plan.Plans as plans
 use Rattle.regex_meta.specs.contracts.signs.Signs as signs
 use Rattle.regex_literal.specs.contracts.byte_set.ByteSet as bytes
 use Rattle.regex.specs.contracts.pattern.Pattern as pattern
+use Rattle.text_choices.specs.contracts.alternative.Alternative as alternative
 use Rattle.text_choices.specs.contracts.atom.Atom as atom
 use Rattle.text_choices.specs.contracts.choice.Choice as choice
 use Rattle.matchers.specs.contracts.pattern.Built as built
@@ -66,11 +67,17 @@ Atom-sync = search (sendable) depth 60 fits 20000
 pub Atom-send : IsSend atom.the_field.row
 Atom-send = search (sendable) depth 60 fits 20000
 
+pub Alternative-sync : IsSync alternative.the_field.row
+Alternative-sync = search (sendable, heap.Vec-sync, Atom-sync) depth 60 fits 20000
+
+pub Alternative-send : IsSend alternative.the_field.row
+Alternative-send = search (sendable, heap.Vec-send, Atom-send) depth 60 fits 20000
+
 pub Choice-sync : IsSync choice.the_field.row
-Choice-sync = search (sendable, heap.Vec-sync, Atom-sync) depth 60 fits 20000
+Choice-sync = search (sendable, heap.Vec-sync, Alternative-sync) depth 60 fits 20000
 
 pub Choice-send : IsSend choice.the_field.row
-Choice-send = search (sendable, heap.Vec-send, Atom-send) depth 60 fits 20000
+Choice-send = search (sendable, heap.Vec-send, Alternative-send) depth 60 fits 20000
 
 pub Built-sync : IsSync built.the_field.row
 Built-sync = search (sendable, heap.Arc-sync, Regex-send, Regex-sync, Choice-send, Choice-sync) depth 60 fits 20000

@@ -1,7 +1,7 @@
 //! The head of a page: the question, the claim, what somebody asks about, and counts.
 
 use crate::asked::Asked;
-use crate::judgements::finding_of;
+use crate::judgements::is_judged;
 use crate::pen::Pen;
 use crate::sayings::{sayings, seen, text_of};
 use crate::shown::View;
@@ -86,9 +86,9 @@ fn matches_say(pen: &mut Pen, view: &View<'_>, matches: u64) {
 /// are told to be skipped.
 fn skips_say(pen: &mut Pen, view: &View<'_>) {
     let (mut silent, mut told) = (0u64, 0u64);
-    for place in view.shown.told.places.as_slice() {
+    for (at, place) in view.shown.told.places.iter().enumerate() {
         if let Place::Skipped(number) = *place {
-            if view.is_silent(number) {
+            if view.is_silent(at, number) {
                 silent = silent.saturating_add(1);
             } else {
                 told = told.saturating_add(1);
@@ -246,7 +246,7 @@ fn auditor_line(pen: &mut Pen, line: &Line) {
 fn unjudged(pen: &mut Pen, view: &View<'_>) {
     let mut named = false;
     for name in view.claim.unjudged.as_slice() {
-        if finding_of(view, *name).is_none() {
+        if !is_judged(view, *name) {
             pen.word(if named { ", " } else { " Not judged: " });
             part_name(pen, *name);
             named = true;

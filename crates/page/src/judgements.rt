@@ -1,10 +1,15 @@
 //! What the auditor said of a part, and which series it knows.
 
+ghost use Rattle.std.specs.Prelude.{◌≡◌};
+ghost use Rattle.page.specs.Pages.{state_of};
+ghost use Rattle.page.specs.Places.{finding_in, finding_by, finding_at};
+
 use crate::pen::Pen;
+use crate::said::{grade_at, is_of, judgement_at};
 use crate::shown::View;
 use crate::verdicts::series;
 use crate::words::plural;
-use auditor::{BlockTable, Judgement, Line, Subject, Table};
+use auditor::{BlockTable, Judgement, Line, Table};
 use cover::Interval;
 use labels::{Row, SeriesRef};
 use page_claims::shown_of;
@@ -12,14 +17,6 @@ use page_text::Tag;
 use postings::PartName;
 use state_claims::grade_of;
 use whole_audit::Grade;
-
-fn is_of(subject: Subject, name: PartName) -> bool {
-    match (subject, name) {
-        (Subject::Part(PartName::Block(m)), PartName::Block(n)) => m == n,
-        (Subject::Part(PartName::Head), PartName::Head) => true,
-        _ => false,
-    }
-}
 
 /// What a judge found of a searched part.
 #[derive(Clone, Copy, Drop)]
@@ -30,7 +27,30 @@ pub(crate) enum Finding {
     Flawed,
 }
 
-fn finding_by(grade: Grade) -> Option<Finding> {
+impl Finding {
+    /// Whether the answer is right of the part.
+    pub(crate) fn is_valid(self) -> bool {
+        match self {
+            Finding::Valid | Finding::NumberedOtherwise => true,
+            Finding::Flawed => false,
+        }
+    }
+}
+
+/// What the auditor found: a part that it passed over was not judged.
+fn finding_in(judgement: Judgement) -> Option<Finding>
+    ensures { result ≡ finding_in judgement }
+{
+    match judgement {
+        Judgement::Valid => Some(Finding::Valid),
+        Judgement::Skipped => None,
+        Judgement::Flawed(_) | Judgement::Refused(_) => Some(Finding::Flawed),
+    }
+}
+
+fn finding_by(grade: Grade) -> Option<Finding>
+    ensures { result ≡ finding_by grade }
+{
     match grade {
         Grade::Valid => Some(Finding::Valid),
         Grade::NumberedOtherwise => Some(Finding::NumberedOtherwise),
@@ -39,25 +59,37 @@ fn finding_by(grade: Grade) -> Option<Finding> {
     }
 }
 
-/// What a judge found of a part, if one judged it: a part that it passed over was not judged.
-pub(crate) fn finding_of(view: &View<'_>, name: PartName) -> Option<Finding> {
-    if let Some(state) = view.shown.state {
-        return finding_by(grade_of(state.lines, name)?);
-    }
-    match judgement_of(view.shown.lines, name)? {
-        Judgement::Valid => Some(Finding::Valid),
-        _ => Some(Finding::Flawed),
+/// What a judge found of the part at a place of the reply, if one judged it: a part that it passed
+/// over was not judged. Of two parts of one name each has what was found of itself.
+pub(crate) fn finding_of(view: &View<'_>, at: usize, name: PartName) -> Option<Finding>
+    ensures { let shown = view.now.shown.now in
+        result ≡ finding_at (state_of shown) shown.lines.now at name }
+{
+    match view.shown.state {
+        Some(state) => finding_by(grade_at(state.lines, at, name)?),
+        None => finding_in(judgement_at(view.shown.lines, at, name)?),
     }
 }
 
-/// What the auditor said of a part, if it judged it: a part that it passed over was not judged.
-fn judgement_of(lines: &[Line], name: PartName) -> Option<Judgement> {
+/// Whether the auditor judged a part of this name.
+fn has_judgement(lines: &[Line], name: PartName) -> bool {
     for line in lines {
-        if is_of(line.subject, name) && !matches!(line.judgement, Judgement::Skipped) {
-            return Some(line.judgement);
+        if is_of(name, line.subject) && finding_in(line.judgement).is_some() {
+            return true;
         }
     }
-    None
+    false
+}
+
+/// Whether a judge judged a part of this name, at whatever place.
+pub(crate) fn is_judged(view: &View<'_>, name: PartName) -> bool {
+    let Some(state) = view.shown.state else {
+        return has_judgement(view.shown.lines, name);
+    };
+    match grade_of(state.lines, name) {
+        Some(grade) => finding_by(grade).is_some(),
+        None => false,
+    }
 }
 
 /// The block of a part, if the auditor knows its series.
@@ -75,13 +107,13 @@ const OTHERWISE: &str =
     "The auditor judged this part for what is missing, and not for how few its intervals are: its \
      series had other numbers than the block's files have.";
 
-/// The judgement of a searched part.
-pub(crate) fn judgement(pen: &mut Pen, view: &View<'_>, name: PartName) {
+/// The judgement of a searched part, by what was found of it.
+pub(crate) fn judgement(pen: &mut Pen, view: &View<'_>, finding: Option<Finding>) {
     if !view.is_audited() {
         return;
     }
     pen.begin(Tag::P, "note");
-    pen.word(match finding_of(view, name) {
+    pen.word(match finding {
         None => "The auditor did not judge this part: it was given no block for it.",
         Some(Finding::Valid) => "The auditor judged this part: it is valid.",
         Some(Finding::NumberedOtherwise) => OTHERWISE,

@@ -37,6 +37,7 @@ mod map;
 mod parts;
 mod pen;
 mod rows;
+mod said;
 mod sayings;
 mod scale;
 mod shapes;
@@ -51,5 +52,6 @@ mod words;
 mod write;
 
 pub use asked::{Asked, ask};
+pub use said::places_laws;
 pub use shown::Shown;
 pub use write::{MOST_BYTES, Page, write_page, write_text};

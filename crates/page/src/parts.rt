@@ -125,11 +125,8 @@ fn tick_key(pen: &mut Pen, wide: bool) {
     pen.word(" ");
 }
 
-fn least(pen: &mut Pen, view: &View<'_>, answer: &PartAnswer, checks: Checks) {
-    let otherwise = matches!(
-        finding_of(view, answer.part),
-        Some(Finding::NumberedOtherwise)
-    );
+fn least(pen: &mut Pen, answer: &PartAnswer, checks: Checks, finding: Option<Finding>) {
+    let otherwise = matches!(finding, Some(Finding::NumberedOtherwise));
     pen.begin(Tag::P, "least");
     tick_key(pen, answer.cover.certificate.len() <= WIDE_COLUMNS);
     let separators = answer.cover.separators.len() as u64;
@@ -328,16 +325,24 @@ fn table(pen: &mut Pen, view: &View<'_>, answer: &PartAnswer) {
     pen.line();
 }
 
+fn is_valid(finding: Option<Finding>) -> bool {
+    match finding {
+        Some(finding) => finding.is_valid(),
+        None => false,
+    }
+}
+
 fn article(pen: &mut Pen, view: &View<'_>, at: usize, answer: &PartAnswer) {
     let checks = checks_of(answer, view.matchers().len());
+    let finding = finding_of(view, at, answer.part);
     pen.with(Attribute::Word(Key::Class, "part"));
     pen.with(Attribute::Named(Key::Id, "p", at as u64));
     pen.open(Tag::Article);
     head(pen, answer);
     flaws(pen, answer, view.matchers().len());
-    judgement(pen, view, answer.part);
+    judgement(pen, view, finding);
     if answer.cover.certificate.is_empty() {
-        let none = if view.is_valid(answer.part) {
+        let none = if is_valid(finding) {
             "This part has no series, so it needs no interval."
         } else {
             "This part is told to have no series, so it needs no interval."
@@ -345,7 +350,7 @@ fn article(pen: &mut Pen, view: &View<'_>, at: usize, answer: &PartAnswer) {
         word(pen, Tag::P, none);
     } else {
         figure(pen, &strip_of(answer, view.few), answer.part);
-        least(pen, view, answer, checks);
+        least(pen, answer, checks, finding);
         if answer.cover.certificate.len() > MOST_BOXES {
             groups(pen, answer.cover.certificate.as_slice());
         }
@@ -370,11 +375,11 @@ fn skipped_names(pen: &mut Pen, view: &View<'_>) {
     }
 }
 
-/// What the auditor found of a block that was skipped.
-fn skip_judged(view: &View<'_>, number: usize) -> &'static str {
-    if view.is_silent(number) {
+/// What the auditor found of a block that was skipped at a place of the reply.
+fn skip_judged(view: &View<'_>, at: usize, number: usize) -> &'static str {
+    if view.is_silent(at, number) {
         ": the auditor found that the query selects nothing of it."
-    } else if finding_of(view, PartName::Block(number)).is_some() {
+    } else if finding_of(view, at, PartName::Block(number)).is_some() {
         ": the auditor names a flaw of this: see above."
     } else {
         ": not judged, as the auditor was given no block for it."
@@ -386,11 +391,11 @@ fn skips_judged(pen: &mut Pen, view: &View<'_>) {
     if !view.is_audited() {
         return pen.word(" Nobody judged it; the auditor checks a skip against the block.");
     }
-    for place in view.shown.told.places.as_slice() {
+    for (at, place) in view.shown.told.places.iter().enumerate() {
         if let Place::Skipped(number) = *place {
             pen.word(" ");
             part_name(pen, PartName::Block(number));
-            pen.word(skip_judged(view, number));
+            pen.word(skip_judged(view, at, number));
         }
     }
 }

@@ -1,12 +1,17 @@
 //! What a page shows.
 
-use auditor::{BlockTable, Line};
+ghost use Rattle.std.specs.Prelude.{◌≡◌};
+ghost use Rattle.page.specs.Pages.{state_of};
+ghost use Rattle.page.specs.Places.{is_silent_at, is_said_skipped, is_skip_grade};
+
+use crate::said::{grade_at, judgement_at};
+use auditor::{BlockTable, Judgement, Line};
 use labels::{LabelSet, Sample};
 use matchers::{Matcher, Query};
-use page_claims::{Claim, Told, is_found_silent, is_found_valid};
+use page_claims::{Claim, Told, is_found_silent};
 use page_text::Values;
 use postings::PartName;
-use state_claims::{StateSaid, grade_of};
+use state_claims::StateSaid;
 use std::alloc::Global;
 use whole_audit::Grade;
 
@@ -52,6 +57,18 @@ pub(crate) struct View<'a> {
     pub(crate) axis: Option<(i64, i64)>,
 }
 
+fn is_said_skipped(judgement: Option<Judgement>) -> bool
+    ensures { result ≡ is_said_skipped judgement }
+{
+    matches!(judgement, Some(Judgement::Skipped))
+}
+
+fn is_skip_grade(grade: Option<Grade>) -> bool
+    ensures { result ≡ is_skip_grade grade }
+{
+    matches!(grade, Some(Grade::Skipped))
+}
+
 impl<'a> View<'a> {
     pub(crate) fn matchers(&self) -> &'a [Matcher] {
         self.shown.query.matchers()
@@ -62,25 +79,19 @@ impl<'a> View<'a> {
         self.shown.state.is_some() || !self.shown.lines.is_empty()
     }
 
-    /// Whether a judge found the answer of a part valid.
-    pub(crate) fn is_valid(&self, name: PartName) -> bool {
-        match self.shown.state {
-            Some(state) => matches!(
-                grade_of(state.lines, name),
-                Some(Grade::Valid | Grade::NumberedOtherwise)
-            ),
-            None => is_found_valid(self.shown.lines, name),
-        }
-    }
-
-    /// Whether a judge found that the query selects nothing of a block that was skipped.
-    pub(crate) fn is_silent(&self, number: usize) -> bool {
-        match self.shown.state {
-            Some(state) => {
-                let grade = grade_of(state.lines, PartName::Block(number));
-                matches!(grade, Some(Grade::Skipped))
+    /// Whether a judge found that the query selects nothing of a block that was skipped at a place
+    /// of the reply.
+    pub(crate) fn is_silent(&self, at: usize, number: usize) -> bool
+        ensures { let shown = self.now.shown.now in result
+            ≡ is_silent_at (state_of shown) shown.tables.now shown.lines.now at number }
+    {
+        let (shown, name) = (self.shown, PartName::Block(number));
+        match shown.state {
+            Some(state) => is_skip_grade(grade_at(state.lines, at, name)),
+            None => {
+                is_said_skipped(judgement_at(shown.lines, at, name))
+                    && is_found_silent(shown.tables, shown.lines, number)
             }
-            None => is_found_silent(self.shown.tables, self.shown.lines, number),
         }
     }
 

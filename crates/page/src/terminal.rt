@@ -135,8 +135,8 @@ fn flaws(pen: &mut Pen, view: &View<'_>, answer: &PartAnswer) {
 }
 
 /// What is told of a part that no judge found valid.
-fn unjudged(pen: &mut Pen, view: &View<'_>, answer: &PartAnswer) {
-    match finding_of(view, answer.part) {
+fn unjudged(pen: &mut Pen, view: &View<'_>, at: usize, answer: &PartAnswer) {
+    match finding_of(view, at, answer.part) {
         Some(Finding::NumberedOtherwise) => {
             pen.word("  judged for what is missing, and not for how few its intervals are");
             return pen.line();
@@ -152,7 +152,7 @@ fn unjudged(pen: &mut Pen, view: &View<'_>, answer: &PartAnswer) {
     pen.line();
 }
 
-fn part(pen: &mut Pen, view: &View<'_>, answer: &PartAnswer) {
+fn part(pen: &mut Pen, view: &View<'_>, at: usize, answer: &PartAnswer) {
     let intervals = answer.cover.certificate.as_slice();
     part_name(pen, answer.part);
     pen.word(": ");
@@ -169,18 +169,18 @@ fn part(pen: &mut Pen, view: &View<'_>, answer: &PartAnswer) {
         }
     }
     pen.line();
-    unjudged(pen, view, answer);
+    unjudged(pen, view, at, answer);
     letters(pen, intervals);
     flaws(pen, view, answer);
 }
 
 fn parts(pen: &mut Pen, view: &View<'_>) {
     let mut answers = view.shown.told.answers.as_slice();
-    for place in view.shown.told.places.as_slice() {
+    for (at, place) in view.shown.told.places.iter().enumerate() {
         match *place {
             Place::Skipped(number) => {
                 part_name(pen, PartName::Block(number));
-                pen.word(if view.is_silent(number) {
+                pen.word(if view.is_silent(at, number) {
                     ": skipped, the query selects nothing of it"
                 } else {
                     ": told to be skipped"
@@ -190,7 +190,7 @@ fn parts(pen: &mut Pen, view: &View<'_>) {
             Place::Searched => {
                 if let Some((answer, later)) = answers.split_first() {
                     answers = later;
-                    part(pen, view, answer);
+                    part(pen, view, at, answer);
                 }
             }
         }

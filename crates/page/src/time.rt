@@ -316,7 +316,7 @@ fn skipped_row(pen: &mut Pen, view: &View<'_>, at: usize, number: usize) {
     pen.with(Attribute::Word(Key::Class, "skipw"));
     pen.with(Attribute::Number(Key::Colspan, 4));
     pen.open(Tag::Td);
-    pen.word(if view.is_silent(number) {
+    pen.word(if view.is_silent(at, number) {
         "skipped: the query selects nothing of it"
     } else {
         "told to be skipped"

@@ -1,16 +1,16 @@
 //! Cuts that a server makes by itself.
 
 use crate::clock::now_in;
+use crate::place::Place;
 use crate::sockets::micros_of;
-use crate::tally::Tally;
 use cut_schedule::{awaited, due};
 use head::{CommitError, HeadView, MAX_SERIES};
 use keeper::Keeper;
 use labels::{MAX_TIME, MIN_TIME, is_time};
 use postings::{Postings, Source};
-use snapshots::{Committer, Naming, OpenNaming, Pass, Seat};
+use snapshots::{Committer, Naming, OpenNaming, Pass};
 use std::alloc::{AllocError, Global};
-use std::sync::{Arc, Wait};
+use std::sync::Wait;
 use std::time::{Clock, Instant};
 
 /// How long a pause is, in milliseconds. After each pause the end of a server is noticed.
@@ -49,12 +49,9 @@ enum Tried {
     Refused,
 }
 
-/// Who cuts a store, with a pass and a seat of its own.
+/// Who cuts a store.
 #[derive(Drop)]
-pub(crate) struct Cutter<J: Naming> {
-    pass: Pass<J>,
-    seat: Seat<J>,
-    tally: Arc<Tally>,
+pub(crate) struct Cutter {
     when: Schedule,
     /// The time up to which it tries no cut again.
     tried: i64,
@@ -84,7 +81,7 @@ fn newest_from(alloc: Global, head: &HeadView, from: i64) -> Result<i64, AllocEr
 
 /// How many pauses there are after a look. They last twenty times as long as it took, and there is
 /// at least one.
-fn pauses_after(rt: &impl Clock, start: Option<Instant>) -> u64 {
+pub(crate) fn pauses_after(rt: &impl Clock, start: Option<Instant>) -> u64 {
     let Some(start) = start else {
         return 1;
     };
@@ -94,25 +91,47 @@ fn pauses_after(rt: &impl Clock, start: Option<Instant>) -> u64 {
     }
 }
 
-/// The code of a refused cut, as its client would see it.
-fn code_of(error: CommitError) -> &'static str {
+/// The code of a refused event, as its client would see it.
+pub(crate) fn code_of(error: CommitError) -> &'static str {
     match error {
         CommitError::Journal => "H11",
         error => error.code(),
     }
 }
 
-impl<J: OpenNaming> Cutter<J> {
-    pub(crate) fn new(
-        pass: Pass<J>,
-        seat: Seat<J>,
-        tally: Arc<Tally>,
-        when: Schedule,
-    ) -> Cutter<J> {
+/// Cuts at a time. A refusal is reported, unless someone has cut there or later.
+fn cut_at<J: OpenNaming, C: Wait + Drop, K: Keeper + Drop>(
+    rt: &(impl Wait + Eprint),
+    committer: &Committer<J, C, K>,
+    place: &mut Place<J>,
+    at: i64,
+) -> Tried {
+    if !is_time(at) {
+        return Tried::Refused;
+    }
+    match committer.cut(rt, &mut place.seat, at) {
+        Ok(receipt) => {
+            place.pass.learn(&receipt);
+            place.tally.count_cut();
+            Tried::Made
+        }
+        Err(refused) => match refused.error {
+            CommitError::CutTooLow => Tried::Made,
+            error => {
+                let code = code_of(error);
+                let _ = eprintln!(rt; "cannot cut at {at}: {code}");
+                match error {
+                    CommitError::Limit => Tried::TooLong,
+                    _ => Tried::Refused,
+                }
+            }
+        },
+    }
+}
+
+impl Cutter {
+    pub(crate) fn new(when: Schedule) -> Cutter {
         Cutter {
-            pass,
-            seat,
-            tally,
             when,
             tried: MIN_TIME,
             seen: None,
@@ -120,22 +139,23 @@ impl<J: OpenNaming> Cutter<J> {
         }
     }
 
-    pub(crate) fn tally(&self) -> &Arc<Tally> {
-        &self.tally
-    }
-
     /// Which cut of the store is due now. It is above the floor, and above each time that was
     /// tried. There is none if nothing was published since the last look and that look found none
     /// that waits for the clock.
-    fn due_now(&mut self, rt: &impl Clock, alloc: Global) -> Option<DueCut> {
+    fn due_now<J: Naming>(
+        &mut self,
+        rt: &impl Clock,
+        alloc: Global,
+        pass: &mut Pass<J>,
+    ) -> Option<DueCut> {
         let Schedule { every, after } = self.when;
         if every == 0 || every > MOST || after > MOST {
             return None;
         }
-        let Ok(snapshot) = self.pass.snapshot() else {
+        let Ok(snapshot) = pass.snapshot() else {
             return None;
         };
-        let events = self.pass.events();
+        let events = pass.events();
         let floor = snapshot.floor().max(self.tried);
         if self.seen != Some(events) {
             let Ok(newest) = newest_from(alloc, snapshot.head(), awaited(every, after, floor))
@@ -152,48 +172,19 @@ impl<J: OpenNaming> Cutter<J> {
         })
     }
 
-    /// Cuts at a time. A refusal is reported, unless someone has cut there or later.
-    fn cut_at<C: Wait + Drop, K: Keeper + Drop>(
-        &mut self,
-        rt: &(impl Wait + Eprint),
-        committer: &Committer<J, C, K>,
-        at: i64,
-    ) -> Tried {
-        if !is_time(at) {
-            return Tried::Refused;
-        }
-        match committer.cut(rt, &mut self.seat, at) {
-            Ok(receipt) => {
-                self.pass.learn(&receipt);
-                self.tally.count_cut();
-                Tried::Made
-            }
-            Err(refused) => match refused.error {
-                CommitError::CutTooLow => Tried::Made,
-                error => {
-                    let code = code_of(error);
-                    let _ = eprintln!(rt; "cannot cut at {at}: {code}");
-                    match error {
-                        CommitError::Limit => Tried::TooLong,
-                        _ => Tried::Refused,
-                    }
-                }
-            },
-        }
-    }
-
     /// Makes a cut that is due. If a file of its block would be too long, a cut at half the
     /// distance from the floor is tried, until one is made. The next look then tries the rest.
-    fn cut<C: Wait + Drop, K: Keeper + Drop>(
+    fn cut<J: OpenNaming, C: Wait + Drop, K: Keeper + Drop>(
         &mut self,
         rt: &(impl Wait + Eprint),
         committer: &Committer<J, C, K>,
+        place: &mut Place<J>,
         due: DueCut,
     ) {
         let mut at = due.at;
         self.tried = at;
         for _ in 0..HALVINGS {
-            match self.cut_at(rt, committer, at) {
+            match cut_at(rt, committer, place, at) {
                 Tried::Made => {
                     self.tried = at;
                     return;
@@ -210,17 +201,18 @@ impl<J: OpenNaming> Cutter<J> {
     }
 
     /// Looks whether the store is to be cut, and cuts it. Returns how many pauses there are then.
-    pub(crate) fn look<C: Wait + Drop, K: Keeper + Drop>(
+    pub(crate) fn look<J: OpenNaming, C: Wait + Drop, K: Keeper + Drop>(
         &mut self,
         rt: &(impl Wait + Clock + Eprint),
         alloc: Global,
         committer: &Committer<J, C, K>,
+        place: &mut Place<J>,
     ) -> u64 {
         let start = Instant::now(rt).ok();
-        let due = self.due_now(rt, alloc);
+        let due = self.due_now(rt, alloc, &mut place.pass);
         let pauses = pauses_after(rt, start);
         if let Some(due) = due {
-            self.cut(rt, committer, due);
+            self.cut(rt, committer, place, due);
         }
         pauses
     }

@@ -10,7 +10,8 @@
 //! connection to connection, and play no part in the contract. [`Sockets`] are connections of the
 //! system, with limits of time: a client that is silent or gone costs its own connection and no
 //! other. [`serve_watched`] also answers those that ask at a status port for the state of the
-//! server ([`Watch`]), each by [`answer_client`]. Each worker counts in a [`Tally`] of its own.
+//! server ([`Watch`]), each by [`answer_client`]. Each worker counts in a [`Tally`] of its own. One
+//! thread may cut the store by a [`Schedule`], and tend its blocks ([`Upkeep`]).
 //!
 //! The loop of a worker over two `connections` in memory:
 //!
@@ -24,15 +25,19 @@
 //! stores.
 #![tactic(auto)]
 
+mod caretaker;
 mod clock;
 mod connections;
 mod cutter;
 mod ending;
 mod error;
+mod joiner;
+mod place;
 mod places;
 mod pool;
 mod receiving;
 mod server_state;
+mod shapes;
 mod socket;
 mod sockets;
 mod status;
@@ -40,6 +45,7 @@ mod tally;
 mod tending;
 mod worker;
 
+pub use block_upkeep::Upkeep;
 pub use connections::Connections;
 pub use cutter::Schedule;
 pub use error::ServeError;

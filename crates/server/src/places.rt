@@ -8,23 +8,18 @@ ghost use Rattle.snapshots.specs.Keeping.{MayBeKept};
 ghost use Rattle.snapshots.specs.Seats.{IsRoom};
 ghost use Rattle.snapshots.specs.declared.error.OpenError.TheVariants.{BadPasses, Limit};
 
-use crate::cutter::{Cutter, Schedule};
+use crate::caretaker::Caretaker;
+use crate::cutter::Schedule;
+use crate::place::Place;
 use crate::tally::Tally;
 use block::Block;
+use block_upkeep::Upkeep;
 use head::Snapshot;
 use keeper::{Keeper, NoKeeper};
 use snapshots::{Committer, Naming, OpenError, OpenNaming, Pass, Seat, Store};
 use std::alloc::{AllocError, Global};
 use std::marker::Model;
 use std::sync::{Arc, Wait};
-
-/// What is one worker's own.
-#[derive(Drop)]
-pub(crate) struct Place<J: Naming> {
-    pub(crate) pass: Pass<J>,
-    pub(crate) seat: Seat<J>,
-    pub(crate) tally: Arc<Tally>,
-}
 
 /// An open store and its workers. Contracts see how many workers of the first port there are.
 #[derive(Drop)]
@@ -34,7 +29,7 @@ pub struct Workers<J: Naming, C: Wait + Drop, K: Keeper + Drop = NoKeeper> {
     /// Those that serve the port of Prometheus.
     pub(crate) receivers: Vec<Place<J>>,
     pub(crate) spare: Vec<Pass<J>>,
-    pub(crate) cutter: Option<Cutter<J>>,
+    pub(crate) caretaker: Option<Caretaker<J>>,
 }
 
 impl<J: Naming, C: Wait + Drop, K: Keeper + Drop> Model for Workers<J, C, K> {
@@ -132,7 +127,7 @@ impl<J: OpenNaming, C: Wait + Drop, K: Keeper + Drop> Workers<J, C, K> {
                 places,
                 receivers: Vec::new(alloc),
                 spare,
-                cutter: None,
+                caretaker: None,
             }),
             Err(_) => Err(OpenError::Memory),
         }
@@ -148,7 +143,7 @@ impl<J: OpenNaming, C: Wait + Drop, K: Keeper + Drop> Workers<J, C, K> {
             mut places,
             receivers: _,
             spare,
-            cutter,
+            caretaker,
         } = self;
         let left = places.len() - count;
         let receivers = places.split_off(left)?;
@@ -157,13 +152,14 @@ impl<J: OpenNaming, C: Wait + Drop, K: Keeper + Drop> Workers<J, C, K> {
             places,
             receivers,
             spare,
-            cutter,
+            caretaker,
         })
     }
 
     /// One worker fewer. What was its own is for cuts that the store makes by itself. Each is made
-    /// as soon as it is due by `cut_schedule`.
-    pub fn cutting(self, when: Schedule) -> Workers<J, C, K>
+    /// as soon as it is due by `cut_schedule`. If it is told how, the store also joins its blocks
+    /// and lets old samples leave.
+    pub fn cutting(self, alloc: Global, when: Schedule, upkeep: Option<Upkeep>) -> Workers<J, C, K>
         requires { 0 < self }
         ensures { result + 1 ≡ self }
     {
@@ -172,9 +168,9 @@ impl<J: OpenNaming, C: Wait + Drop, K: Keeper + Drop> Workers<J, C, K> {
             mut places,
             receivers,
             spare,
-            cutter: _,
+            caretaker: _,
         } = self;
-        let Some(Place { pass, seat, tally }) = places.pop() else {
+        let Some(place) = places.pop() else {
             unreachable!()
         };
         Workers {
@@ -182,7 +178,7 @@ impl<J: OpenNaming, C: Wait + Drop, K: Keeper + Drop> Workers<J, C, K> {
             places,
             receivers,
             spare,
-            cutter: Some(Cutter::new(pass, seat, tally, when)),
+            caretaker: Some(Caretaker::new(alloc, place, when, upkeep)),
         }
     }
 }

@@ -4,9 +4,10 @@ ghost use Rattle.std.specs.Prelude.{◌≡◌, vec_len, IfOk};
 ghost use Rattle.std.specs.Thread.{IsSync};
 ghost use Rattle.server.specs.Shifts.{AreUnder, EachServed};
 
-use crate::cutter::Cutter;
+use crate::caretaker::Caretaker;
 use crate::error::ServeError;
-use crate::places::{Place, Workers};
+use crate::place::Place;
+use crate::places::Workers;
 use crate::receiving::{receive_all, threads_with};
 use crate::server_state::{Memory, Watch, report_open};
 use crate::sockets::Sockets;
@@ -15,7 +16,7 @@ use crate::tending::{is_tended, tend_while};
 use crate::worker::{Shift, work};
 use guard::Rules;
 use keeper::Keeper;
-use snapshots::{Committer, OpenNaming, Pass};
+use snapshots::{Committer, JoiningNaming, OpenNaming, Pass};
 use std::alloc::{AllocError, Global};
 use std::net::TcpListener;
 use std::sync::atomic::{AtomicBool, Ordering};
@@ -200,7 +201,7 @@ where
 /// Serves as [`run_ports`] does, and tends the store at the same time.
 fn run_tended<
     'a,
-    J: OpenNaming + Send + Sync,
+    J: JoiningNaming + Send + Sync,
     C: Wait + Drop + Send + Sync,
     K: Keeper + Drop + Send,
     R: Threads + Wait + Clock + Eprint + Sync,
@@ -208,7 +209,7 @@ fn run_tended<
     rt: &R,
     alloc: Global,
     committer: &Committer<J, C, K>,
-    cutter: Option<Cutter<J>>,
+    caretaker: Option<Caretaker<J>>,
     places: Vec<Place<J>>,
     receivers: Vec<Place<J>>,
     listeners: Listeners<'_>,
@@ -224,7 +225,7 @@ where
 {
     let over = AtomicBool::new(false);
     let ended = &over;
-    let apart = || tend_while(rt, alloc, cutter, committer, ended);
+    let apart = || tend_while(rt, alloc, caretaker, committer, ended);
     let here = || -> Result<Vec<Shift<'_>>, ServeError>
         requires { IsSync R.row }
         ensures all { IfOk result (λ shifts. vec_len shifts ≡ vec_len places) }
@@ -251,7 +252,7 @@ where
 /// `NoListener` is returned if a worker has ended because there is no listener any more.
 pub fn serve<
     'a,
-    J: OpenNaming + Send + Sync,
+    J: JoiningNaming + Send + Sync,
     C: Wait + Drop + Send + Sync,
     K: Keeper + Drop + Send,
     R: Threads + Wait + Clock + Eprint + Sync,
@@ -275,24 +276,24 @@ where
         places,
         receivers,
         spare: _,
-        cutter,
+        caretaker,
     } = workers;
-    if !is_tended::<J, K>(cutter.as_ref()) {
+    if !is_tended::<J, K>(caretaker.as_ref()) {
         return run_ports(
             rt, alloc, &committer, places, receivers, listeners, rules, terms,
         );
     }
     run_tended(
-        rt, alloc, &committer, cutter, places, receivers, listeners, rules, terms,
+        rt, alloc, &committer, caretaker, places, receivers, listeners, rules, terms,
     )
 }
 
-/// What the workers count, and who cuts beside them, if anyone does.
+/// What the workers count, and who tends the store beside them, if anyone does.
 fn tallies_of<J: OpenNaming>(
     alloc: Global,
     places: &[Place<J>],
     receivers: &[Place<J>],
-    cutter: Option<&Cutter<J>>,
+    caretaker: Option<&Caretaker<J>>,
 ) -> Result<Vec<Arc<Tally>>, AllocError> {
     let mut tallies = Vec::new(alloc);
     for place in places {
@@ -301,8 +302,8 @@ fn tallies_of<J: OpenNaming>(
     for place in receivers {
         tallies.push(Arc::try_clone(&place.tally)?)?;
     }
-    if let Some(cutter) = cutter {
-        tallies.push(Arc::try_clone(cutter.tally())?)?;
+    if let Some(caretaker) = caretaker {
+        tallies.push(Arc::try_clone(caretaker.tally())?)?;
     }
     Ok(tallies)
 }
@@ -310,7 +311,7 @@ fn tallies_of<J: OpenNaming>(
 /// Answers the clients of the status port, and tends the store if that is needed, until that is
 /// over.
 fn watch_and_tend<
-    J: OpenNaming + Send + Sync,
+    J: JoiningNaming + Send + Sync,
     C: Wait + Drop + Send + Sync,
     K: Keeper + Drop + Send,
     R: Threads + Wait + Clock + Eprint + Sync,
@@ -322,19 +323,19 @@ fn watch_and_tend<
     over: &AtomicBool,
     seen: (Option<Pass<J>>, Vec<Arc<Tally>>, u64),
     committer: &Committer<J, C, K>,
-    cutter: Option<Cutter<J>>,
+    caretaker: Option<Caretaker<J>>,
 )
 where
     K::Last: Send,
     K::Settled: Send,
 {
     let (pass, tallies, workers) = seen;
-    if !is_tended::<J, K>(cutter.as_ref()) {
+    if !is_tended::<J, K>(caretaker.as_ref()) {
         return report_open(rt, alloc, watch, over, pass, tallies, workers);
     }
     let _ = join(
         rt,
-        || tend_while(rt, alloc, cutter, committer, over),
+        || tend_while(rt, alloc, caretaker, committer, over),
         || report_open(rt, alloc, watch, over, pass, tallies, workers),
     );
 }
@@ -342,7 +343,7 @@ where
 /// Serves as [`serve`] does, and answers the clients of the status port at the same time.
 pub fn serve_watched<
     'a,
-    J: OpenNaming + Send + Sync,
+    J: JoiningNaming + Send + Sync,
     C: Wait + Drop + Send + Sync,
     K: Keeper + Drop + Send,
     R: Threads + Wait + Clock + Eprint + Sync,
@@ -368,20 +369,20 @@ where
         places,
         receivers,
         mut spare,
-        cutter,
+        caretaker,
     } = workers;
     let tallies = tallies_of(
         alloc,
         places.as_slice(),
         receivers.as_slice(),
-        cutter.as_ref(),
+        caretaker.as_ref(),
     )?;
     let seen = (spare.pop(), tallies, places.len() as u64);
     let over = AtomicBool::new(false);
     let (shared, ended) = (&committer, &over);
     let apart = ||
         requires { IsSync R.row × IsSync M.row }
-    { watch_and_tend(rt, alloc, watch, ended, seen, shared, cutter) };
+    { watch_and_tend(rt, alloc, watch, ended, seen, shared, caretaker) };
     let here = || -> Result<Vec<Shift<'_>>, ServeError>
         requires { IsSync R.row }
         ensures all { IfOk result (λ shifts. vec_len shifts ≡ vec_len places) }

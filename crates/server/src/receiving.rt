@@ -7,7 +7,7 @@ ghost use Rattle.server.specs.declared.error.ServeError.TheVariants.{NoListener}
 
 use crate::clock::now_in;
 use crate::error::ServeError;
-use crate::places::Place;
+use crate::place::Place;
 use crate::pool::Terms;
 use crate::tally::Tally;
 use guard::Rules;

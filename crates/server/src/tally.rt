@@ -104,6 +104,8 @@ pub struct Tally {
     busy: AtomicU64,
     port_replies: Cells,
     port_connections: AtomicU64,
+    joins: AtomicU64,
+    removed: AtomicU64,
 }
 
 /// An event that the store accepted.
@@ -184,6 +186,8 @@ impl Tally {
             busy: AtomicU64::new(0),
             port_replies: Cells::new(alloc, 9)?,
             port_connections: AtomicU64::new(0),
+            joins: AtomicU64::new(0),
+            removed: AtomicU64::new(0),
         })
     }
 
@@ -213,6 +217,21 @@ impl Tally {
     /// Counts a cut that no client asked for.
     pub(crate) fn count_cut(&self) {
         self.count_event(Event::Cutting);
+    }
+
+    /// Counts a deletion that no client asked for.
+    pub(crate) fn count_deletion(&self) {
+        self.count_event(Event::Deletion);
+    }
+
+    /// Counts a join.
+    pub(crate) fn count_join(&self) {
+        add(&self.joins, 1);
+    }
+
+    /// Counts blocks that left.
+    pub(crate) fn count_removed(&self, blocks: u64) {
+        add(&self.removed, blocks);
     }
 
     /// Counts a refusal with this number.
@@ -287,5 +306,7 @@ impl Tally {
         counts.cuts = counts.cuts.saturating_add(read(&self.cuts));
         counts.samples = counts.samples.saturating_add(read(&self.samples));
         counts.bytes = counts.bytes.saturating_add(read(&self.bytes));
+        counts.joins = counts.joins.saturating_add(read(&self.joins));
+        counts.removed = counts.removed.saturating_add(read(&self.removed));
     }
 }

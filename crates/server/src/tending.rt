@@ -1,8 +1,9 @@
-//! What a server does for its store by itself: cuts, and the saving of what is kept.
+//! What a server does for its store by itself: cuts, joins, and the saving of what is kept.
 
-use crate::cutter::{Cutter, PAUSE};
+use crate::caretaker::Caretaker;
+use crate::cutter::PAUSE;
 use keeper::{KeepError, Keeper};
-use snapshots::{Committer, OpenNaming};
+use snapshots::{Committer, JoiningNaming, OpenNaming};
 use std::alloc::Global;
 use std::sync::Wait;
 use std::sync::atomic::{AtomicBool, Ordering};
@@ -10,8 +11,8 @@ use std::thread::sleep;
 use std::time::{Clock, Duration};
 
 /// Whether a store is tended: it cuts itself, or what is in it is kept.
-pub(crate) fn is_tended<J: OpenNaming, K: Keeper>(cutter: Option<&Cutter<J>>) -> bool {
-    cutter.is_some() || !K::is_idle()
+pub(crate) fn is_tended<J: OpenNaming, K: Keeper>(caretaker: Option<&Caretaker<J>>) -> bool {
+    caretaker.is_some() || !K::is_idle()
 }
 
 /// Why a journal was not begun anew, in words.
@@ -45,28 +46,29 @@ fn save<J: OpenNaming, C: Wait + Drop, K: Keeper + Drop>(
     }
 }
 
-/// Looks now and then whether the store is to be cut or saved, and does so, until that is over.
-pub(crate) fn tend_while<J: OpenNaming, C: Wait + Drop, K: Keeper + Drop, R: Wait + Clock + Eprint>(
+/// Looks now and then whether the store is to be cut, joined or saved, and does so, until that is
+/// over.
+pub(crate) fn tend_while<
+    J: JoiningNaming,
+    C: Wait + Drop,
+    K: Keeper + Drop,
+    R: Wait + Clock + Eprint,
+>(
     rt: &R,
     alloc: Global,
-    cutter: Option<Cutter<J>>,
+    caretaker: Option<Caretaker<J>>,
     committer: &Committer<J, C, K>,
     over: &AtomicBool,
 ) {
-    let mut cutter = cutter;
-    let mut pauses = 0u64;
+    let mut caretaker = caretaker;
     for _ in 0..u64::MAX {
         if over.load(Ordering::SeqCst) {
             return;
         }
-        if pauses == 0 {
-            pauses = match &mut cutter {
-                Some(cutter) => cutter.look(rt, alloc, committer),
-                None => 1,
-            };
+        if let Some(caretaker) = &mut caretaker {
+            caretaker.look(rt, alloc, committer);
         }
         save(rt, committer);
-        pauses = pauses.saturating_sub(1);
         sleep(rt, Duration::from_millis(PAUSE));
     }
 }

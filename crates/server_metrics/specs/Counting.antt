@@ -23,3 +23,5 @@ pub record IsNothing (counts : Counts) : Type 0 where
   pub samples : counts.samples ≡ 0
   pub bytes : counts.bytes ≡ 0
   pub port_replies : counts.port_replies ≡ replicate 9 0
+  pub joins : counts.joins ≡ 0
+  pub removed : counts.removed ≡ 0

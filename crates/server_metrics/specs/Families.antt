@@ -144,6 +144,12 @@ build_text state =
 unfoldable pub state_text : State → List ℕ
 state_text state = head_state_text state ++ process_text state ++ build_text state
 
+-- the joins of blocks
+unfoldable pub joins_text : Counts → List ℕ
+joins_text counts =
+    counter_text families.Joins counts.joins
+    ++ counter_text families.Removed counts.removed
+
 -- all of it
 unfoldable pub server_metrics : Counts → State → List ℕ
-server_metrics counts state = counts_text counts ++ state_text state
+server_metrics counts state = counts_text counts ++ state_text state ++ joins_text counts

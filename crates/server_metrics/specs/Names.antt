@@ -22,6 +22,8 @@ name_of families.Busy = codes "fuzzledge_workers_busy"
 name_of families.PortConnections = codes "fuzzledge_prometheus_port_connections"
 name_of families.Resident = codes "process_resident_memory_bytes"
 name_of families.Build = codes "fuzzledge_build_info"
+name_of families.Joins = codes "fuzzledge_joins_total"
+name_of families.Removed = codes "fuzzledge_removed_blocks_total"
 
 unfoldable pub help_of : Family → List ℕ
 help_of families.Requests = codes "Requests for which a reply was made, by path and status."
@@ -42,6 +44,8 @@ help_of families.PortConnections = codes "Connections on the port of Prometheus.
 help_of families.Resident = codes "Memory that the process occupies."
 help_of families.Build =
     codes "1, with the version of the program and of the kit that it was made with."
+help_of families.Joins = codes "Joins of blocks that the store accepted."
+help_of families.Removed = codes "Blocks that left since no sample was left in them."
 
 -- the names of the rows of a histogram
 unfoldable pub row_name : Row → List ℕ

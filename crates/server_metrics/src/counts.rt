@@ -25,6 +25,10 @@ pub struct Counts {
     pub bytes: u64,
     /// Replies of the port of Prometheus by status, by their [`place_of_port_status`].
     pub port_replies: [u64; 9],
+    /// Joins of blocks that the store accepted.
+    pub joins: u64,
+    /// Blocks that left since no sample was left in them.
+    pub removed: u64,
 }
 
 /// What was counted of the requests of one path.
@@ -62,6 +66,8 @@ impl Counts {
             samples: 0,
             bytes: 0,
             port_replies: [0; 9],
+            joins: 0,
+            removed: 0,
         }
     }
 }

@@ -7,7 +7,8 @@ ghost use Rattle.server_metrics.specs.Families.{counter_text, buckets_of, times_
 ghost use Rattle.server_metrics.specs.Families.{changes_times_text, durations_text, gauge_text};
 ghost use Rattle.server_metrics.specs.Families.{floor_text, versions_text, build_text, port_text};
 ghost use Rattle.server_metrics.specs.Families.{head_state_text, workers_text, process_text};
-ghost use Rattle.server_metrics.specs.Families.{state_text, sums_text, counts_text, server_metrics};
+ghost use Rattle.server_metrics.specs.Families.{state_text, sums_text, counts_text, joins_text};
+ghost use Rattle.server_metrics.specs.Families.{server_metrics};
 
 use crate::counts::{
     Counts, PathCounts, State, Times, bounds, port_statuses, refusal_numbers, statuses,
@@ -271,6 +272,15 @@ fn append_all_counts(out: &mut Vec<u8>, alloc: Global, counts: &Counts) -> Resul
     append_port(out, counts)
 }
 
+/// Appends the joins of blocks.
+#[tactic(auto, unfolding(crate::specs::Families::joins_text))]
+fn append_joins(out: &mut Vec<u8>, counts: &Counts) -> Result<(), AllocError>
+    ensures { OnOk result (out.new.items ≡ out.old.items ++ joins_text counts.now) }
+{
+    append_counter(out, Family::Joins, counts.joins)?;
+    append_counter(out, Family::Removed, counts.removed)
+}
+
 /// The text of `GET /metrics`: each family with what it is and its rows, in the order of
 /// `server_metrics`. It has some 150 rows, whatever the counts are.
 #[tactic(auto, unfolding(crate::specs::Families::server_metrics))]
@@ -280,5 +290,6 @@ pub fn metrics(alloc: Global, counts: &Counts, state: &State) -> Result<Vec<u8>,
     let mut out = Vec::new(alloc);
     append_all_counts(&mut out, alloc, counts)?;
     append_state(&mut out, state)?;
+    append_joins(&mut out, counts)?;
     Ok(out)
 }

@@ -23,6 +23,8 @@ pub(crate) enum Family {
     PortConnections,
     Resident,
     Build,
+    Joins,
+    Removed,
 }
 
 /// A row of a histogram.
@@ -54,6 +56,8 @@ pub(crate) fn name_of(family: Family) -> &'static str
         Family::PortConnections => "fuzzledge_prometheus_port_connections",
         Family::Resident => "process_resident_memory_bytes",
         Family::Build => "fuzzledge_build_info",
+        Family::Joins => "fuzzledge_joins_total",
+        Family::Removed => "fuzzledge_removed_blocks_total",
     }
 }
 
@@ -78,6 +82,8 @@ pub(crate) fn help_of(family: Family) -> &'static str
         Family::PortConnections => "Connections on the port of Prometheus.",
         Family::Resident => "Memory that the process occupies.",
         Family::Build => "1, with the version of the program and of the kit that it was made with.",
+        Family::Joins => "Joins of blocks that the store accepted.",
+        Family::Removed => "Blocks that left since no sample was left in them.",
     }
 }
 

@@ -9,4 +9,6 @@ pub mod Keeps
 pub mod Tips
 pub mod Held
 pub mod Between
+pub mod Published
+pub mod Joins
 pub mod Sifts

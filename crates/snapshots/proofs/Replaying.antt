@@ -2,38 +2,47 @@
 use Rattle.std.proofs.Common.{◌≡◌, ℤ, List, [], ◌∷◌, ◌++◌, map, Option, Some, Result, Ok, Err, IfErr, OnErr, refl, sym, ap, ◌∙◌, subst, inl, inr}
 use Rattle.std.proofs.lemmas.List.{map_push}
 use mathlib.Core.List.{IsPrefix}
+use Rattle.head.specs.Joins.{IsNoJoin}
 use Rattle.head.specs.Kept.{KeepsBlocks, frame_of}
 use Rattle.head.specs.Removing.{survives}
 use Rattle.head.proofs.Deleting.{frames_kept}
 use Rattle.head.proofs.Replays.{replayed_from-snoc}
-use Rattle.head.specs.Worlds.{Event, batch, deletion, cut, replayed}
+use Rattle.head.specs.Worlds.{Event, batch, deletion, cut, joined, replayed}
 use Rattle.head.specs.Heads.{BlockPart, SnapshotParts, world_of}
 use Rattle.head.specs.declared.error.CommitError.{CommitError}
 use Rattle.head.specs.declared.error.CommitError.TheVariants.{OutOfBounds, OutOfOrder, Duplicate, Limit, CutTooLow, TooManyParts, Seat, Journal, Memory}
 use Rattle.matchers.specs.Views.{MatcherView}
 use Rattle.snapshots.specs.declared.entry.Entry.{Entry}
-use Rattle.snapshots.specs.Replays.{events_in, IsAfter, Steps, Leads, KeepsFrames, IsEventRefusal, IsOfStore, IsRefusedAfter, IsRefusedBy}
+use Rattle.snapshots.specs.Replays.{events_in, AreJoinless, IsAfter, Steps, Leads, KeepsFrames, IsEventRefusal, IsOfStore, IsRefusedAfter, IsRefusedBy}
 use Rattle.snapshots.specs.Seats.{SeatView, IsMetBy}
 use Rattle.snapshots.specs.Views.{Ledger}
 use Rattle.snapshots.proofs.Prefixes.{prefix_self, prefix_trans}
 
--- an event leaves the blocks that there were first, each with its frame
-keeps_frames : (event : Event) (s t : SnapshotParts)
+-- an event that is no join leaves the blocks that there were first, each with its frame
+keeps_frames : (event : Event) (s t : SnapshotParts) → IsNoJoin event
     → KeepsBlocks event s t.blocks → KeepsFrames s t
-keeps_frames (batch xs) s t kept =
+keeps_frames (batch xs) s t none kept =
     subst (λ (bs : List BlockPart). IsPrefix (map frame_of s.blocks) (map frame_of bs))
     (sym kept) (prefix_self _)
-keeps_frames (deletion ms from to) s t kept =
+keeps_frames (deletion ms from to) s t none kept =
     let frames : map frame_of t.blocks ≡ map frame_of s.blocks =
     ap (map frame_of) kept ∙ frames_kept (survives ms from to) s.blocks in
     subst (IsPrefix (map frame_of s.blocks)) (sym frames) (prefix_self _)
-keeps_frames (cut at) s t kept = elim kept [
+keeps_frames (joined at count made) s t none kept = absurd none
+keeps_frames (cut at) s t none kept = elim kept [
   | inl same ↦
       subst (λ (bs : List BlockPart). IsPrefix (map frame_of s.blocks) (map frame_of bs))
       (sym same) (prefix_self _)
   | inr more ↦
       (frame_of more.0 ∷ [], sym (ap (map frame_of) more.1 ∙ map_push frame_of s.blocks more.0))
 ]
+
+-- if none of these events joins blocks, none of those before the last one does
+joinless_front : (es : List Event) (e : Event) → AreJoinless (es ++ e ∷ [])
+    → AreJoinless es × IsNoJoin e
+joinless_front [] e none = (tt, none.0)
+joinless_front (f ∷ es) e none =
+    let rest = joinless_front es e none.1 in ((none.0, rest.0), rest.1)
 
 leads-snoc : (s : SnapshotParts) (es : List Event) (e : Event) (t u : SnapshotParts)
     → Leads s es t → Steps t e u → Leads s (es ++ e ∷ []) u
@@ -44,7 +53,7 @@ leads-snoc s (f ∷ es) e t u leads step =
 
 -- before the first event it is the opening
 pub after-none : (opening : SnapshotParts) → IsAfter opening [] opening
-after-none opening = record { replay = refl; blocks = prefix_self _; reached = refl }
+after-none opening = record { replay = refl; blocks = λ none. prefix_self _; reached = refl }
 
 -- the snapshot after one event more
 pub after-snoc : (opening : SnapshotParts) (es : List Entry) (e : Entry) (s t : SnapshotParts)
@@ -57,9 +66,10 @@ after-snoc opening es e s t after step =
           ∙ (replayed_from-snoc (Ok (world_of opening)) (events_in es) e.event (world_of s)
           after.replay
           ∙ step.world);
-      blocks =
+      blocks = λ none.
+          let all = joinless_front (events_in es) e.event (subst AreJoinless events none) in
           prefix_trans (map frame_of opening.blocks) (map frame_of s.blocks) (map frame_of t.blocks)
-          after.blocks (keeps_frames e.event s t step.kept);
+          (after.blocks all.0) (keeps_frames e.event s t all.1 step.kept);
       reached = subst (λ (events : List Event). Leads opening events t) (sym events)
           (leads-snoc opening (events_in es) e.event s t after.reached step);
     }

@@ -1,14 +1,13 @@
 -- What holds of the tip of a store, from one of its steps to the next.
 use Rattle.std.proofs.Common.{◌≡◌, ℕ, ◌+◌, ◌<◌, Bool, true, false, not, MatchBool, List, [], ◌∷◌, ◌++◌, length, slice_index, slice_set, refl, sym, ap, subst, ◌∙◌, arith, append_assoc}
-use Rattle.std.proofs.lemmas.List.{append-nil, map_push}
+use Rattle.std.proofs.lemmas.List.{append-nil, append_cancel_left, map_push}
 use mathlib.Core.List.{IsPrefix}
 use Rattle.head.specs.Heads.{SnapshotParts}
 use Rattle.head.specs.Worlds.{Event}
-use Rattle.logbook.specs.Pages.{Book}
 use Rattle.snapshots.specs.declared.entry.Entry.{Entry}
 use Rattle.snapshots.specs.declared.entry.Mark.{Mark}
 use Rattle.snapshots.specs.declared.entry.Mark.TheVariants.{Try, Seal, Done, Void}
-use Rattle.snapshots.specs.Keeping.{IsGroup, SpellAll, kept_of}
+use Rattle.snapshots.specs.Keeping.{IsGroup, IsSealed, SpellAll, kept_of}
 use Rattle.snapshots.specs.Marks.{accepted, list_of, tried_of}
 use Rattle.snapshots.specs.Replays.{events_in, IsAfter, Steps}
 use Rattle.snapshots.specs.Seats.{AreCounts}
@@ -115,6 +114,9 @@ tried_behind opening idle log tried e s counts old new is behind spell =
 
 -- all that waits was sealed
 
+sealed_whole : (log sealed : List Mark) → sealed ≡ log ++ Seal ∷ [] → list_of sealed ≡ tried_of sealed
+sealed_whole log sealed is = ap list_of is ∙ (list_seal log ∙ sym (ap tried_of is ∙ tried_seal log))
+
 pub sealed_group : (opening : SnapshotParts) (idle : Bool) (log sealed : List Mark) (s t : SnapshotParts) (m n bytes : List ℕ)
     → sealed ≡ log ++ Seal ∷ [] → accepted log ≡ list_of log → StandsFor opening (tried_of log) s m → IsBehind opening idle log t n bytes
     → IsGroup opening idle sealed s m bytes
@@ -122,7 +124,7 @@ sealed_group opening idle log sealed s t m n bytes is unsealed stands behind =
     let listed : list_of sealed ≡ tried_of log = ap list_of is ∙ list_seal log in
     let w = behind.waiting in
     record {
-      whole = listed ∙ sym (ap tried_of is ∙ tried_seal log);
+      whole = sealed_whole log sealed is;
       stands = stands_as opening (tried_of log) (list_of sealed) s m (sym listed) stands;
       waiting = record {
         more = w.more;
@@ -136,16 +138,60 @@ pub sealed_stands : (opening : SnapshotParts) (log sealed : List Mark) (s : Snap
 sealed_stands opening log sealed s m is stands =
     stands_as opening (tried_of log) (tried_of sealed) s m (sym (ap tried_of is ∙ tried_seal log)) stands
 
-pub sealed_behind : (opening : SnapshotParts) (idle : Bool) (log sealed : List Mark) (t : SnapshotParts) (n old new : List ℕ)
-    → sealed ≡ log ++ Seal ∷ [] → IsBehind opening idle log t n old → new ≡ [] → IsBehind opening idle sealed t n new
-sealed_behind opening idle log sealed t n old new is behind none = record {
-  stands = stands_as opening (accepted log) (accepted sealed) t n (sym (ap accepted is ∙ accepted_seal log)) behind.stands;
+pub sealed_behind : (opening : SnapshotParts) (idle : Bool) (log sealed : List Mark) (t : SnapshotParts) (n new : List ℕ)
+    → sealed ≡ log ++ Seal ∷ [] → StandsFor opening (accepted log) t n → new ≡ [] → IsBehind opening idle sealed t n new
+sealed_behind opening idle log sealed t n new is stands none = record {
+  stands = stands_as opening (accepted log) (accepted sealed) t n (sym (ap accepted is ∙ accepted_seal log)) stands;
   waiting = record {
     more = [];
     parts = ap tried_of is ∙ (tried_seal log ∙ (sym (ap list_of is ∙ list_seal log) ∙ sym (append-nil (list_of sealed))));
     spelled = subst (λ (z : List ℕ). SpellAll idle [] z) (sym none) (spell_nothing idle);
   };
 }
+
+pub sealed_as : (opening : SnapshotParts) (log other : List Mark) (s t : SnapshotParts) (m n : List ℕ)
+    → other ≡ log → t ≡ s → n ≡ m → IsSealed opening log s m → IsSealed opening other t n
+sealed_as opening log other s t m n a b d is_sealed =
+    subst (λ (z : List Mark). IsSealed opening z t n) (sym a)
+    (subst (λ (z : SnapshotParts). IsSealed opening log z n) (sym b)
+    (subst (λ (z : List ℕ). IsSealed opening log s z) (sym d) is_sealed))
+
+current_rests : (waits : Bool) (log : List Mark) → waits ≡ false → current waits log ≡ accepted log
+current_rests true log is = absurd (cc is)
+current_rests false log is = refl
+
+-- an event was tried while nothing waited, and sealed at once
+module _ (opening : SnapshotParts) (waits : Bool) (log tried sealed : List Mark) (e : Entry) (rests : waits ≡ false)
+    (settled : MatchBool waits (Unit {0}) (accepted log ≡ tried_of log)) (is_try : tried ≡ log ++ Try e ∷ []) (is_seal : sealed ≡ tried ++ Seal ∷ []) where
+  pub alone_tried : tried_of sealed ≡ current waits log ++ e ∷ []
+  alone_tried = ap tried_of is_seal ∙ (tried_seal tried ∙ tried_all waits log tried e settled is_try)
+
+  try_accepted : accepted tried ≡ accepted log
+  try_accepted = ap accepted is_try ∙ accepted_try log e
+
+  pub alone_accepted : accepted sealed ≡ accepted log
+  alone_accepted = ap accepted is_seal ∙ (accepted_seal tried ∙ try_accepted)
+
+  pub alone_stands : (s t : SnapshotParts) (counts new : List ℕ) (number n : ℕ)
+      → StandsFor opening (current waits log) s counts → Steps s e.event t
+      → e.seat ≡ number → number < length counts → n ≡ slice_index counts number + 1 → new ≡ slice_set counts number n
+      → StandsFor opening (tried_of sealed) t new
+  alone_stands s t counts new number n stands step seat in_range more is =
+      stands_at opening (tried_of sealed) t t (slice_set counts number n) new refl is
+      (sealed_stands opening tried sealed t (slice_set counts number n) is_seal
+      (tried_stands opening waits log tried e s t counts number n settled is_try stands step seat in_range more))
+
+  pub alone_behind : (idle : Bool) (s t : SnapshotParts) (m n bytes : List ℕ) → StandsFor opening (current waits log) s m
+      → t ≡ s → n ≡ m → bytes ≡ [] → IsBehind opening idle sealed t n bytes
+  alone_behind idle s t m n bytes stands same equal none =
+      sealed_behind opening idle tried sealed t n bytes is_seal
+      (stands_at opening (accepted tried) s t m n same equal
+      (stands_as opening (current waits log) (accepted tried) s m (current_rests waits log rests ∙ sym try_accepted) stands)) none
+
+  pub alone_sealed : (t : SnapshotParts) (n : List ℕ) → StandsFor opening (tried_of sealed) t n → IsSealed opening sealed t n
+  alone_sealed t n stands =
+      let whole = sealed_whole tried sealed is_seal in
+      record { whole = whole; stands = stands_as opening (tried_of sealed) (list_of sealed) t n (sym whole) stands }
 
 -- while something waits
 pub current_waits : (waits : Bool) (log : List Mark) → waits ≡ true → current waits log ≡ tried_of log
@@ -154,10 +200,10 @@ current_waits false log is = absurd (cc is)
 
 -- what was sealed is published
 
-module _ (book : Book) (opening : SnapshotParts) (idle : Bool) (group log : List Mark) (s : SnapshotParts) (counts bytes : List ℕ)
-    (is_group : IsGroup opening idle group s counts bytes) (lists : list_of log ≡ tried_of group) where
+module _ (opening : SnapshotParts) (group log : List Mark) (s : SnapshotParts) (counts : List ℕ)
+    (is_sealed : IsSealed opening group s counts) (lists : list_of log ≡ tried_of group) where
   pub listed : list_of log ≡ list_of group
-  listed = lists ∙ sym is_group.whole
+  listed = lists ∙ sym is_sealed.whole
 
   module _ (done : List Mark) (is : done ≡ log ++ Done ∷ []) where
     pub accepted_done : accepted done ≡ list_of group
@@ -169,10 +215,9 @@ module _ (book : Book) (opening : SnapshotParts) (idle : Bool) (group log : List
 
     -- what was published before begins it
     pub done_begins : (entries : List Entry) → entries ≡ accepted group → IsPrefix entries (accepted done)
-    done_begins entries same = (
-      is_group.waiting.more,
-      ap (λ (z : List Entry). z ++ is_group.waiting.more) same ∙ (sym is_group.waiting.parts ∙ sym accepted_done),
-    )
+    done_begins entries same =
+        let begins = accepted_begins group in
+        (begins.0, ap (λ (z : List Entry). z ++ begins.0) same ∙ (begins.1 ∙ sym accepted_done))
 
     pub done_stands : (settled : Bool) (t : SnapshotParts) (n : List ℕ) → MatchBool settled (accepted done ≡ tried_of done) (Unit {0})
         → StandsFor opening (tried_of log) t n → StandsFor opening (current (not settled) done) t n
@@ -185,11 +230,12 @@ module _ (book : Book) (opening : SnapshotParts) (idle : Bool) (group log : List
     done_current true waits all waiting = all ∙ (ap tried_of is ∙ (tried_done log ∙ sym (current_waits waits log waiting)))
     done_current false waits all waiting = ap tried_of is ∙ (tried_done log ∙ sym (current_waits waits log waiting))
 
-    pub done_behind : (t : SnapshotParts) (n records : List ℕ) → IsBehind opening idle log t n records → IsBehind opening idle done s counts records
-    done_behind t n records behind =
+    pub done_behind : (idle : Bool) (t : SnapshotParts) (n records : List ℕ) → IsBehind opening idle log t n records
+        → IsBehind opening idle done s counts records
+    done_behind idle t n records behind =
         let w = behind.waiting in
         record {
-          stands = stands_as opening (list_of group) (accepted done) s counts (sym accepted_done) is_group.stands;
+          stands = stands_as opening (list_of group) (accepted done) s counts (sym accepted_done) is_sealed.stands;
           waiting = record {
             more = w.more;
             parts = ap tried_of is ∙ (tried_done log ∙ (w.parts ∙ ap (λ (z : List Entry). z ++ w.more) (sym (ap list_of is ∙ list_done log))));
@@ -251,25 +297,28 @@ pub published_begins : (waits : Bool) (log : List Mark) → IsPrefix (accepted l
 published_begins true log = accepted_begins_tried log
 published_begins false log = prefix_self (accepted log)
 
-cancel : {A : Type 0} (xs ys zs : List A) → xs ++ ys ≡ xs ++ zs → ys ≡ zs
-cancel [] ys zs e = e
-cancel (x ∷ xs) ys zs e = cancel xs ys zs (cc e)
-
 -- the events of a group
-module _ (opening : SnapshotParts) (idle : Bool) (group : List Mark) (s : SnapshotParts) (counts bytes : List ℕ)
-    (is_group : IsGroup opening idle group s counts bytes) (xs : List Entry) (follows : accepted group ≡ xs) where
-  pub group_parts : list_of group ≡ xs ++ is_group.waiting.more
-  group_parts = is_group.waiting.parts ∙ ap (λ (z : List Entry). z ++ is_group.waiting.more) follows
+module _ (group : List Mark) (xs : List Entry) (follows : accepted group ≡ xs) where
+  abbrev pub more_of : List Entry
+  more_of = (accepted_begins group).0
 
-  pub group_spelled : (more : List Entry) → list_of group ≡ xs ++ more → SpellAll idle (events_in more) bytes
-  group_spelled more is =
-      subst (λ (z : List Entry). SpellAll idle (events_in z) bytes)
-      (cancel xs is_group.waiting.more more (sym group_parts ∙ is)) is_group.waiting.spelled
+  pub group_parts : list_of group ≡ xs ++ more_of
+  group_parts = sym (accepted_begins group).1 ∙ ap (λ (z : List Entry). z ++ more_of) follows
 
   pub group_kept : (before : List Event) (entries : List Entry) → entries ≡ list_of group
-      → kept_of before entries ≡ kept_of before xs ++ events_in is_group.waiting.more
-  group_kept before entries is =
-      ap (kept_of before) (is ∙ group_parts) ∙ kept_more before xs is_group.waiting.more
+      → kept_of before entries ≡ kept_of before xs ++ events_in more_of
+  group_kept before entries is = ap (kept_of before) (is ∙ group_parts) ∙ kept_more before xs more_of
+
+  pub group_spelled : (opening : SnapshotParts) (idle : Bool) (s : SnapshotParts) (counts bytes : List ℕ) → IsGroup opening idle group s counts bytes
+      → (more : List Entry) → list_of group ≡ xs ++ more → SpellAll idle (events_in more) bytes
+  group_spelled opening idle s counts bytes is_group more is =
+      let w = is_group.waiting in
+      subst (λ (z : List Entry). SpellAll idle (events_in z) bytes)
+      (append_cancel_left xs w.more more (sym (w.parts ∙ ap (λ (z : List Entry). z ++ w.more) follows) ∙ is)) w.spelled
+
+pub group_sealed : (opening : SnapshotParts) (idle : Bool) (group : List Mark) (s : SnapshotParts) (counts bytes : List ℕ)
+    → IsGroup opening idle group s counts bytes → IsSealed opening group s counts
+group_sealed opening idle group s counts bytes is_group = record { whole = is_group.whole; stands = is_group.stands }
 
 -- what is not as short as what is accepted does not begin it
 pub none_begins : (xs ys : List Entry) (m n : ℕ) → m ≡ length xs → n ≡ length ys → n < m → IsPrefix xs ys → ⊥

@@ -40,6 +40,13 @@ pub record AreWaiting (idle : Bool) (bytes : List ℕ) (listed tried : List Entr
   pub parts : tried ≡ listed ++ more
   pub spelled : SpellAll idle (events_in more) bytes
 
+-- Events that are to be published together: the log that has sealed them, and what they make.
+-- Nothing waits beside them in that log.
+pub record IsSealed (opening : SnapshotParts) (log : List Mark) (parts : SnapshotParts)
+    (counts : List ℕ) : Type 0 where
+  pub whole : list_of log ≡ tried_of log
+  pub stands : StandsFor opening (list_of log) parts counts
+
 -- Events that are to be kept and published together: the log that has sealed them, what they make,
 -- and their records. Nothing waits beside them in that log.
 pub record IsGroup (opening : SnapshotParts) (idle : Bool) (log : List Mark)

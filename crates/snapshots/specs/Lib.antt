@@ -12,5 +12,6 @@ pub mod Views
 pub mod Plates
 pub mod Grows
 pub mod Refusals
+pub mod Runs
 pub mod Tries
 pub mod Trials

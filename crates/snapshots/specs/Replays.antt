@@ -1,7 +1,9 @@
 -- What a list of published events makes of the opening snapshot.
 use Rattle.std.specs.Prelude.{◌≡◌, ℕ, List, [], ◌∷◌, ◌++◌, Ok, Option, MatchOption, map}
+use Rattle.std.specs.List.{AllByRecursion}
 use mathlib.Core.List.{IsPrefix}
 use Rattle.head.specs.Batches.{CopiesFew}
+use Rattle.head.specs.Joins.{IsNoJoin}
 use Rattle.head.specs.Kept.{KeepsBlocks, frame_of}
 use Rattle.head.specs.Worlds.{Event, stepped, replayed}
 use Rattle.head.specs.Heads.{SnapshotParts, world_of}
@@ -30,19 +32,24 @@ Leads s [] t = t ≡ s
 Leads s (event ∷ events) t =
     (next : SnapshotParts) × Steps s event next × Leads next events t
 
+-- none of these events joins blocks
+abbrev pub AreJoinless : List Event → Type 0
+AreJoinless events = AllByRecursion IsNoJoin events
+
 -- the blocks of the one snapshot stand first in the other, each with its range, its references and
 -- its label sets: all but the samples that deletions took
 abbrev pub KeepsFrames : SnapshotParts → SnapshotParts → Type 0
 KeepsFrames s t = IsPrefix (map frame_of s.blocks) (map frame_of t.blocks)
 
 -- The snapshot is what the entries' events make of the opening. Its world is the replay of the
--- events from the opening's world. The opening's blocks stand first in it, each with the range, the
--- references and the label sets that it had, whatever was committed, deleted and cut. It was
--- reached event by event, so before the first event it is the opening itself.
+-- events from the opening's world. As long as no event joins blocks, the opening's blocks stand
+-- first in it, each with the range, the references and the label sets that it had, whatever was
+-- committed, deleted and cut. It was reached event by event, so before the first event it is the
+-- opening itself.
 pub record IsAfter (opening : SnapshotParts) (entries : List Entry)
     (s : SnapshotParts) : Type 0 where
   pub replay : replayed (world_of opening) (events_in entries) ≡ Ok (world_of s)
-  pub blocks : KeepsFrames opening s
+  pub blocks : AreJoinless (events_in entries) → KeepsFrames opening s
   pub reached : Leads opening (events_in entries) s
 
 -- the refusal is the store's and says nothing of the event: the seat's, the journal's or memory's

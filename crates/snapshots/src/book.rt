@@ -11,13 +11,13 @@ ghost use Rattle.snapshots.specs.Marks.{accepted, list_of};
 ghost use Rattle.snapshots.specs.Grows.{Shows};
 ghost use Rattle.snapshots.specs.Keeping.{kept_of, AreKeptBetween, HeldIsKept, IsGroup};
 ghost use Rattle.snapshots.specs.Keeping.{IsHindered, IsOfAllKept, IsOfKeeping, IsOfKeptBetween};
-ghost use Rattle.snapshots.specs.Keeping.{MayBeKept, OpensAsKept};
+ghost use Rattle.snapshots.specs.Keeping.{IsSealed, MayBeKept, OpensAsKept};
 ghost use Rattle.snapshots.specs.Replays.{IsAfter};
 
 use crate::group::Group;
 use crate::naming::Naming;
 use crate::prefix::LogPrefix;
-use crate::publishing::{Press, publish_group, roll_if_due, taken};
+use crate::publishing::{Press, publish_group, publish_saved, roll_if_due, taken};
 use crate::tip::Tip;
 use head::CommitError;
 use keeper::{KeepError, Keeper, NoKeeper};
@@ -143,6 +143,68 @@ impl<J: Naming, R: Wait + Drop, K: Keeper + Drop> Book<J, R, K> {
             group,
         )
     }
+
+    /// Keeps a group by saving what its events make, in the place of all that is kept, and
+    /// publishes it, as [`Book::publish`] does: so events that have no record are published too.
+    /// `E8` if it is not saved, for which it may be too long; then it is given up. The tip's guard
+    /// comes back.
+    pub fn publish_saved<'a>(
+        &mut self,
+        alloc: Global,
+        tip: MutexGuard<'a, Tip<J, K>>,
+        group: Group<J>,
+    ) -> (MutexGuard<'a, Tip<J, K>>, Result<(), CommitError>)
+        requires sealed { IsSealed J.opening group.log
+            (arc_value group.standing.snapshot) group.standing.counts.items }
+        requires alike { arc_value group.shown ≡ arc_value group.standing.snapshot }
+        ensures list { OnOk result.1 (self.new.entries ≡ list_of group.log) }
+        // What was published stays, and what is new comes behind it.
+        ensures begins { IsPrefix self.old.entries self.new.entries }
+        ensures parts { OnOk result.1 (self.new.parts ≡ arc_value group.shown) }
+        ensures kept { OnErr result.1 ((self.new.entries ≡ self.old.entries)
+            × (self.new.parts ≡ self.old.parts)) }
+        ensures refused { IfErr result.1 (λ e. IsOfKeeping e) }
+        ensures journal { IfErr result.1 (λ e. e ≡ CommitError.Journal → K.idle ≡ false) }
+        // `E8` closes the keeper for no cause but that writing failed.
+        ensures lost { IfErr result.1 (λ e. e ≡ CommitError.Journal
+            → K.closed self.new.keeper ≡ true
+            → (K.closed self.old.keeper ≡ true) ⊎ (K.failed self.new.keeper ≡ true)) }
+        ensures world { IsAfter J.opening self.new.entries self.new.parts }
+        // Each event that is published was asked for.
+        ensures asked { AreAsked J.asked self.new.entries }
+        // What is kept is what is published, after what was kept before the start.
+        ensures held { K.holds self.new.keeper (kept_of J.before self.new.entries) }
+        // It makes the world that is published.
+        ensures durable { IsOfAllKept K.idle K.first J.before self.new.entries self.new.parts }
+        // A closed keeper stays as it is, and nothing is published.
+        ensures closed { K.closed self.old.keeper ≡ true → self.new.keeper ≡ self.old.keeper }
+        ensures open { OnOk result.1 (K.closed self.new.keeper ≡ false) }
+        // Of an open one a crash at any moment of the call leaves what was published before it, and
+        // at most the first few events of the group.
+        ensures in_flight { K.closed self.old.keeper ≡ false
+            → LeavesEvents K.moment K.left_since K.stands self.old.keeper self.new.keeper
+            (AreKeptBetween J.before self.old.entries (list_of group.log)) }
+        // So a start then finds the world of these.
+        ensures finds { K.closed self.old.keeper ≡ false → K.idle ≡ false
+            → (left : K.Left) → K.left_since self.new.keeper (K.moment self.old.keeper) left
+            → FindsWorld K.makes
+            (IsOfKeptBetween K.first J.before self.old.entries (list_of group.log)) left }
+    {
+        if !group.log.accepts_as(&self.log) {
+            let mut tip = tip;
+            tip.give_up(CommitError::Memory);
+            return (tip, Err(CommitError::Memory));
+        }
+        publish_saved(
+            &self.rt,
+            alloc,
+            tip,
+            &mut self.log,
+            &mut self.press,
+            &mut self.keeper,
+            group,
+        )
+    }
 }
 
 impl<J: Naming, R: Wait + Drop, K: Keeper + Drop> Book<J, R, K> {
@@ -155,6 +217,7 @@ impl<J: Naming, R: Wait + Drop, K: Keeper + Drop> Book<J, R, K> {
         ensures closed { K.closed self.old.keeper ≡ true → self.new.keeper ≡ self.old.keeper }
         ensures lost { K.closed self.new.keeper ≡ true
             → (K.closed self.old.keeper ≡ true) ⊎ (K.failed self.new.keeper ≡ true) }
+        ensures open { OnOk result (K.closed self.new.keeper ≡ K.closed self.old.keeper) }
         // Of an open one a crash at any moment of the call leaves exactly what is kept.
         ensures any_moment { K.closed self.old.keeper ≡ false
             → LeavesEvents K.moment K.left_since K.stands self.old.keeper self.new.keeper

@@ -13,25 +13,30 @@ use head::{CommitError, Event, RowBatch, Snapshot, apply, apply_rows};
 use std::alloc::{AllocError, Global};
 use std::sync::Arc;
 
-/// What a committer publishes: an event, or a batch that is held in rows, which is one too.
-pub trait Change {
+/// What is an event, in some form that it is held in.
+pub trait AsEvent {
     /// The event that it is.
     ghost event: { Self → HeadEvent };
+}
 
+/// What a committer publishes: an event, or a batch that is held in rows, which is one too.
+pub trait Change: AsEvent {
     /// The snapshot after the event, or the refusal of its step.
     fn apply(&self, alloc: Global, at: &Snapshot) -> Result<Snapshot, CommitError>
-        ensures ok { IfOk result (λ s. Steps at.now (event self.now) s) }
+        ensures ok { IfOk result (λ s. Steps at.now (Self.event self.now) s) }
         ensures refused { IfErr result (λ e.
-            IsStepRefusal e (stepped (world_of at.now) (event self.now))) };
+            IsStepRefusal e (stepped (world_of at.now) (Self.event self.now))) };
 
     /// The text of the event.
     fn text(&self, alloc: Global) -> Result<Vec<u8>, AllocError>
-        ensures { IfOk result (λ text. Spells text.items (event self.now)) };
+        ensures { IfOk result (λ text. Spells text.items (Self.event self.now)) };
+}
+
+impl AsEvent for Event {
+    ghost event = { λ event. event };
 }
 
 impl Change for Event {
-    ghost event = { λ event. event };
-
     fn apply(&self, alloc: Global, at: &Snapshot) -> Result<Snapshot, CommitError> {
         apply(alloc, at, self)
     }
@@ -41,12 +46,14 @@ impl Change for Event {
     }
 }
 
-impl Change for RowBatch {
+impl AsEvent for RowBatch {
     ghost use Rattle.head.specs.BatchRows.{batch_of_rows};
     ghost use Rattle.head.specs.Worlds.{batch};
 
     ghost event = { λ rows. batch (batch_of_rows rows) };
+}
 
+impl Change for RowBatch {
     fn apply(&self, alloc: Global, at: &Snapshot) -> Result<Snapshot, CommitError> {
         apply_rows(alloc, at, self)
     }

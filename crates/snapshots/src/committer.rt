@@ -12,6 +12,7 @@ ghost use Rattle.head.specs.Batches.{is_deletion};
 ghost use Rattle.head.specs.Worlds.{batch, deletion, cut, matchers_of};
 ghost use Rattle.snapshots.specs.Replays.{EndsWith, AreAccepted, IsRefusedAfter, IsRefusedBy};
 ghost use Rattle.snapshots.specs.Replays.{IsOfStore};
+ghost use Rattle.snapshots.specs.Runs.{join_of};
 ghost use Rattle.snapshots.specs.Seats.{HasOneMoreEvent};
 ghost use Rattle.snapshots.specs.Sifts.{AsksSifted, IsSiftedOnceMet};
 ghost use Rattle.snapshots.specs.Trials.{list_in, published_in};
@@ -19,6 +20,8 @@ ghost use Rattle.snapshots.specs.Trials.{list_in, published_in};
 use crate::appender::Appender;
 use crate::book::Book;
 use crate::change::Change;
+use crate::error::JoinError;
+use crate::joined_run::JoinedRun;
 use crate::keeping::record_of;
 use crate::naming::Naming;
 use crate::prefix::LogPrefix;
@@ -68,11 +71,12 @@ impl<J: Naming, R: Wait + Drop, K: Keeper + Drop> Committer<J, R, K> {
     }
 
     /// Keeps and publishes all that waits; or waits for the one who does, if there is one. Where
-    /// nothing is kept for good, no other thread comes between.
+    /// nothing is kept for good, or the tip is to be held meanwhile, no other thread comes between.
     fn go_on<'a, W: Wait>(
         &'a self,
         rt: &W,
         tip: MutexGuard<'a, Tip<J, K>>,
+        holds: bool,
     ) -> MutexGuard<'a, Tip<J, K>> {
         let mut tip = tip;
         if tip.is_led() {
@@ -86,7 +90,7 @@ impl<J: Naming, R: Wait + Drop, K: Keeper + Drop> Committer<J, R, K> {
                 return tip;
             }
         };
-        let held = if K::is_idle() {
+        let held = if holds || K::is_idle() {
             Some(tip)
         } else {
             drop(tip);
@@ -116,7 +120,20 @@ impl<J: Naming, R: Wait + Drop, K: Keeper + Drop> Committer<J, R, K> {
                 Ok(None) => {}
                 Err(error) => return Err(error),
             }
-            tip = self.go_on(rt, tip);
+            tip = self.go_on(rt, tip, false);
+        }
+        unreachable!()
+    }
+
+    /// The tip, once nothing waits and nobody keeps what was sealed. It holds the tip while it
+    /// keeps what waits, so that others, who try events without end, do not keep it waiting.
+    fn still<'a, W: Wait>(&'a self, rt: &W) -> MutexGuard<'a, Tip<J, K>> {
+        let mut tip = self.tip.lock(rt);
+        for _ in rt.forever() {
+            if tip.is_still() {
+                return tip;
+            }
+            tip = self.go_on(rt, tip, true);
         }
         unreachable!()
     }
@@ -370,6 +387,44 @@ impl<J: Naming, R: Wait + Drop, K: Keeper + Drop> Committer<J, R, K> {
         match self.step(rt, seat, Event::cut(at)) {
             Ok(receipt) => Ok(receipt),
             Err((_event, refused)) => Err(refused),
+        }
+    }
+
+    /// Publishes a join under the seat's number: the new blocks take the place of those that stand
+    /// there, and the content stays. What the store then has is saved in the place of the events
+    /// that made it, since a join has no record; so it takes as long as a roll, and no event is
+    /// tried or published meanwhile. `E9` if other blocks stand at the place, as after a
+    /// deletion, or a new one ends above the floor; else its refusals are memory's, `E7` and `E8`,
+    /// the last also if what is to be saved is too long for its files. After a refusal the seat
+    /// stays. It waits until all that was tried before is published, and for the readers.
+    pub fn join(
+        &self,
+        rt: &impl Wait,
+        seat: &mut Seat<J>,
+        run: &JoinedRun,
+    ) -> Result<Receipt<J>, JoinError>
+        requires asked { J.asked (join_of run.now) seat.old.number seat.old.count }
+        ensures ends { IfOk result (λ r. EndsWith (join_of run.now) seat.old.number r) }
+        ensures accepted { IfOk result (λ r. AreAccepted J.opening r) }
+        ensures asked { IfOk result (λ r. AreAsked J.asked r) }
+        ensures held { IfOk result (λ r. AreHeld K.holds K.stays J.before r) }
+        ensures counted { IfOk result (λ r. HasOneMoreEvent seat.old seat.new r) }
+        ensures kept { OnErr result (seat.new ≡ seat.old) }
+        ensures journal { IfErr result (λ e. e ≡ JoinError.Journal → K.idle ≡ false) }
+    {
+        let mut tip = self.still(rt);
+        let (trial, group) = match tip.join(rt, seat, run) {
+            Ok(made) => made,
+            Err(error) => return Err(error),
+        };
+        let (tip, _published) = self.book.lock(rt).publish_saved(self.alloc, tip, group);
+        self.news.notify_all();
+        match self.settle(rt, tip, &trial) {
+            Ok(receipt) => {
+                seat.add_one(&receipt);
+                Ok(receipt)
+            }
+            Err(error) => Err(JoinError::of(error)),
         }
     }
 

@@ -1,8 +1,9 @@
-//! Why a store is not opened, or a snapshot is not had.
+//! Why a store is not opened, a snapshot is not had, or blocks are not joined.
 
 ghost use Rattle.std.specs.Prelude.{◌≡◌};
-ghost use Rattle.snapshots.specs.Refusals.{open_code, snapshot_code};
+ghost use Rattle.snapshots.specs.Refusals.{join_code, join_refusal, open_code, snapshot_code};
 
+use head::CommitError;
 use std::error::Error;
 use std::fmt;
 
@@ -86,3 +87,61 @@ impl fmt::Display for SnapshotError {
 }
 
 impl Error for SnapshotError {}
+
+/// Why blocks are not joined.
+#[derive(Clone, Copy, Debug, PartialEq, Eq, Drop)]
+pub enum JoinError {
+    /// `E9`: the blocks at the place are not the ones that are to be joined, or one of those that
+    /// are to take it ends above the floor.
+    Stale,
+    /// `E7`: the seat is none of the store's.
+    Seat,
+    /// `E8`: the journal did not take the event.
+    Journal,
+    /// No memory.
+    Memory,
+}
+
+impl JoinError {
+    /// The refusal of a join, where the store's is this one, which is none of a sample or a cut.
+    pub(crate) fn of(error: CommitError) -> JoinError
+        ensures { result ≡ join_refusal error }
+    {
+        match error {
+            CommitError::Seat => JoinError::Seat,
+            CommitError::Journal => JoinError::Journal,
+            _ => JoinError::Memory,
+        }
+    }
+
+    /// The number of the refusal, or `memory`.
+    pub fn code(self) -> &'static str
+        ensures { result.now ≡ join_code self }
+    {
+        match self {
+            JoinError::Stale => "E9",
+            JoinError::Seat => "E7",
+            JoinError::Journal => "E8",
+            JoinError::Memory => "memory",
+        }
+    }
+}
+
+impl fmt::Display for JoinError {
+    ghost use Rattle.std.specs.Prelude.{Some};
+    ghost use Rattle.snapshots.specs.Refusals.{join_text};
+
+    ghost output = { λ error. Some (join_text error) };
+
+    fn fmt<W: fmt::Write>(&self, f: &mut fmt::Formatter<W>) -> fmt::Result {
+        let text = match self {
+            JoinError::Stale => "E9: the blocks that are joined are not the store's",
+            JoinError::Seat => "E7: the seat is none of the store's",
+            JoinError::Journal => "E8: the journal did not take the event",
+            JoinError::Memory => "no memory",
+        };
+        write!(f, "{text}")
+    }
+}
+
+impl Error for JoinError {}

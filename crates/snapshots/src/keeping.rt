@@ -13,7 +13,7 @@ use keeper::{KeepError, Keeper, push_text};
 use std::alloc::{AllocError, Global};
 
 /// The refusal of a store whose keeper refuses so.
-fn refusal_of(error: KeepError) -> CommitError
+pub fn refusal_of(error: KeepError) -> CommitError
     ensures { result ≡ keep_refusal error }
 {
     match error {

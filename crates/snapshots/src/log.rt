@@ -3,7 +3,7 @@
 ghost use Rattle.std.specs.Prelude.{◌≡◌};
 ghost use Rattle.snapshots.specs.Rules.{end_of};
 
-use crate::change::Change;
+use crate::change::AsEvent;
 use crate::entry::{Mark, Tried};
 use crate::naming::Naming;
 use logbook::{Gain, Opening, Plain, Play, Rule, Word};
@@ -61,7 +61,7 @@ impl Play<Mark, u64> for Add {
 /// What a step asks for: the try of an entry.
 pub struct Tries;
 
-impl<'a, C: Change> Plain<Tried<'a, C>, Mark, u64> for Tries {
+impl<'a, C: AsEvent> Plain<Tried<'a, C>, Mark, u64> for Tries {
     ghost use Rattle.std.specs.Prelude.{None};
     ghost use Rattle.snapshots.specs.Tries.{entry_of};
     ghost use Rattle.snapshots.specs.declared.entry.Mark.TheVariants.{Try};

@@ -29,6 +29,7 @@ pub trait Naming {
 impl Naming for Brand {
     ghost use Rattle.std.specs.Prelude.{[]};
     ghost use Rattle.head.specs.Blocks.{opening_of};
+    ghost use Rattle.head.specs.Joins.{IsNoJoin};
 
     ghost book = { record { number = 0; log_name = 0; cells_name = 0 } };
 
@@ -36,28 +37,65 @@ impl Naming for Brand {
 
     ghost before = { [] };
 
-    ghost asked = { λ event seat place. Unit {0} };
+    ghost asked = { λ event seat place. IsNoJoin event };
 
     ghost kept = { λ entries. Unit {0} };
 }
 
-/// The name of a store whose callers may ask for any event, and count all of it as kept.
+/// The name of a store whose callers may ask for any event but a join, and count all of it as kept.
 pub trait OpenNaming: Naming {
     ghost use Rattle.std.specs.Prelude.{ℕ, List};
+    ghost use Rattle.head.specs.Joins.{IsNoJoin};
     ghost use Rattle.head.specs.Worlds.{Event};
     ghost use Rattle.snapshots.specs.declared.entry.Entry.{Entry};
 
-    ghost any: { (event : Event) (seat place : ℕ) → Self.asked event seat place };
+    ghost any: { (event : Event) → IsNoJoin event → (seat place : ℕ)
+        → Self.asked event seat place };
 
     ghost any_kept: { (entries : List Entry) → Self.kept entries };
 }
 
-/// The same name, under which any event may be asked for, and all counts as kept.
+/// The name of a store whose callers may ask for joins of blocks too.
+pub trait JoiningNaming: OpenNaming {
+    ghost use Rattle.std.specs.Prelude.{ℕ};
+    ghost use Rattle.head.specs.Worlds.{joined};
+
+    ghost any_join: { (at count made seat place : ℕ)
+        → Self.asked (joined at count made) seat place };
+}
+
+/// The same name, under which any event but a join may be asked for, and all counts as kept.
 pub struct Open<J: Naming> {
     of: PhantomData<J>,
 }
 
 impl<J: Naming> Naming for Open<J> {
+    ghost use Rattle.head.specs.Joins.{IsNoJoin};
+
+    ghost book = { J.book };
+
+    ghost opening = { J.opening };
+
+    ghost before = { J.before };
+
+    ghost asked = { λ event seat place. IsNoJoin event };
+
+    ghost kept = { λ entries. Unit {0} };
+}
+
+impl<J: Naming> OpenNaming for Open<J> {
+    ghost any = { λ event none seat place. none };
+
+    ghost any_kept = { λ entries. tt };
+}
+
+/// The same name, under which any event may be asked for, joins of blocks too, and all counts as
+/// kept.
+pub struct Joining<J: Naming> {
+    of: PhantomData<J>,
+}
+
+impl<J: Naming> Naming for Joining<J> {
     ghost book = { J.book };
 
     ghost opening = { J.opening };
@@ -69,8 +107,12 @@ impl<J: Naming> Naming for Open<J> {
     ghost kept = { λ entries. Unit {0} };
 }
 
-impl<J: Naming> OpenNaming for Open<J> {
-    ghost any = { λ event seat place. tt };
+impl<J: Naming> OpenNaming for Joining<J> {
+    ghost any = { λ event none seat place. tt };
 
     ghost any_kept = { λ entries. tt };
+}
+
+impl<J: Naming> JoiningNaming for Joining<J> {
+    ghost any_join = { λ at count made seat place. tt };
 }

@@ -91,11 +91,11 @@ impl<J: Naming> Pass<J> {
 
     /// The snapshot of the published version. Its list begins with all that the pass had seen and
     /// with the list of each receipt that it learnt, and is what the pass has seen from then on.
-    /// Each event of it was asked for by a call that publishes, and the store's keeper came to
-    /// hold the list for good before it was published. It waits for nobody, takes no lock and no memory.
-    /// `S1` where the version is not available: where `left_right` refuses the entry, or `Arc` one
-    /// sharer more, which leaves the pass knowing no less; it is answered also where the version is
-    /// older than what the pass was told of, which does not occur.
+    /// Each event of it was asked for by a call that publishes, and the store's keeper came to hold
+    /// the list for good before it was published. It waits for nobody, takes no lock and no memory.
+    /// `S1` if the version is not available: if `left_right` refuses the entry, or `Arc` one sharer
+    /// more, which leaves the pass knowing no less; it is answered also if the version is older
+    /// than what the pass was told of, which does not occur.
     pub fn snapshot(&mut self) -> Result<Arc<Snapshot>, SnapshotError>
         ensures world { IfOk result (λ s. IsAfter J.opening self.new.seen (arc_value s)) }
         ensures asked { IfOk result (λ s. AreAsked J.asked self.new.seen) }

@@ -11,7 +11,7 @@ ghost use Rattle.snapshots.specs.Tallies.{IsTally};
 ghost use Rattle.snapshots.specs.Tries.{entry_of};
 ghost use Rattle.snapshots.specs.declared.entry.Mark.TheVariants.{Try, Seal, Done, Void};
 
-use crate::change::Change;
+use crate::change::AsEvent;
 use crate::entry::{Mark, Tried};
 use crate::log::{Add, Ends, Law, LogEnd, Nothing, Seals, Tries, Voids};
 use crate::naming::Naming;
@@ -101,6 +101,13 @@ impl<J: Naming> LogPrefix<J> {
         ensures { IsTrue result ↔ (length self.now < 2 ^ 62) }
     {
         self.marks < ROOM
+    }
+
+    /// Whether two marks more have room. They always have.
+    pub fn has_room_for_two(&self) -> bool
+        ensures { IsTrue result ↔ (length self.now + 1 < 2 ^ 62) }
+    {
+        self.marks < ROOM - 1
     }
 
     /// How many events it accepted.
@@ -295,7 +302,7 @@ impl<J: Naming> LogPrefix<J> {
     }
 
     /// Adds that an event was tried, which was asked for.
-    pub fn add_try<C: Change, R: Wait>(&mut self, rt: &R, end: &LogEnd<J>, tried: &Tried<'_, C>)
+    pub fn add_try<C: AsEvent, R: Wait>(&mut self, rt: &R, end: &LogEnd<J>, tried: &Tried<'_, C>)
         requires room { length self.old < 2 ^ 62 }
         requires asked { J.asked (C.event tried.now.change.now) tried.now.seat
             (count_of tried.now.seat (tried_of self.old)) }

@@ -1,20 +1,21 @@
 //! What publishes versions.
 
 ghost use Rattle.std.specs.Prelude.{◌≡◌, ◌⊎◌, ◌++◌, List, MatchBool, false, IfErr, MatchResult};
-ghost use Rattle.std.specs.Prelude.{None, Ok, OnOk, true, IfOk, IfSome, length};
+ghost use Rattle.std.specs.Prelude.{None, Ok, OnErr, OnOk, true, IfOk, IfSome, length};
 ghost use Rattle.std.specs.Arc.{arc_value};
 ghost use mathlib.Core.List.{IsPrefix};
+ghost use Rattle.head.specs.Worlds.{Event};
 ghost use Rattle.keeper.specs.Finding.{AreAll, AreAllAndSome, LeavesEvents};
 ghost use Rattle.snapshots.specs.Marks.{accepted, list_of};
 ghost use Rattle.snapshots.specs.Grows.{Shows, MayFollow};
-ghost use Rattle.snapshots.specs.Keeping.{kept_of, HeldIsKept, IsGroup, IsHindered, IsOfAllKept};
-ghost use Rattle.snapshots.specs.Keeping.{IsOfKeeping};
+ghost use Rattle.snapshots.specs.Keeping.{kept_of, AreAllOrNone, HeldIsKept, IsGroup, IsHindered};
+ghost use Rattle.snapshots.specs.Keeping.{IsOfAllKept, IsOfKeeping, IsSealed, OpensAsKept};
 ghost use Rattle.snapshots.specs.Replays.{events_in, IsAfter};
 ghost use Rattle.snapshots.specs.declared.entry.Entry.{Entry as Listed};
 
 use crate::entry::Entry;
 use crate::group::Group;
-use crate::keeping::keep;
+use crate::keeping::{keep, refusal_of};
 use crate::naming::Naming;
 use crate::plate::Plate;
 use crate::prefix::LogPrefix;
@@ -123,7 +124,10 @@ pub fn roll_if_due<J: Naming, K: Keeper>(
     ensures rests { K.due keeper.old press.now.desk.shown.value.version.parts ≡ false
         → (result ≡ Ok None) × (keeper.new ≡ keeper.old) }
     ensures saves { result ≡ Ok None
-        → (K.due keeper.old press.now.desk.shown.value.version.parts ≡ false) ⊎ (K.closed keeper.old ≡ true) }
+        → (K.due keeper.old press.now.desk.shown.value.version.parts ≡ false)
+        ⊎ (K.closed keeper.old ≡ true) }
+    // It is as open as it was, unless it fails.
+    ensures open { OnOk result (K.closed keeper.new ≡ K.closed keeper.old) }
     ensures counted { IfOk result (λ saved. IfSome saved (λ count.
         count ≡ length press.now.desk.shown.value.version.parts.blocks)) }
     ensures needed { K.idle ≡ true → result ≡ Ok None }
@@ -140,6 +144,61 @@ pub fn taken<'a, J: Naming, R: Wait, K: Keeper>(
     match held {
         Some(guard) => guard,
         None => tip.lock(rt),
+    }
+}
+
+/// Marks in the log that a group stays, which a keeper was handed last, and publishes the snapshot
+/// after it; or else gives it up, and the keeper closes.
+fn publish_kept<'a, J: Naming, R: Wait, K: Keeper>(
+    rt: &R,
+    tip: MutexGuard<'a, Tip<J, K>>,
+    log: &mut LogPrefix<J>,
+    press: &mut Press<J>,
+    keeper: &mut K,
+    last: K::Last,
+    group: Group<J>,
+) -> (MutexGuard<'a, Tip<J, K>>, Result<(), CommitError>)
+    requires open { K.closed keeper.old ≡ false }
+    requires held { K.holds keeper.old (kept_of J.before (list_of group.log)) }
+    // The events were kept last; or none was, if keepers of this kind keep nothing.
+    requires last { (more : List Listed) → list_of group.log ≡ accepted log.old ++ more
+        → (few : List Event) × AreAllOrNone K.idle (events_in more) few
+        × K.kept_last keeper.old last (kept_of J.before (accepted log.old)) few }
+    requires rule { HeldIsKept K.holds K.stays J.kept J.before }
+    requires sealed { IsSealed J.opening group.log
+        (arc_value group.standing.snapshot) group.standing.counts.items }
+    requires alike { arc_value group.shown ≡ arc_value group.standing.snapshot }
+    requires follows { accepted group.log ≡ accepted log.old }
+    requires shown { Shows J.book J.opening J.asked J.kept press.old.desk.shown.value.version
+        (accepted log.old) }
+    ensures held { K.holds keeper.new (kept_of J.before (accepted log.new)) }
+    ensures rest { OnOk result.1 (keeper.new ≡ keeper.old) }
+    ensures in_flight { OnErr result.1 ((more : List Listed)
+        → list_of group.log ≡ accepted log.old ++ more
+        → LeavesEvents K.moment K.left_since K.stands keeper.old keeper.new
+        (AreAllAndSome (kept_of J.before (accepted log.old)) (events_in more))) }
+    ensures list { MatchResult result.1
+        (λ _. accepted log.new ≡ list_of group.log)
+        (λ _. accepted log.new ≡ accepted log.old) }
+    ensures begins { IsPrefix (accepted log.old) (accepted log.new) }
+    ensures shown { Shows J.book J.opening J.asked J.kept press.new.desk.shown.value.version
+        (accepted log.new) }
+    ensures parts { MatchResult result.1
+        (λ _. press.new.desk.shown.value.version.parts ≡ arc_value group.shown)
+        (λ _. press.new.desk.shown.value.version ≡ press.old.desk.shown.value.version) }
+    ensures refused { IfErr result.1 (λ e. e ≡ CommitError.Memory) }
+{
+    let mut tip = tip;
+    match tip.publish(rt, press, keeper, last, group) {
+        Ok(done) => {
+            *log = done;
+            (tip, Ok(()))
+        }
+        Err(last) => {
+            keeper.close(last);
+            tip.give_up(CommitError::Memory);
+            (tip, Err(CommitError::Memory))
+        }
     }
 }
 
@@ -201,16 +260,68 @@ pub fn publish_group<'a, J: Naming, R: Wait, K: Keeper>(
             return (tip, Err(error));
         }
     };
-    let mut tip = taken(rt, tip, held);
-    match tip.publish(rt, press, keeper, last, group) {
-        Ok(done) => {
-            *log = done;
-            (tip, Ok(()))
+    let tip = taken(rt, tip, held);
+    publish_kept(rt, tip, log, press, keeper, last, group)
+}
+
+/// Keeps a group by saving what its events make, in the place of all that is kept, marks in the log
+/// that it stays, and publishes the snapshot after it, as [`publish_group`] does. So events that
+/// have no record are published too. The tip's guard comes back. `E8` also comes if what is to be
+/// saved is too long for the files that it would be saved in.
+pub fn publish_saved<'a, J: Naming, R: Wait, K: Keeper>(
+    rt: &R,
+    alloc: Global,
+    tip: MutexGuard<'a, Tip<J, K>>,
+    log: &mut LogPrefix<J>,
+    press: &mut Press<J>,
+    keeper: &mut K,
+    group: Group<J>,
+) -> (MutexGuard<'a, Tip<J, K>>, Result<(), CommitError>)
+    requires held { K.holds keeper.old (kept_of J.before (accepted log.old)) }
+    requires may { K.may (kept_of J.before (list_of group.log)) }
+    requires rule { HeldIsKept K.holds K.stays J.kept J.before }
+    requires world { OpensAsKept K.idle K.first J.before J.opening }
+    requires sealed { IsSealed J.opening group.log
+        (arc_value group.standing.snapshot) group.standing.counts.items }
+    requires alike { arc_value group.shown ≡ arc_value group.standing.snapshot }
+    requires follows { accepted group.log ≡ accepted log.old }
+    requires shown { Shows J.book J.opening J.asked J.kept press.old.desk.shown.value.version
+        (accepted log.old) }
+    // What is kept is what is published.
+    ensures held { K.holds keeper.new (kept_of J.before (accepted log.new)) }
+    // A closed keeper stays as it is, and nothing is published.
+    ensures closed { K.closed keeper.old ≡ true → keeper.new ≡ keeper.old }
+    ensures open { OnOk result.1 (K.closed keeper.new ≡ false) }
+    // Of an open one a crash at any moment of the call leaves all that was published before it, and
+    // at most the first few events of the group.
+    ensures in_flight { (more : List Listed) → list_of group.log ≡ accepted log.old ++ more
+        → K.closed keeper.old ≡ false
+        → LeavesEvents K.moment K.left_since K.stands keeper.old keeper.new
+        (AreAllAndSome (kept_of J.before (accepted log.old)) (events_in more)) }
+    ensures list { MatchResult result.1
+        (λ _. accepted log.new ≡ list_of group.log)
+        (λ _. accepted log.new ≡ accepted log.old) }
+    // What was published stays, and what is new comes behind it.
+    ensures begins { IsPrefix (accepted log.old) (accepted log.new) }
+    ensures shown { Shows J.book J.opening J.asked J.kept press.new.desk.shown.value.version
+        (accepted log.new) }
+    ensures parts { MatchResult result.1
+        (λ _. press.new.desk.shown.value.version.parts ≡ arc_value group.shown)
+        (λ _. press.new.desk.shown.value.version ≡ press.old.desk.shown.value.version) }
+    ensures refused { IfErr result.1 (λ e. IsOfKeeping e) }
+    ensures journal { IfErr result.1 (λ e. e ≡ CommitError.Journal → K.idle ≡ false) }
+    // `E8` closes the keeper for no cause but that writing failed.
+    ensures lost { IfErr result.1 (λ e. e ≡ CommitError.Journal → K.closed keeper.new ≡ true
+        → (K.closed keeper.old ≡ true) ⊎ (K.failed keeper.new ≡ true)) }
+{
+    let last = match keeper.save(alloc, &group.shown) {
+        Ok(last) => last,
+        Err(error) => {
+            let error = refusal_of(error);
+            let mut tip = tip;
+            tip.give_up(error);
+            return (tip, Err(error));
         }
-        Err(last) => {
-            keeper.close(last);
-            tip.give_up(CommitError::Memory);
-            (tip, Err(CommitError::Memory))
-        }
-    }
+    };
+    publish_kept(rt, tip, log, press, keeper, last, group)
 }

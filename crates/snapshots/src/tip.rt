@@ -1,8 +1,8 @@
 //! Where the events of a store are tried.
 
-ghost use Rattle.std.specs.Prelude.{◌≡◌, ◌+◌, ◌++◌, ◌∷◌, ◌↔◌, ◌⊎◌, [], slice_set};
+ghost use Rattle.std.specs.Prelude.{◌≡◌, ◌<◌, ◌+◌, ◌++◌, ◌∷◌, ◌↔◌, ◌⊎◌, [], slice_set};
 ghost use Rattle.std.specs.Prelude.{false, IsOk, IfOk, IfErr, IfSome, IfNone, OnOk, OnErr};
-ghost use Rattle.std.specs.Prelude.{List, MatchBool, MatchResult};
+ghost use Rattle.std.specs.Prelude.{List, MatchBool, MatchResult, length};
 ghost use Rattle.std.specs.Arc.{arc_value};
 ghost use mathlib.Core.List.{IsPrefix};
 ghost use Rattle.head.specs.Heads.{world_of};
@@ -11,15 +11,18 @@ ghost use Rattle.snapshots.specs.Asking.{AreAsked};
 ghost use Rattle.snapshots.specs.Marks.{accepted, list_of, tried_of};
 ghost use Rattle.snapshots.specs.Grows.{Shows};
 ghost use Rattle.snapshots.specs.Keeping.{kept_of, AreHeld, HeldIsKept, IsGroup, IsOfKeeping};
-ghost use Rattle.snapshots.specs.Keeping.{IsRecordFor};
+ghost use Rattle.snapshots.specs.Keeping.{IsRecordFor, IsSealed};
 ghost use Rattle.snapshots.specs.Replays.{IsAfter, Steps, IsEventRefusal, IsOfStore};
+ghost use Rattle.snapshots.specs.Runs.{join_of};
 ghost use Rattle.snapshots.specs.Seats.{FitsSeat, AreCounts, IsMetBy, count_of};
 ghost use Rattle.snapshots.specs.Standings.{StandsFor, current};
 ghost use Rattle.snapshots.specs.Tips.{IsFailure};
 
 use crate::change::{Change, snapshot_after};
 use crate::entry::Tried;
+use crate::error::JoinError;
 use crate::group::Group;
+use crate::joined_run::{JoinedRun, snapshot_with};
 use crate::keeping::push_record;
 use crate::log::LogEnd;
 use crate::naming::Naming;
@@ -45,6 +48,32 @@ fn fits<J: Naming>(counts: &Vec<u64>, seat: &Seat<J>) -> bool
         Some(count) => *count == seat.count() && seat.count() < u64::MAX,
         None => false,
     }
+}
+
+/// Where a store stands after a join under a seat's number, of which this is the count then.
+fn standing_with(
+    alloc: Global,
+    ahead: &Standing,
+    run: &JoinedRun,
+    number: usize,
+    count: u64,
+) -> Result<Standing, JoinError>
+    requires { number < length ahead.now.counts.items }
+    ensures steps { IfOk result (λ s.
+        Steps (arc_value ahead.now.snapshot) (join_of run.now) (arc_value s.snapshot)) }
+    ensures counts { IfOk result (λ s.
+        s.counts.items ≡ slice_set ahead.now.counts.items number count) }
+    ensures refused { IfErr result (λ e. (e ≡ JoinError.Stale) ⊎ (e ≡ JoinError.Memory)) }
+{
+    let snapshot = match snapshot_with(alloc, &ahead.snapshot, run) {
+        Ok(snapshot) => snapshot,
+        Err(error) => return Err(error),
+    };
+    let Ok(mut counts) = Vec::from_slice(alloc, &ahead.counts) else {
+        return Err(JoinError::Memory);
+    };
+    counts[number] = count;
+    Ok(Standing { snapshot, counts })
 }
 
 /// Where the events of a store are tried, each after all that were tried before it, and wait to be
@@ -138,9 +167,9 @@ impl<J: Naming, K: Keeper> Tip<J, K> {
         }
     }
 
-    /// Whether the seat may try an event here. `E7` where its number is none of this store's, or its
-    /// count is not the one here, or cannot grow. A list shorter than that of its last receipt would
-    /// be a refusal of memory, and does not occur.
+    /// Whether the seat may try an event here. `E7` if its number is none of this store's, or its
+    /// count is not the one here, or cannot grow. A list shorter than that of its last receipt
+    /// would be a refusal of memory, and does not occur.
     pub(crate) fn meets(&self, seat: &Seat<J>) -> Result<(), CommitError>
         ensures fits { OnOk result (FitsSeat seat.now self.now.counts) }
         ensures met { OnOk result (IsMetBy seat.now self.now.entries) }
@@ -280,6 +309,96 @@ impl<J: Naming, K: Keeper> Tip<J, K> {
             Err(error) => return Err(error),
         };
         self.place(rt, seat, change, bytes, snapshot)
+    }
+
+    /// Whether nothing waits, and nobody keeps what was sealed.
+    pub fn is_still(&self) -> bool {
+        !self.waits && !self.led
+    }
+
+    /// Joins blocks under a seat's number: the step of that after all that was tried, of which
+    /// nothing waits. It is sealed at once, for one who saves what it makes and publishes it; the
+    /// log that is answered beside that ends with it. `E7` as [`Tip::step`], `E8` while events that
+    /// were given up are still waited for, and `E9` if the blocks at the place are others, or a new
+    /// one ends above the floor. While events wait, or someone leads, it is refused for memory.
+    pub fn join<R: Wait>(
+        &mut self,
+        rt: &R,
+        seat: &Seat<J>,
+        run: &JoinedRun,
+    ) -> Result<(LogPrefix<J>, Group<J>), JoinError>
+        requires asked { J.asked (join_of run.now) seat.now.number seat.now.count }
+        ensures fits { OnOk result (FitsSeat seat.now self.old.counts) }
+        ensures seat { IfErr result (λ e.
+            (e ≡ JoinError.Seat) ↔ (¬ FitsSeat seat.now self.old.counts)) }
+        ensures steps { OnOk result (Steps self.old.parts (join_of run.now) self.new.parts) }
+        ensures journal { IfErr result (λ e. e ≡ JoinError.Journal → K.idle ≡ false) }
+        ensures kept { OnErr result (self.new ≡ self.old) }
+        ensures sealed { IfOk result (λ r. IsSealed J.opening r.1.log
+            (arc_value r.1.standing.snapshot) r.1.standing.counts.items) }
+        ensures alike { IfOk result (λ r.
+            arc_value r.1.shown ≡ arc_value r.1.standing.snapshot) }
+        ensures follows { IfOk result (λ r. accepted r.1.log ≡ self.old.published) }
+        ensures list { IfOk result (λ r. tried_of r.0 ≡ self.old.entries
+            ++ record { event = join_of run.now; seat = seat.now.number } ∷ []) }
+        ensures added { IfOk result (λ r. self.new.entries ≡ tried_of r.0) }
+        // What is tried is not published yet.
+        ensures published { self.new.published ≡ self.old.published }
+        ensures counts { OnOk result (self.new.counts
+            ≡ slice_set self.old.counts seat.now.number (seat.now.count + 1)) }
+        ensures begins { IfOk result (λ r. IsPrefix seat.now.seen (tried_of r.0)) }
+        ensures counted { IfOk result (λ r.
+            count_of seat.now.number (tried_of r.0) ≡ seat.now.count + 1) }
+        ensures books { AreCounts self.new.counts self.new.entries }
+        ensures world { IsAfter J.opening self.new.entries self.new.parts }
+    {
+        match self.meets(seat) {
+            Ok(()) => {}
+            Err(error) => return Err(JoinError::of(error)),
+        }
+        if self.waits {
+            return Err(JoinError::Memory);
+        }
+        if self.led {
+            return Err(JoinError::Memory);
+        }
+        if !self.log.has_room_for_two() {
+            return Err(JoinError::Memory);
+        }
+        if is_given_up(self.waits, &self.log) {
+            return Err(JoinError::of(self.failure));
+        }
+        let number = seat.number();
+        let ahead = standing_with(self.alloc, &self.ahead, run, number, seat.count() + 1)?;
+        let (Ok(standing), Ok(shown), Ok(base)) = (
+            ahead.share(self.alloc),
+            Arc::try_clone(&ahead.snapshot),
+            self.ahead.share(self.alloc),
+        ) else {
+            return Err(JoinError::Memory);
+        };
+        self.log.add_try::<JoinedRun, R>(
+            rt,
+            &self.end,
+            &Tried {
+                change: run,
+                seat: number,
+            },
+        );
+        self.log.add_seal(rt, &self.end);
+        self.ahead = ahead;
+        self.base = base;
+        self.records.clear();
+        self.waits = true;
+        self.led = true;
+        self.trials = self.trials.saturating_add(1);
+        let group = Group {
+            log: self.log.share(),
+            standing,
+            shown,
+            records: Vec::new(self.alloc),
+        };
+        Ok((self.log.share(), group))
     }
 
     /// The log with all that was tried, for one who waits to know what becomes of it; `None` if
@@ -424,8 +543,8 @@ impl<J: Naming, K: Keeper> Tip<J, K> {
         last: K::Last,
         group: Group<J>,
     ) -> Result<LogPrefix<J>, K::Last>
-        requires group { IsGroup J.opening K.idle group.log
-            (arc_value group.standing.snapshot) group.standing.counts.items group.records.items }
+        requires sealed { IsSealed J.opening group.log
+            (arc_value group.standing.snapshot) group.standing.counts.items }
         requires alike { arc_value group.shown ≡ arc_value group.standing.snapshot }
         requires held { K.holds keeper.now (kept_of J.before (list_of group.log)) }
         requires rule { HeldIsKept K.holds K.stays J.kept J.before }

@@ -1,16 +1,19 @@
 -- The blocks that a head names, and those in memory.
-use Rattle.std.proofs.Common.{◌≡◌, ◌≤◌, inl, inr, ℕ, zero, suc, Bool, true, false, List, [], ◌∷◌}
+use Rattle.std.proofs.Common.{◌≡◌, ◌≤◌, inl, inr, ⊎_elim, ℕ, zero, suc, Bool, true, false, List}
+use Rattle.std.proofs.Common.{[], ◌∷◌, ◌++◌, append_assoc}
 use Rattle.std.proofs.Common.{Option, Ok, length, take, refl, sym, ap, subst, subst₂, ◌∙◌, arith}
 use Rattle.data_folder.specs.declared.journal_file.JournalFile.{JournalFile}
 use Rattle.data_folder.specs.Folders.{Left, MayLeaveOf}
 use Rattle.head.specs.Heads.{BlockPart, SnapshotParts, world_of}
 use Rattle.head.specs.Worlds.{Event, replayed}
 use Rattle.head_record.specs.Saved.{Place}
-use Rattle.store_folder.specs.Holding.{AreAt, HoldsAt, HoldsLike, HoldsOrLost}
-use Rattle.store_folder.specs.Holding.{HoldsStore}
+use Rattle.store_folder.specs.Holding.{AreAt, HoldsAt, HoldsLike, HoldsOrLost, HoldsStore}
+use Rattle.store_folder.specs.Holding.{HoldsOrLostBetween, HoldsStoreBetween, IsLostBetween}
+use Rattle.store_folder.specs.Holding.{StandsForMore}
 use Rattle.store_folder.specs.KeeperLaws.{now_found}
 use Rattle.store_folder.specs.Origins.{Origin}
 use Rattle.store_folder.specs.Saving.{MaySave}
+use Rattle.store_folder.specs.States.{StandsFor}
 use Rattle.store_folder.specs.Writing.{AreLike}
 
 pub like_all : (blocks : List BlockPart) → AreLike blocks blocks
@@ -29,6 +32,14 @@ length_like [] [] l = refl
 length_like [] (y ∷ b) l = absurd l
 length_like (x ∷ a) [] l = absurd l
 length_like (x ∷ a) (y ∷ b) l = ap suc (length_like a b l.1)
+
+-- what stands for more events, and more, stands for fewer, and more
+pub stands_more : (first : Origin) (events more : List Event) (left : Left)
+    → StandsForMore first (events ++ more) left → StandsForMore first events left
+stands_more first events more left s = (
+  more ++ s.0,
+  subst (λ (x : List Event). StandsFor first x left) (append_assoc events more s.0) s.1,
+)
 
 module _ {F : Type 0} (shows : F → List ℕ → Option (List ℕ) → Type 0)
     (kept : F → List ℕ → ℕ → Type 0) (sound : F → Bool) (moment : F → ℕ)
@@ -65,15 +76,65 @@ module _ {F : Type 0} (shows : F → List ℕ → Option (List ℕ) → Type 0)
     subst₂ AreLike (sym same) (sym at.2) (like_all parts),
   )
 
+  -- lost on the way from some events to others
+
+  pub store_between : (first : Origin) (m : JournalFile F) (len : ℕ) (closed : Bool)
+      (events after : List Event)
+      → HoldsStore shows kept sound moment left_since first m len closed events
+      → HoldsStoreBetween shows kept sound moment left_since first m len closed events after
+  store_between first m len closed events after (inl h) = inl h
+  store_between first m len closed events after (inr lost) = inr (record {
+    is_closed = lost.is_closed;
+    leaves = λ left had. inl (lost.leaves left had);
+  })
+
+  pub as_between : (first : Origin) (m : JournalFile F) (len : ℕ) (closed : Bool)
+      (events after : List Event) (places : List Place) (blocks : List BlockPart)
+      → HoldsOrLost shows kept sound moment left_since first m len closed events places blocks
+      → HoldsOrLostBetween shows kept sound moment left_since first m len closed events after
+      places blocks
+  as_between first m len closed events after places blocks (inl h) = inl h
+  as_between first m len closed events after places blocks (inr lost) = inr (record {
+    is_closed = lost.is_closed;
+    leaves = λ left had. inl (lost.leaves left had);
+  })
+
+  -- to the same
+  pub same_between : (first : Origin) (m : JournalFile F) (len : ℕ) (closed : Bool)
+      (events : List Event) (places : List Place) (blocks : List BlockPart)
+      → HoldsOrLostBetween shows kept sound moment left_since first m len closed events events
+      places blocks
+      → HoldsOrLost shows kept sound moment left_since first m len closed events places blocks
+  same_between first m len closed events places blocks (inl h) = inl h
+  same_between first m len closed events places blocks (inr lost) = inr (record {
+    is_closed = lost.is_closed;
+    leaves = λ left had. ⊎_elim (λ s. s) (λ s. s) (lost.leaves left had);
+  })
+
+  -- to the same and some more
+  pub more_between : (first : Origin) (m : JournalFile F) (len : ℕ) (closed : Bool)
+      (events more : List Event) (places : List Place) (blocks : List BlockPart)
+      → HoldsOrLostBetween shows kept sound moment left_since first m len closed events
+      (events ++ more) places blocks
+      → HoldsOrLost shows kept sound moment left_since first m len closed events places blocks
+  more_between first m len closed events more places blocks (inl h) = inl h
+  more_between first m len closed events more places blocks (inr lost) = inr (record {
+    is_closed = lost.is_closed;
+    leaves = λ left had. ⊎_elim (λ s. s) (λ s. stands_more first events more left s)
+        (lost.leaves left had);
+  })
+
   -- a snapshot may be saved, of which these blocks are the first
   abbrev pub may_save : (first : Origin) (m : JournalFile F) (len : ℕ) (closed : Bool)
-      (events : List Event) (places held : List Place) (blocks shown others : List BlockPart)
-      (s : SnapshotParts) (same : ℕ) (h : Like first m len closed events places blocks)
-      → replayed first.world events ≡ Ok (world_of s) → held ≡ places → shown ≡ s.blocks
+      (events after : List Event) (places held : List Place)
+      (blocks shown others : List BlockPart) (s : SnapshotParts) (same : ℕ)
+      (h : Like first m len closed events places blocks)
+      → replayed first.world after ≡ Ok (world_of s) → held ≡ places → shown ≡ s.blocks
       → others ≡ blocks → same ≤ length others → take same shown ≡ take same others
-      → MaySave shows kept sound moment left_since first m len closed events s held h.0.parts same
-  may_save first m len closed events places held blocks shown others s same h world is snaps mine few
-      front =
+      → MaySave shows kept sound moment left_since first m len closed events after s held h.0.parts
+      same
+  may_save first m len closed events after places held blocks shown others s same h world is snaps
+      mine few front =
       let long : length held ≡ length blocks =
       ap (λ (ps : List Place). length ps) (is ∙ sym h.1)
       ∙ (as_many h.0.saved.places h.0.parts m.folder h.0.blocks
@@ -119,9 +180,20 @@ module _ {F : Type 0} (shows : F → List ℕ → Option (List ℕ) → Type 0)
     (left_since : F → ℕ → Left → Type 0)
     (only_now : (f : F) (name : List ℕ) (x : Option (List ℕ)) (n : ℕ) (left : Left) → shows f name x
     → kept f name n → left_since f (moment f) left → MayLeaveOf n x (left name)) where
+  lost_so : (first : Origin) (m : JournalFile F) (len : ℕ) (closed : Bool)
+      (events after : List Event) → closed ≡ true
+      → HoldsStoreBetween shows kept sound moment left_since first m len closed events after
+      → IsLostBetween moment left_since first m closed events after
+  lost_so first m len closed events after shut (inl h) = record {
+    is_closed = shut;
+    leaves = λ left had. inl (now_found shows kept sound moment left_since only_now first m len
+        closed events left (inl h) had);
+  }
+  lost_so first m len closed events after shut (inr lost) = lost
+
   -- a roll has failed: the journal goes on, or it is lost
   pub failed_like : (first : Origin) (old mid new : JournalFile F) (was mid_len len : ℕ)
-      (shut mid_closed closed : Bool) (events : List Event) (places held : List Place)
+      (shut mid_closed closed : Bool) (events after : List Event) (places held : List Place)
       (blocks : List BlockPart)
       (h : HoldsLike shows kept sound moment left_since first old was shut events places blocks)
       → closed ≡ mid_closed
@@ -130,16 +202,14 @@ module _ {F : Type 0} (shows : F → List ℕ → Option (List ℕ) → Type 0)
       → (mid_closed ≡ false
       → HoldsAt shows kept sound moment left_since first mid mid_len mid_closed events held h.0.parts
       → HoldsAt shows kept sound moment left_since first new len closed events held h.0.parts)
-      → HoldsStore shows kept sound moment left_since first new len closed events → held ≡ places
-      → HoldsOrLost shows kept sound moment left_since first new len closed events places blocks
-  failed_like first old mid new was mid_len len shut true closed events places held blocks h same goes
-      stays holds is =
-      inr (record {
-        is_closed = same;
-        leaves = λ left had. now_found shows kept sound moment left_since only_now first new len
-            closed events left holds had;
-      })
-  failed_like first old mid new was mid_len len shut false closed events places held blocks h same
-      goes stays holds is =
+      → HoldsStoreBetween shows kept sound moment left_since first new len closed events after
+      → held ≡ places
+      → HoldsOrLostBetween shows kept sound moment left_since first new len closed events after
+      places blocks
+  failed_like first old mid new was mid_len len shut true closed events after places held blocks h
+      same goes stays holds is =
+      inr (lost_so first new len closed events after same holds)
+  failed_like first old mid new was mid_len len shut false closed events after places held blocks h
+      same goes stays holds is =
       inl (still_like shows kept sound moment left_since first old new was len shut closed events
       places held blocks h (stays refl (goes refl)) is)

@@ -1,12 +1,14 @@
 -- Events more, kept in a folder.
-use Rattle.std.proofs.Common.{◌≡◌, ◌≢◌, ◌⊎◌, inl, inr, ⊎_elim, ℕ, ◌≤◌, Bool, List, ◌++◌, take}
+use Rattle.std.proofs.Common.{◌≡◌, ◌≢◌, ◌⊎◌, inl, inr, ⊎_elim, ℕ, zero, suc, ◌≤◌, Bool, true, List}
+use Rattle.std.proofs.Common.{[], ◌∷◌, ◌++◌, length, take}
 use Rattle.std.proofs.Common.{Option, Some, ap, refl, subst, sym, ◌∙◌, append_assoc}
 use Rattle.std.proofs.Common.{arith}
-use Rattle.std.proofs.lemmas.List.{append-nil}
+use Rattle.std.proofs.lemmas.List.{append-nil, take_all}
 use Rattle.data_folder.specs.declared.journal_file.JournalFile.{JournalFile}
 use Rattle.data_folder.specs.Folders.{Left, LeavesOnly, MayLeaveOf}
 use Rattle.data_folder.specs.JournalFile.{bytes_in, journal_name, JournalLeft}
 use Rattle.data_folder.specs.JournalLaws.{StaysBeside}
+use Rattle.data_folder.proofs.Moments.{weaker}
 use Rattle.event_journal.specs.Holding.{Holds, StandsAndSome}
 use Rattle.head.specs.Heads.{BlockPart}
 use Rattle.head.specs.Worlds.{Event}
@@ -16,12 +18,35 @@ use Rattle.journal.specs.Media as media
 use Rattle.keeper.specs.Finding.{AreAll, AreAllAndSome, StandsForSome}
 use Rattle.name_table.specs.Names.{Label}
 use Rattle.store_folder.specs.Holding.{AreAt, BytesSince, BytesStandFor, HoldsAfterHead, HoldsLike}
-use Rattle.store_folder.specs.Holding.{KeptLast, LastLike, StandsForThese}
-use Rattle.store_folder.specs.KeeperLaws.{has_journal, regrouped, stands_for}
+use Rattle.store_folder.specs.Holding.{HoldsOrLost, IsLast, IsLost, KeptLast, LastLike}
+use Rattle.store_folder.specs.Holding.{StandsForThese}
+use Rattle.store_folder.specs.KeeperLaws.{has_journal, now_found, regrouped, stands_for}
 use Rattle.store_folder.specs.Origins.{Origin}
-use Rattle.store_folder.specs.Starting.{StartFinds}
-use Rattle.store_folder.specs.States.{IsAfter}
+use Rattle.store_folder.specs.Starting.{StartFinds, StartFindsEither}
+use Rattle.store_folder.specs.States.{IsAfter, StandsForEither}
 use Rattle.store_folder.specs.StoreLaws.{blocks_left, blocks_stay}
+use Rattle.store_folder.proofs.Fronts.{stands_more}
+
+-- all of some more are the first few of them
+
+all_more : (events more : List Event) → AreAllAndSome events more (events ++ more)
+all_more events more = (
+  length more,
+  ap (λ (x : List Event). events ++ x) (sym (take_all (length more) more (omega arith))),
+)
+
+none_taken : (few : ℕ) (none : List Event) → none ≡ [] → take few none ≡ []
+none_taken zero none is = refl
+none_taken (suc few) [] is = refl
+none_taken (suc few) (e ∷ none) is = absurd cc
+
+all_some : (events more found : List Event) (few : ℕ)
+    → found ≡ (events ++ more) ++ take few [] → AreAllAndSome events more found
+all_some events more found few is =
+    let all : found ≡ events ++ more =
+    is ∙ (ap (λ (x : List Event). (events ++ more) ++ x) (none_taken few [] refl)
+    ∙ append-nil (events ++ more)) in
+    subst (λ (x : List Event). AreAllAndSome events more x) (sym all) (all_more events more)
 
 module _ {F : Type 0} (shows : F → List ℕ → Option (List ℕ) → Type 0)
     (kept : F → List ℕ → ℕ → Type 0) (sound : F → Bool) (moment : F → ℕ)
@@ -233,6 +258,75 @@ module _ {F : Type 0} (shows : F → List ℕ → Option (List ℕ) → Type 0)
             (s.0, refl),
           )
 
+  -- what was kept last is given up: its records, or what a head says
+
+  none_behind : (front : List (List ℕ)) (m : JournalFile F) (len : ℕ) (closed : Bool)
+      (late : List Event) → HoldsHere front m len closed late
+      → HoldsHere front m len closed (late ++ [])
+  none_behind front m len closed late h =
+      subst (λ (es : List Event). HoldsHere front m len closed es) (sym (append-nil late)) h
+
+  saved_given_up : (first : Origin) (old new : JournalFile F) (len new_len : ℕ)
+      (was closed : Bool) (events more : List Event) (places : List Place)
+      (blocks : List BlockPart) (h : Like first old len was (events ++ more) places blocks)
+      → StaysBeside shows kept moment left_since old.folder new.folder
+      → HoldsHere (head_texts h.0.saved) new new_len closed h.0.late → closed ≡ true
+      → IsLost moment left_since first new closed events
+  saved_given_up first old new len new_len was closed events more places blocks h beside j shut =
+      record {
+        is_closed = shut;
+        leaves = λ left had. stands_more first events more left
+            (now_found shows kept sound moment left_since only_now first new new_len closed
+            (events ++ more) left
+            (inl (store_stays first old new len new_len was closed (events ++ more) h.0 beside j))
+            had);
+      }
+
+  pub last_given_up : (first : Origin) (old new : JournalFile F) (len new_len : ℕ)
+      (was closed : Bool) (events more : List Event) (places : List Place)
+      (blocks : List BlockPart)
+      → IsLast shows kept sound moment left_since first old len was events more places blocks
+      → StaysBeside shows kept moment left_since old.folder new.folder → closed ≡ true
+      → ((front : List (List ℕ)) (late behind : List Event)
+      → HoldsHere front old len was (late ++ behind) → HoldsHere front new new_len closed late)
+      → HoldsOrLost shows kept sound moment left_since first new new_len closed events places
+      blocks
+  last_given_up first old new len new_len was closed events more places blocks (inl last) beside
+      shut give =
+      inl (like_given_up first old new len new_len was closed events more places blocks last beside
+      (give (head_texts last.0.saved) last.0.late more last.0.journal))
+  last_given_up first old new len new_len was closed events more places blocks (inr h) beside shut
+      give =
+      inr (saved_given_up first old new len new_len was closed events more places blocks h beside
+      (give (head_texts h.0.saved) h.0.late []
+      (none_behind (head_texts h.0.saved) old len was h.0.late h.0.journal)) shut)
+
+  pub last_leaves : (first : Origin) (old new : JournalFile F) (len : ℕ) (was : Bool)
+      (events more : List Event) (places : List Place) (blocks : List BlockPart)
+      → IsLast shows kept sound moment left_since first old len was events more places blocks
+      → StaysBeside shows kept moment left_since old.folder new.folder
+      → ((front : List (List ℕ)) (late behind : List Event)
+      → HoldsHere front old len was (late ++ behind)
+      → media.LeavesOnly (λ (j : JournalFile F). moment j.folder)
+      (λ (j : JournalFile F) (t : ℕ) (bytes : List ℕ). JournalLeft left_since j.folder t bytes)
+      old new (StandsAndSome front late behind))
+      → LeavesOnly moment left_since old.folder new.folder
+      (StandsForThese first (AreAllAndSome events more))
+  last_leaves first old new len was events more places blocks (inl last) beside leaves =
+      let h = last.0 in
+      store_leaves first old new h.saved h.parts h.early h.late events more h.all h.head h.begins
+      h.blocks beside (leaves (head_texts h.saved) h.late more h.journal)
+  last_leaves first old new len was events more places blocks (inr saved) beside leaves =
+      let h = saved.0 in
+      weaker moment left_since old.folder new.folder
+      (StandsForThese first (AreAllAndSome (events ++ more) []))
+      (StandsForThese first (AreAllAndSome events more))
+      (λ left s. (s.0, s.1, all_some events more s.0 s.2.0 s.2.1))
+      (store_leaves first old new h.saved h.parts h.early h.late (events ++ more) [] h.all h.head
+      h.begins h.blocks beside
+      (leaves (head_texts h.saved) h.late [] (none_behind (head_texts h.saved) old len was h.late
+      h.journal)))
+
 -- as a keeper says it
 module _ {F : Type 0} (moment : F → ℕ) (left_since : F → ℕ → Left → Type 0) where
   pub each_kept : (first : Origin) (old new : F) (P : List Event → Type 0)
@@ -263,6 +357,17 @@ module _ {F : Type 0} (moment : F → ℕ) (left_since : F → ℕ → Left → 
         before = λ t left le had. ⊎_elim (λ past. inl past) (λ s. inr (events, s, (0, none)))
             (h.before t left le had);
       }
+
+  -- these events, or all of some more as well
+  pub none_or_all : (first : Origin) (events more : List Event) (old new : F)
+      → StartFindsEither moment left_since old new first events (events ++ more)
+      → LeavesOnly moment left_since old new (StandsForThese first (AreAllAndSome events more))
+  none_or_all first events more old new h =
+      weaker moment left_since old new (StandsForEither first events (events ++ more))
+      (StandsForThese first (AreAllAndSome events more))
+      (λ left is. ⊎_elim
+      (λ s. (events, s, (0, sym (append-nil events))))
+      (λ s. (events ++ more, s, all_more events more)) is) h
 
   -- exactly these events
   pub these_alone : (first : Origin) (events : List Event) (old new : F)

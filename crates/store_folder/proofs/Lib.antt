@@ -1,3 +1,4 @@
+pub mod Causes
 pub mod Contents
 pub mod Faults
 pub mod Files

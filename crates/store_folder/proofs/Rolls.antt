@@ -26,11 +26,13 @@ use Rattle.head_record.proofs.Worlds.{in_front}
 use Rattle.store_folder.specs.declared.error.RollFault.TheVariants as fault
 use Rattle.store_folder.specs.Blocks.{BlockFiles, named_files}
 use Rattle.store_folder.specs.Holding.{AreAt, HoldsAfterHead, HoldsAt, HoldsStore, HoldsThese}
+use Rattle.store_folder.specs.Holding.{HoldsStoreBetween}
 use Rattle.store_folder.specs.KeeperLaws.{settled_found, settled_state, state_stands}
 use Rattle.store_folder.specs.Origins.{Origin}
 use Rattle.store_folder.specs.Rolls.{MayRoll}
-use Rattle.store_folder.specs.Starting.{StartFinds}
+use Rattle.store_folder.specs.Starting.{StartFinds, StartFindsEither}
 use Rattle.store_folder.specs.States.{IsAfter, IsEither, IsState, LieAt, StandsFor}
+use Rattle.store_folder.specs.States.{StandsForEither}
 
 -- lists, one after another
 
@@ -180,9 +182,10 @@ module _ {F : Type 0} (shows : F → List ℕ → Option (List ℕ) → Type 0)
   HoldsAll first m len closed events =
       HoldsAfterHead shows kept sound moment left_since first m len closed events
 
-  abbrev May : Origin → JournalFile F → ℕ → Bool → List Event → Saved → List BlockPart → Type 0
-  May first m len closed events saved parts =
-      MayRoll shows kept sound moment left_since first m len closed events saved parts
+  abbrev May : Origin → JournalFile F → ℕ → Bool → List Event → List Event → Saved
+      → List BlockPart → Type 0
+  May first m len closed events after saved parts =
+      MayRoll shows kept sound moment left_since first m len closed events after saved parts
 
   abbrev KeepsHere : List (List ℕ) → JournalFile F → ℕ → Type 0
   KeepsHere contents m len = rolls.Keeps shows kept sound contents m.folder len
@@ -233,17 +236,17 @@ module _ {F : Type 0} (shows : F → List ℕ → Option (List ℕ) → Type 0)
         blocks = at;
       }
 
-  -- the new journal has the same events, before its head
+  -- the new journal has the events after, before its head
   pub rolled : (first : Origin) (old new : JournalFile F) (len new_len : ℕ) (was closed : Bool)
-      (saved : Saved) (parts : List BlockPart) (events : List Event)
-      → May first old len was events saved parts → IsSaved saved → new.names ≡ []
+      (saved : Saved) (parts : List BlockPart) (events after : List Event)
+      → May first old len was events after saved parts → IsSaved saved → new.names ≡ []
       → KeepsHere (contents_with (head_texts saved) []) new new_len
       → ((files : List Named) → AllByRecursion IsApart files → AreThere shows kept files old.folder
       → AreThere shows kept files new.folder)
-      → HoldsThese shows kept sound moment left_since first new new_len closed events saved parts []
-  rolled first old new len new_len was closed saved parts events m head named k stay = (
-    after_head first new new_len closed saved parts events events [] [] []
-        (sym (append-nil events)) head refl named (record { world = m.world; values = m.values }) k
+      → HoldsThese shows kept sound moment left_since first new new_len closed after saved parts []
+  rolled first old new len new_len was closed saved parts events after m head named k stay = (
+    after_head first new new_len closed saved parts after after [] [] []
+        (sym (append-nil after)) head refl named (record { world = m.world; values = m.values }) k
         (blocks_rolled shows kept saved.places parts old.folder new.folder stay m.blocks),
     refl,
     refl,
@@ -295,21 +298,22 @@ module _ {F : Type 0} (shows : F → List ℕ → Option (List ℕ) → Type 0)
       weaker moment left_since old.folder new _ (IsEither h.saved h.parts h.late saved parts)
       (λ left is. old_or_new first old len was saved parts events left h at head is) leaves
 
-  -- so a start finds the same events
+  -- so a start finds the events before, or those after
   pub roll_finds : (first : Origin) (old new : JournalFile F) (len : ℕ) (was : Bool)
-      (saved : Saved) (parts : List BlockPart) (events : List Event)
+      (saved : Saved) (parts : List BlockPart) (events after : List Event)
       (h : HoldsAll first old len was events)
-      (m : May first old len was events saved parts)
+      (m : May first old len was events after saved parts)
       → LeavesOnly moment left_since old.folder new.folder
       (IsEither h.saved h.parts h.late saved parts)
-      → StartFinds moment left_since old.folder new.folder first events
-  roll_finds first old new len was saved parts events h m leaves =
+      → StartFindsEither moment left_since old.folder new.folder first events after
+  roll_finds first old new len was saved parts events after h m leaves =
       weaker moment left_since old.folder new.folder (IsEither h.saved h.parts h.late saved parts)
-      (StandsFor first events)
+      (StandsForEither first events after)
       (λ left is. ⊎_elim
-      (λ before. state_stands first events h.early h.late h.saved h.parts left h.all h.begins before)
-      (λ after. state_stands first events events [] saved parts left (sym (append-nil events))
-      (record { world = m.world; values = m.values }) after) is) leaves
+      (λ before. inl (state_stands first events h.early h.late h.saved h.parts left h.all h.begins
+      before))
+      (λ anew. inr (state_stands first after after [] saved parts left (sym (append-nil after))
+      (record { world = m.world; values = m.values }) anew)) is) leaves
 
   -- where nothing was done
   pub stays_so : (first : Origin) (m : JournalFile F) (len : ℕ) (closed : Bool)
@@ -367,28 +371,33 @@ module _ {F : Type 0} (shows : F → List ℕ → Option (List ℕ) → Type 0)
 
   -- after an error the old journal goes on, or it is closed
   pub not_rolled : (first : Origin) (old new : JournalFile F) (len new_len : ℕ)
-      (was closed : Bool) (events : List Event) (h : HoldsAll first old len was events)
+      (was closed : Bool) (events after : List Event) (h : HoldsAll first old len was events)
       → was ≡ false → new.names ≡ old.names
       → (closed ≡ false → KeepsHere (head_texts h.saved ++ h.journal.contents) new new_len)
       → ((files : List Named) → AllByRecursion IsApart files → AreThere shows kept files old.folder
       → AreThere shows kept files new.folder)
-      → StartFinds moment left_since old.folder new.folder first events
-      → HoldsStore shows kept sound moment left_since first new new_len closed events
-  not_rolled first old new len new_len was false events h opened same k stay finds =
+      → StartFindsEither moment left_since old.folder new.folder first events after
+      → HoldsStoreBetween shows kept sound moment left_since first new new_len closed events after
+  not_rolled first old new len new_len was false events after h opened same k stay finds =
       inl (after_head first new new_len false h.saved h.parts events h.early h.late
       h.journal.contents h.journal.after h.all h.head h.journal.spell
       (same ∙ h.journal.named opened) h.begins (k refl)
       (blocks_rolled shows kept h.saved.places h.parts old.folder new.folder stay h.blocks))
-  not_rolled first old new len new_len was true events h opened same k stay finds =
+  not_rolled first old new len new_len was true events after h opened same k stay finds =
       inr (record {
         is_closed = refl;
-        leaves = λ left had. (
-          [],
-          subst (λ (x : List Event). StandsFor first x left) (sym (append-nil events))
-              (finds.each left
-              (earlier new.folder (moment old.folder) (moment new.folder) left finds.later
-              (omega arith) had)),
-        );
+        leaves = λ left had. ⊎_elim
+            (λ s. inl (
+              [],
+              subst (λ (x : List Event). StandsFor first x left) (sym (append-nil events)) s,
+            ))
+            (λ s. inr (
+              [],
+              subst (λ (x : List Event). StandsFor first x left) (sym (append-nil after)) s,
+            ))
+            (finds.each left
+            (earlier new.folder (moment old.folder) (moment new.folder) left finds.later
+            (omega arith) had));
       })
 
 -- one call after another
@@ -398,6 +407,22 @@ module _ {F : Type 0} (moment : F → ℕ) (left_since : F → ℕ → Left → 
       → StartFinds moment left_since a c first events
   finds_on first events a b c one two =
       joined_calls moment left_since a b c (StandsFor first events) one two
+
+  -- those before
+  pub finds_first : (first : Origin) (events after : List Event) (a b : F)
+      → StartFinds moment left_since a b first events
+      → StartFindsEither moment left_since a b first events after
+  finds_first first events after a b found =
+      weaker moment left_since a b (StandsFor first events) (StandsForEither first events after)
+      (λ left s. inl s) found
+
+  -- either of the same
+  pub finds_same : (first : Origin) (events : List Event) (a b : F)
+      → StartFindsEither moment left_since a b first events events
+      → StartFinds moment left_since a b first events
+  finds_same first events a b found =
+      weaker moment left_since a b (StandsForEither first events events) (StandsFor first events)
+      (λ left is. ⊎_elim (λ s. s) (λ s. s) is) found
 
 -- a journal that is not lost goes on
 pub goes_on : {A : Type 0} (r : Result A RollError) (e : RollError) (was closed failed : Bool)

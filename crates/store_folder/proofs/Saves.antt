@@ -1,30 +1,32 @@
 -- A snapshot that is saved.
 use Rattle.std.proofs.Common.{◌≡◌, ◌≤◌, inl, inr, ⊎_elim, ℕ, zero, suc, Bool, true, false, List, []}
-use Rattle.std.proofs.Common.{◌∷◌, ◌++◌, Option, drop, take, length, refl, sym, ap, subst, ◌∙◌, arith}
-use Rattle.std.proofs.lemmas.List.{take-append-drop}
+use Rattle.std.proofs.Common.{◌∷◌, ◌++◌, Option, Ok, drop, take, length, refl, sym, ap, subst, ◌∙◌}
+use Rattle.std.proofs.Common.{arith}
+use Rattle.std.proofs.lemmas.List.{append-nil, take-append-drop}
 use Rattle.block_folder.specs.declared.values.Values.{Values}
 use Rattle.block_rewriter.proofs.Full.{same_points}
 use Rattle.data_folder.specs.declared.journal_file.JournalFile.{JournalFile}
 use Rattle.data_folder.specs.Folders.{Left, LeavesOnly, MayLeaveOf}
 use Rattle.data_folder.specs.Sweeping.{KeepsStore}
 use Rattle.data_folder.proofs.Moments.{joined as joined_calls, weaker}
-use Rattle.head.specs.Heads.{BlockPart, SnapshotParts}
+use Rattle.head.specs.Heads.{BlockPart, SnapshotParts, world_of}
 use Rattle.head.specs.Resuming.{MayStand}
-use Rattle.head.specs.Worlds.{Event}
+use Rattle.head.specs.Worlds.{Event, replayed}
 use Rattle.head_record.specs.Saved.{Place, Saved, save}
 use Rattle.labels.specs.Parts.{rows_in}
 use Rattle.labels.specs.Rows.{points_of}
-use Rattle.store_folder.specs.Holding.{AreAt, HoldsAt, HoldsThese}
+use Rattle.store_folder.specs.Holding.{AreAt, HoldsAfterHead, HoldsAt, HoldsThese}
+use Rattle.store_folder.specs.KeeperLaws.{state_stands}
 use Rattle.store_folder.specs.Origins.{Origin}
 use Rattle.store_folder.specs.Rewriting.{HaveSame}
 use Rattle.store_folder.specs.RewritingLaws.{same_replay}
 use Rattle.store_folder.specs.Rolls.{MayRoll}
 use Rattle.store_folder.specs.Saving.{IsOldOrSaved, MaySave}
-use Rattle.store_folder.specs.Starting.{StartFinds}
-use Rattle.store_folder.specs.States.{IsEither, IsState, started}
+use Rattle.store_folder.specs.Starting.{StartFindsEither}
+use Rattle.store_folder.specs.States.{IsEither, IsState, StandsForEither, started}
 use Rattle.store_folder.specs.Sweeps.{names_at}
 use Rattle.store_folder.specs.Writing.{AreLike, AreRewritten, IsLike, IsRewritten}
-use Rattle.store_folder.proofs.Swept.{holds_swept, swept_finds, these_leave, these_swept}
+use Rattle.store_folder.proofs.Swept.{holds_swept, these_leave, these_swept}
 use Rattle.store_folder.proofs.Writes.{at_joined}
 
 -- blocks that are like others
@@ -107,10 +109,10 @@ module _ {F : Type 0} (shows : F → List ℕ → Option (List ℕ) → Type 0)
   At first m len closed events held parts =
       HoldsAt shows kept sound moment left_since first m len closed events held parts
 
-  abbrev May : Origin → JournalFile F → ℕ → Bool → List Event → SnapshotParts → List Place
-      → List BlockPart → ℕ → Type 0
-  May first m len closed events s held parts same =
-      MaySave shows kept sound moment left_since first m len closed events s held parts same
+  abbrev May : Origin → JournalFile F → ℕ → Bool → List Event → List Event → SnapshotParts
+      → List Place → List BlockPart → ℕ → Type 0
+  May first m len closed events after s held parts same =
+      MaySave shows kept sound moment left_since first m len closed events after s held parts same
 
   abbrev Stays : List (List ℕ) → F → F → Type 0
   Stays names old new = KeepsStore shows kept sound moment left_since names old new
@@ -126,9 +128,9 @@ module _ {F : Type 0} (shows : F → List ℕ → Option (List ℕ) → Type 0)
 
   -- there are as many of the snapshot's blocks
   pub enough : (first : Origin) (m : JournalFile F) (len : ℕ) (closed : Bool)
-      (events : List Event) (s : SnapshotParts) (held : List Place) (parts : List BlockPart)
-      (same : ℕ) → May first m len closed events s held parts same → same ≤ length s.blocks
-  enough first m len closed events s held parts same may =
+      (events after : List Event) (s : SnapshotParts) (held : List Place) (parts : List BlockPart)
+      (same : ℕ) → May first m len closed events after s held parts same → same ≤ length s.blocks
+  enough first m len closed events after s held parts same may =
       let count = as_many shows kept held parts m.folder
       (held_blocks first m len closed events held parts may.holds) in
       let few : same ≤ length parts = omega (arith, count, may.few) in
@@ -137,61 +139,52 @@ module _ {F : Type 0} (shows : F → List ℕ → Option (List ℕ) → Type 0)
 
   -- the folder is sound while the journal is open
   pub is_sound : (first : Origin) (m : JournalFile F) (len : ℕ) (closed : Bool)
-      (events : List Event) (s : SnapshotParts) (held : List Place) (parts : List BlockPart)
-      (same : ℕ) → May first m len closed events s held parts same → closed ≡ false
+      (events after : List Event) (s : SnapshotParts) (held : List Place) (parts : List BlockPart)
+      (same : ℕ) → May first m len closed events after s held parts same → closed ≡ false
       → sound m.folder ≡ true
-  is_sound first m len closed events s held parts same may opened =
+  is_sound first m len closed events after s held parts same may opened =
       (may.holds.0.journal.keeps opened).has.is_sound
 
   -- while blocks are written the head stays, and its blocks
   pub still_these : (first : Origin) (old new : JournalFile F) (len : ℕ) (closed : Bool)
-      (events : List Event) (s : SnapshotParts) (held : List Place) (parts : List BlockPart)
-      (same : ℕ) (may : May first old len closed events s held parts same) → closed ≡ false
+      (events after : List Event) (s : SnapshotParts) (held : List Place) (parts : List BlockPart)
+      (same : ℕ) (may : May first old len closed events after s held parts same) → closed ≡ false
       → new.names ≡ old.names → Stays (names_at held) old.folder new.folder
       → HoldsThese shows kept sound moment left_since first new len closed events
       may.holds.0.saved may.holds.0.parts may.holds.0.late
-  still_these first old new len closed events s held parts same may opened named stays =
+  still_these first old new len closed events after s held parts same may opened named stays =
       let h = may.holds.0 in
       these_swept shows kept sound moment left_since only_now earlier first old new len closed
       events h.saved h.parts h.late (names_at held) (h, refl, refl, refl) opened named
       (ap names_at (sym may.holds.1)) stays
 
   pub still_held : (first : Origin) (old new : JournalFile F) (len : ℕ) (closed : Bool)
-      (events : List Event) (s : SnapshotParts) (held : List Place) (parts : List BlockPart)
-      (same : ℕ) → May first old len closed events s held parts same → closed ≡ false
+      (events after : List Event) (s : SnapshotParts) (held : List Place) (parts : List BlockPart)
+      (same : ℕ) → May first old len closed events after s held parts same → closed ≡ false
       → new.names ≡ old.names → Stays (names_at held) old.folder new.folder
       → At first new len closed events held parts
-  still_held first old new len closed events s held parts same may opened named stays =
+  still_held first old new len closed events after s held parts same may opened named stays =
       holds_swept shows kept sound moment left_since only_now earlier first old new len closed
       events held parts (names_at held) may.holds opened named refl stays
 
   pub writing_leaves : (first : Origin) (old : JournalFile F) (new : F) (len : ℕ) (closed : Bool)
-      (events : List Event) (s : SnapshotParts) (held : List Place) (parts : List BlockPart)
-      (same : ℕ) (values : Values) (may : May first old len closed events s held parts same)
+      (events after : List Event) (s : SnapshotParts) (held : List Place) (parts : List BlockPart)
+      (same : ℕ) (values : Values) (may : May first old len closed events after s held parts same)
       → closed ≡ false → Stays (names_at held) old.folder new
       → LeavesOnly moment left_since old.folder new
       (IsOldOrSaved may.holds.0.saved may.holds.0.parts may.holds.0.late values s)
-  writing_leaves first old new len closed events s held parts same values may opened stays =
+  writing_leaves first old new len closed events after s held parts same values may opened stays =
       let h = may.holds.0 in
       weaker moment left_since old.folder new (IsState h.saved h.parts h.late)
       (IsOldOrSaved h.saved h.parts h.late values s) (λ left state. inl state)
       (these_leave shows kept sound moment left_since only_now earlier first old new len closed
       events h.saved h.parts h.late held (h, refl, refl, refl) opened may.holds.1 stays)
 
-  pub writing_finds : (first : Origin) (old new : JournalFile F) (len : ℕ) (closed : Bool)
-      (events : List Event) (s : SnapshotParts) (held : List Place) (parts : List BlockPart)
-      (same : ℕ) → May first old len closed events s held parts same → closed ≡ false
-      → Stays (names_at held) old.folder new.folder
-      → StartFinds moment left_since old.folder new.folder first events
-  writing_finds first old new len closed events s held parts same may opened stays =
-      swept_finds shows kept sound moment left_since only_now earlier first old new len closed
-      events held parts (names_at held) may.holds opened refl stays
-
   -- and then, while the journal begins with what is saved
   pub saving_leaves : (first : Origin) (old : JournalFile F) (mid new : F) (len : ℕ) (closed : Bool)
-      (events : List Event) (s : SnapshotParts) (held : List Place) (parts : List BlockPart)
+      (events after : List Event) (s : SnapshotParts) (held : List Place) (parts : List BlockPart)
       (same : ℕ) (values meant : Values) (places : List Place) (made : List BlockPart)
-      (saved : Saved) (may : May first old len closed events s held parts same)
+      (saved : Saved) (may : May first old len closed events after s held parts same)
       → closed ≡ false → Stays (names_at held) old.folder mid
       → AreLike s.blocks made → MayStand (started saved made) → meant ≡ values
       → saved ≡ save meant s places
@@ -199,13 +192,14 @@ module _ {F : Type 0} (shows : F → List ℕ → Option (List ℕ) → Type 0)
       (IsEither may.holds.0.saved may.holds.0.parts may.holds.0.late saved made)
       → LeavesOnly moment left_since old.folder new
       (IsOldOrSaved may.holds.0.saved may.holds.0.parts may.holds.0.late values s)
-  saving_leaves first old mid new len closed events s held parts same values meant places made saved
-      may opened stays like stands means is leaves =
+  saving_leaves first old mid new len closed events after s held parts same values meant places made
+      saved may opened stays like stands means is leaves =
       let h = may.holds.0 in
       let named : saved ≡ save values s places = is ∙ ap (λ (v : Values). save v s places) means in
       joined_calls moment left_since old.folder mid new
       (IsOldOrSaved h.saved h.parts h.late values s)
-      (writing_leaves first old mid len closed events s held parts same values may opened stays)
+      (writing_leaves first old mid len closed events after s held parts same values may opened
+      stays)
       (weaker moment left_since mid new (IsEither h.saved h.parts h.late saved made)
       (IsOldOrSaved h.saved h.parts h.late values s)
       (λ left x. ⊎_elim (λ state. inl state)
@@ -217,27 +211,49 @@ module _ {F : Type 0} (shows : F → List ℕ → Option (List ℕ) → Type 0)
         subst (λ (y : Saved). MayStand (started y made)) named stands,
       )) x) leaves)
 
+  -- so a start finds the events before, or those after
+  pub saved_finds : (first : Origin) (old : JournalFile F) (new : F) (len : ℕ) (closed : Bool)
+      (events after : List Event) (s : SnapshotParts)
+      (h : HoldsAfterHead shows kept sound moment left_since first old len closed events)
+      → replayed first.world after ≡ Ok (world_of s)
+      → LeavesOnly moment left_since old.folder new
+      (IsOldOrSaved h.saved h.parts h.late first.values s)
+      → StartFindsEither moment left_since old.folder new first events after
+  saved_finds first old new len closed events after s h world leaves =
+      weaker moment left_since old.folder new (IsOldOrSaved h.saved h.parts h.late first.values s)
+      (StandsForEither first events after)
+      (λ left is. ⊎_elim
+      (λ state. inl (state_stands first events h.early h.late h.saved h.parts left h.all h.begins
+      state))
+      (λ x. inr (state_stands first after after [] (save first.values s x.0) x.1 left
+      (sym (append-nil after))
+      (record {
+        world = same_replay first.world after s (save first.values s x.0) x.1
+            (have_same s.blocks x.1 x.2) refl refl world;
+        values = refl;
+      }) x.3)) is) leaves
+
   -- then the journal may begin with the snapshot
   pub may_roll : (first : Origin) (old new : JournalFile F) (len : ℕ) (closed : Bool)
-      (events : List Event) (s : SnapshotParts) (held : List Place) (parts : List BlockPart)
+      (events after : List Event) (s : SnapshotParts) (held : List Place) (parts : List BlockPart)
       (same : ℕ) (places : List Place) (news : List BlockPart) (values : Values) (saved : Saved)
-      → May first old len closed events s held parts same → closed ≡ false
+      → May first old len closed events after s held parts same → closed ≡ false
       → new.names ≡ old.names
       → Stays (names_at held) old.folder new.folder → AreRewritten (drop same s.blocks) news
       → AreAt shows kept places news new.folder → values ≡ first.values
       → saved ≡ save values s (take same held ++ places)
       → ((made : List BlockPart) → AreLike s.blocks made → MayStand (started saved made))
-      → MayRoll shows kept sound moment left_since first new len closed events saved
+      → MayRoll shows kept sound moment left_since first new len closed events after saved
       (take same parts ++ news)
-  may_roll first old new len closed events s held parts same places news values saved may opened
-      named stays anew at means is stands =
-      let holds = still_held first old new len closed events s held parts same may opened named
-      stays in
-      subst (λ (x : Saved). MayRoll shows kept sound moment left_since first new len closed events x
-      (take same parts ++ news)) (sym is)
+  may_roll first old new len closed events after s held parts same places news values saved may
+      opened named stays anew at means is stands =
+      let holds = still_held first old new len closed events after s held parts same may opened
+      named stays in
+      subst (λ (x : Saved). MayRoll shows kept sound moment left_since first new len closed events
+      after x (take same parts ++ news)) (sym is)
       (record {
         holds = inl holds.0;
-        world = same_replay first.world events s (save values s (take same held ++ places))
+        world = same_replay first.world after s (save values s (take same held ++ places))
             (take same parts ++ news)
             (have_same s.blocks (take same parts ++ news)
             (made_like same s.blocks parts news may.front anew)) refl refl may.world;
@@ -251,10 +267,10 @@ module _ {F : Type 0} (shows : F → List ℕ → Option (List ℕ) → Type 0)
 
   -- the blocks that the new head names
   pub like_made : (first : Origin) (old : JournalFile F) (len : ℕ) (closed : Bool)
-      (events : List Event) (s : SnapshotParts) (held : List Place) (parts : List BlockPart)
-      (same : ℕ) (news : List BlockPart) → May first old len closed events s held parts same
+      (events after : List Event) (s : SnapshotParts) (held : List Place) (parts : List BlockPart)
+      (same : ℕ) (news : List BlockPart) → May first old len closed events after s held parts same
       → AreRewritten (drop same s.blocks) news → AreLike s.blocks (take same parts ++ news)
-  like_made first old len closed events s held parts same news may anew =
+  like_made first old len closed events after s held parts same news may anew =
       made_like same s.blocks parts news may.front anew
 
   -- there are as many places as blocks

@@ -106,6 +106,15 @@ pub record IsLost {F : Type 0} (moment : F → ℕ) (left_since : F → ℕ → 
   pub leaves : (left : Left) → left_since m.folder (moment m.folder) left
       → StandsForMore first events left
 
+-- The journal was lost on the way from these events to a head that says the world of those: nothing
+-- more is taken, and a crash leaves what stands for the former or for the latter.
+pub record IsLostBetween {F : Type 0} (moment : F → ℕ) (left_since : F → ℕ → Left → Type 0)
+    (first : Origin) (m : JournalFile F) (closed : Bool) (events after : List Event)
+    : Type 0 where
+  pub is_closed : closed ≡ true
+  pub leaves : (left : Left) → left_since m.folder (moment m.folder) left
+      → StandsForMore first events left ⊎ StandsForMore first after left
+
 -- the folder keeps these events, or a crash leaves what stands for them and nothing more is taken
 abbrev pub HoldsStore : {F : Type 0} → (F → List ℕ → Option (List ℕ) → Type 0)
     → (F → List ℕ → ℕ → Type 0) → (F → Bool) → (F → ℕ) → (F → ℕ → Left → Type 0) → Origin
@@ -113,6 +122,14 @@ abbrev pub HoldsStore : {F : Type 0} → (F → List ℕ → Option (List ℕ) �
 HoldsStore shows kept sound moment left_since first m len closed events =
     HoldsAfterHead shows kept sound moment left_since first m len closed events
     ⊎ IsLost moment left_since first m closed events
+
+-- the folder keeps these events, or the journal was lost on the way from them to those
+abbrev pub HoldsStoreBetween : {F : Type 0} → (F → List ℕ → Option (List ℕ) → Type 0)
+    → (F → List ℕ → ℕ → Type 0) → (F → Bool) → (F → ℕ) → (F → ℕ → Left → Type 0) → Origin
+    → JournalFile F → ℕ → Bool → List Event → List Event → Type 0
+HoldsStoreBetween shows kept sound moment left_since first m len closed events after =
+    HoldsAfterHead shows kept sound moment left_since first m len closed events
+    ⊎ IsLostBetween moment left_since first m closed events after
 
 -- the folder keeps these events, after a head that names blocks like these at these places
 abbrev pub HoldsLike : {F : Type 0} → (F → List ℕ → Option (List ℕ) → Type 0)
@@ -137,3 +154,22 @@ abbrev pub HoldsOrLost : {F : Type 0} → (F → List ℕ → Option (List ℕ) 
 HoldsOrLost shows kept sound moment left_since first m len closed events places blocks =
     HoldsLike shows kept sound moment left_since first m len closed events places blocks
     ⊎ IsLost moment left_since first m closed events
+
+-- it does, or the journal was lost on the way from these events to those
+abbrev pub HoldsOrLostBetween : {F : Type 0} → (F → List ℕ → Option (List ℕ) → Type 0)
+    → (F → List ℕ → ℕ → Type 0) → (F → Bool) → (F → ℕ) → (F → ℕ → Left → Type 0) → Origin
+    → JournalFile F → ℕ → Bool → List Event → List Event → List Place → List BlockPart → Type 0
+HoldsOrLostBetween shows kept sound moment left_since first m len closed events after places
+    blocks =
+    HoldsLike shows kept sound moment left_since first m len closed events places blocks
+    ⊎ IsLostBetween moment left_since first m closed events after
+
+-- These were handed last, and may be taken back: their records stand behind those of the events
+-- before them, or a head says the world of all of them.
+abbrev pub IsLast : {F : Type 0} → (F → List ℕ → Option (List ℕ) → Type 0)
+    → (F → List ℕ → ℕ → Type 0) → (F → Bool) → (F → ℕ) → (F → ℕ → Left → Type 0) → Origin
+    → JournalFile F → ℕ → Bool → List Event → List Event → List Place → List BlockPart → Type 0
+IsLast shows kept sound moment left_since first m len closed events more places blocks =
+    LastLike shows kept sound moment left_since first m len closed events more places blocks
+    ⊎ HoldsLike shows kept sound moment left_since first m len closed (events ++ more) places
+    blocks

@@ -1,4 +1,5 @@
 pub mod Blocks
+pub mod Causes
 pub mod Codes
 pub mod Faults
 pub mod Finding

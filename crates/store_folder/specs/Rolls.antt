@@ -15,15 +15,16 @@ use Rattle.store_folder.specs.Journals.{IsJournalOf}
 use Rattle.store_folder.specs.Origins.{Origin}
 use Rattle.store_folder.specs.States.{started}
 
--- the events are held, the head says their world and what the values mean, it may be a snapshot
--- with its blocks, and their files are there for good
+-- The events before are held; the head says the world of those after it and what the values mean,
+-- it may be a snapshot with its blocks, and their files are there for good. Both are the same
+-- events where nothing more is kept.
 pub record MayRoll {F : Type 0} (shows : F → List ℕ → Option (List ℕ) → Type 0)
     (kept : F → List ℕ → ℕ → Type 0) (sound : F → Bool) (moment : F → ℕ)
     (left_since : F → ℕ → Left → Type 0) (first : Origin) (m : JournalFile F) (len : ℕ)
-    (closed : Bool) (events : List Event) (saved : Saved) (parts : List BlockPart)
+    (closed : Bool) (events after : List Event) (saved : Saved) (parts : List BlockPart)
     : Type 0 where
   pub holds : HoldsStore shows kept sound moment left_since first m len closed events
-  pub world : replayed first.world events ≡ Ok (world_of (started saved parts))
+  pub world : replayed first.world after ≡ Ok (world_of (started saved parts))
   pub values : saved.values ≡ first.values
   pub may : MayStand (started saved parts)
   pub blocks : AreAt shows kept saved.places parts m.folder

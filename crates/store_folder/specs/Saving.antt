@@ -13,15 +13,16 @@ use Rattle.store_folder.specs.Origins.{Origin}
 use Rattle.store_folder.specs.States.{IsState, started}
 use Rattle.store_folder.specs.Writing.{AreLike}
 
--- The events are held, after a head that names blocks at these places; the snapshot has the world
--- of the events; and so many of its blocks, the first, are like the first of the head's.
+-- The events before are held, behind a head that names blocks at these places; the snapshot has the
+-- world of the events after it; and so many of its blocks, the first, are like the first of the
+-- head's.
 pub record MaySave {F : Type 0} (shows : F → List ℕ → Option (List ℕ) → Type 0)
     (kept : F → List ℕ → ℕ → Type 0) (sound : F → Bool) (moment : F → ℕ)
     (left_since : F → ℕ → Left → Type 0) (first : Origin) (m : JournalFile F) (len : ℕ)
-    (closed : Bool) (events : List Event) (s : SnapshotParts) (held : List Place)
+    (closed : Bool) (events after : List Event) (s : SnapshotParts) (held : List Place)
     (parts : List BlockPart) (same : ℕ) : Type 0 where
   pub holds : HoldsAt shows kept sound moment left_since first m len closed events held parts
-  pub world : replayed first.world events ≡ Ok (world_of s)
+  pub world : replayed first.world after ≡ Ok (world_of s)
   pub few : same ≤ length held
   pub front : AreLike (take same s.blocks) (take same parts)
 

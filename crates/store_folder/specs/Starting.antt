@@ -22,7 +22,7 @@ use Rattle.store_folder.specs.Codes.{cause_of}
 use Rattle.store_folder.specs.Holding.{HoldsLike}
 use Rattle.store_folder.specs.Kinds.{has_cut}
 use Rattle.store_folder.specs.Origins.{Origin}
-use Rattle.store_folder.specs.States.{IsState, StandsFor, started}
+use Rattle.store_folder.specs.States.{IsState, StandsFor, StandsForEither, started}
 
 -- why a snapshot is not made of a head, its blocks and the events after it
 abbrev pub DeniesStart : Saved → List BlockPart → List Event → StartError → Type 0
@@ -74,6 +74,12 @@ abbrev pub StartFinds : {F : Type 0} → (F → ℕ) → (F → ℕ → Left →
     → List Event → Type 0
 StartFinds moment left_since old new first events =
     LeavesOnly moment left_since old new (StandsFor first events)
+
+-- it finds exactly these events or exactly those
+abbrev pub StartFindsEither : {F : Type 0} → (F → ℕ) → (F → ℕ → Left → Type 0) → F → F → Origin
+    → List Event → List Event → Type 0
+StartFindsEither moment left_since old new first events after =
+    LeavesOnly moment left_since old new (StandsForEither first events after)
 
 -- what is saved of a store that has nothing, whose values mean this
 abbrev pub nothing_with : Values → Saved

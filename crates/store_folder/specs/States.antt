@@ -77,6 +77,10 @@ pub record StandsFor (first : Origin) (events : List Event) (left : Left) : Type
   pub begins : IsAfter first early saved parts
   pub state : IsState saved parts late left
 
+-- it stands for these events, or for those
+abbrev pub StandsForEither : Origin → List Event → List Event → Left → Type 0
+StandsForEither first events after left = StandsFor first events left ⊎ StandsFor first after left
+
 -- files of bytes
 abbrev pub AreBytes : Left → Type 0
 AreBytes left = (name bytes : List ℕ) → left name ≡ Some bytes → IsBytes bytes

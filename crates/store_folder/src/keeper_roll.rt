@@ -1,7 +1,7 @@
 //! A store that saves its snapshot in the place of the events that made it.
 
 ghost use Rattle.std.specs.Prelude.{◌≡◌, ◌≤◌, ◌⊎◌, ℕ, List, Ok, [], false, true, length, map, take};
-ghost use Rattle.std.specs.Prelude.{◌-◌, ◌++◌, Err, IfErr, IfOk, OnErr, OnOk};
+ghost use Rattle.std.specs.Prelude.{◌-◌, ◌++◌, Bool, Err, IfErr, IfOk, OnErr, OnOk};
 ghost use Rattle.data_folder.specs.Folders.{LeavesOnly};
 ghost use Rattle.data_folder.specs.Sweeping.{KeepsForeign};
 ghost use Rattle.event_journal.specs.Holding.{contents_with};
@@ -12,10 +12,11 @@ ghost use Rattle.head.specs.Worlds.{Event as Change, replayed};
 ghost use Rattle.head_record.specs.Saved.{save};
 ghost use Rattle.head_record.specs.Spelling.{head_texts};
 ghost use Rattle.journal.specs.Records.{file_of};
-ghost use Rattle.store_folder.specs.Holding.{HoldsLike, HoldsOrLost};
+ghost use Rattle.store_folder.specs.Causes.{IsRollCause};
+ghost use Rattle.store_folder.specs.Holding.{HoldsLike, HoldsOrLost, HoldsOrLostBetween};
 ghost use Rattle.store_folder.specs.Rolls.{HasHeadAlone};
 ghost use Rattle.store_folder.specs.Saving.{AreBelow, IsAbove, IsOldOrSaved};
-ghost use Rattle.store_folder.specs.Starting.{StartFinds};
+ghost use Rattle.store_folder.specs.Starting.{StartFinds, StartFindsEither};
 ghost use Rattle.store_folder.specs.States.{started};
 ghost use Rattle.store_folder.specs.Writing.{AreLike, EachSays, places_from};
 
@@ -23,7 +24,8 @@ use crate::error::{RollFault, WriteFault};
 use crate::keeping::StoreKeeper;
 use crate::store_journal::Beginning;
 use block::Block;
-use data_folder::{Folder, RollError};
+use block_rewriter::RewriteError;
+use data_folder::{ApartError, Folder, RollError};
 use head::Snapshot;
 use head_record::BlockPlace;
 use journal::JournalError;
@@ -81,21 +83,73 @@ pub(crate) fn kept_error(fault: RollFault) -> KeepError {
     }
 }
 
+/// Why no events more are kept, if what all of them make is not saved for this cause. A journal
+/// that was lost could not be written.
+pub(crate) fn save_error(fault: RollFault) -> KeepError
+    ensures closed { (closed failed : Bool) → IsRollCause closed failed fault
+        → result ≡ KeepError.Closed → closed ≡ true }
+    ensures failed { (closed failed : Bool) → IsRollCause closed failed fault
+        → result ≡ KeepError.Failed → failed ≡ true }
+    ensures told { fault ≡ RollFault.Folder RollError.Closed → result ≡ KeepError.Closed }
+{
+    match fault {
+        RollFault::Memory
+        | RollFault::Text(JournalError::Memory)
+        | RollFault::Block(
+            WriteFault::Memory
+            | WriteFault::File(ApartError::Memory)
+            | WriteFault::Block(RewriteError::Memory),
+        ) => KeepError::Memory,
+        RollFault::Folder(RollError::Closed) => KeepError::Closed,
+        RollFault::Folder(RollError::NotWritten | RollError::Lost)
+        | RollFault::Block(WriteFault::Medium | WriteFault::File(ApartError::Medium)) => {
+            KeepError::Failed
+        }
+        RollFault::Text(_) | RollFault::Block(_) => KeepError::TooLong,
+    }
+}
+
 impl<N: Beginning, F: Folder + Drop> StoreKeeper<N, F> {
     /// Saves the snapshot: the files of its blocks are written, as far as they are not the ones
     /// that lie there, and the journal is begun anew with a head that names them and has what the
     /// head of the snapshot has. Then what the blocks before left behind is removed. How many
     /// blocks the head names.
     ///
+    /// The snapshot is one of the world of the events that are held, or of any others, which are
+    /// kept by that in their place.
+    ///
     /// Where it fails the journal goes on, unless the fault is `Folder(Lost)`: then it is closed.
     pub fn roll(&mut self, alloc: Global, snapshot: &Snapshot) -> Result<usize, RollFault>
-        requires { (events : List Change)
+        requires { (events after : List Change)
             × HoldsOrLost F.shows F.kept F.sound F.moment F.left_since N.first
             self.old.store.events.journal.medium self.old.store.events.journal.len
             self.old.store.events.journal.closed events self.old.places.items
             (map part_in self.old.blocks.items)
-            × (replayed N.first.world events ≡ Ok (world_of snapshot.now)) }
-        // The same events are held, whatever the answer.
+            × (replayed N.first.world after ≡ Ok (world_of snapshot.now)) }
+        // After `Ok` the events of the snapshot's world are held.
+        ensures saved { OnOk result ((events after : List Change)
+            → HoldsOrLost F.shows F.kept F.sound F.moment F.left_since N.first
+            self.old.store.events.journal.medium self.old.store.events.journal.len
+            self.old.store.events.journal.closed events self.old.places.items
+            (map part_in self.old.blocks.items)
+            → replayed N.first.world after ≡ Ok (world_of snapshot.now)
+            → HoldsLike F.shows F.kept F.sound F.moment F.left_since N.first
+            self.new.store.events.journal.medium self.new.store.events.journal.len
+            self.new.store.events.journal.closed after self.new.places.items
+            (map part_in self.new.blocks.items)) }
+        // Where it fails the events before are held, or the journal is lost on the way from them to
+        // those.
+        ensures unsaved { OnErr result ((events after : List Change)
+            → HoldsOrLost F.shows F.kept F.sound F.moment F.left_since N.first
+            self.old.store.events.journal.medium self.old.store.events.journal.len
+            self.old.store.events.journal.closed events self.old.places.items
+            (map part_in self.old.blocks.items)
+            → replayed N.first.world after ≡ Ok (world_of snapshot.now)
+            → HoldsOrLostBetween F.shows F.kept F.sound F.moment F.left_since N.first
+            self.new.store.events.journal.medium self.new.store.events.journal.len
+            self.new.store.events.journal.closed events after self.new.places.items
+            (map part_in self.new.blocks.items)) }
+        // If these are the same events, they are held whatever the answer.
         ensures held { (events : List Change)
             → HoldsOrLost F.shows F.kept F.sound F.moment F.left_since N.first
             self.old.store.events.journal.medium self.old.store.events.journal.len
@@ -127,7 +181,17 @@ impl<N: Beginning, F: Folder + Drop> StoreKeeper<N, F> {
         // It then has the snapshot's blocks in memory.
         ensures blocks { OnOk result (map part_in self.new.blocks.items ≡ snapshot.now.blocks) }
         ensures counted { IfOk result (λ count. count ≡ length snapshot.now.blocks) }
-        // After a crash at any moment of the call, a start finds the world of these events.
+        // After a crash at any moment of the call, a start finds the world of the events before, or
+        // that of the snapshot; and if these are the same events, then exactly theirs.
+        ensures finds { (events after : List Change)
+            → HoldsOrLost F.shows F.kept F.sound F.moment F.left_since N.first
+            self.old.store.events.journal.medium self.old.store.events.journal.len
+            self.old.store.events.journal.closed events self.old.places.items
+            (map part_in self.old.blocks.items)
+            → replayed N.first.world after ≡ Ok (world_of snapshot.now)
+            → self.old.store.events.journal.closed ≡ false
+            → StartFindsEither F.moment F.left_since self.old.store.events.journal.medium.folder
+            self.new.store.events.journal.medium.folder N.first events after }
         ensures any_moment { (events : List Change)
             → HoldsOrLost F.shows F.kept F.sound F.moment F.left_since N.first
             self.old.store.events.journal.medium self.old.store.events.journal.len
@@ -138,18 +202,21 @@ impl<N: Beginning, F: Folder + Drop> StoreKeeper<N, F> {
             → StartFinds F.moment F.left_since self.old.store.events.journal.medium.folder
             self.new.store.events.journal.medium.folder N.first events }
         // Such a crash leaves the store as it was, or what is saved of the snapshot, and no events.
-        ensures leaves { (events : List Change)
+        ensures leaves { (events after : List Change)
             → (h : HoldsLike F.shows F.kept F.sound F.moment F.left_since N.first
             self.old.store.events.journal.medium self.old.store.events.journal.len
             self.old.store.events.journal.closed events self.old.places.items
             (map part_in self.old.blocks.items))
-            → replayed N.first.world events ≡ Ok (world_of snapshot.now)
+            → replayed N.first.world after ≡ Ok (world_of snapshot.now)
             → self.old.store.events.journal.closed ≡ false
             → LeavesOnly F.moment F.left_since self.old.store.events.journal.medium.folder
             self.new.store.events.journal.medium.folder
             (IsOldOrSaved h.0.saved h.0.parts h.0.late N.first.values snapshot.now) }
         ensures closed { self.old.store.events.journal.closed ≡ true
             → (result ≡ Err (RollFault.Folder RollError.Closed)) × (self.new ≡ self.old) }
+        // The fault tells that it was closed, or that the folder failed, where it is so.
+        ensures cause { IfErr result (λ e. IsRollCause self.old.store.events.journal.closed
+            (F.failed self.new.store.events.journal.medium.folder) e) }
         ensures terms { self.new.terms.most ≡ self.old.terms.most }
         // They note how many bytes the journal has, or had where it fails, and the blocks.
         ensures noted { OnOk result (self.new.terms ≡ record {

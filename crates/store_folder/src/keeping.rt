@@ -1,6 +1,6 @@
 //! The events of a store, kept in its folder.
 
-use crate::keeper_roll::kept_error;
+use crate::keeper_roll::{kept_error, save_error};
 use crate::store_journal::{Beginning, StoreJournal};
 use crate::terms::RollTerms;
 use block::Block;
@@ -42,7 +42,7 @@ impl<N: Beginning, F: Folder + Drop> Keeper for StoreKeeper<N, F> {
     ghost use Rattle.data_folder.specs.JournalLaws.{StaysBeside};
     ghost use Rattle.data_folder.specs.Sweeping.{KeepsForeign};
     ghost use Rattle.store_folder.specs.Holding.{BytesSince, BytesStandFor, HoldsLike, HoldsOrLost};
-    ghost use Rattle.store_folder.specs.Holding.{LastLike};
+    ghost use Rattle.store_folder.specs.Holding.{IsLast};
     ghost use Rattle.std.specs.Prelude.{◌≡◌, ◌⊎◌, ◌<◌, ◌^◌, ◌++◌, List, [], true, false};
     ghost use Rattle.std.specs.Prelude.{Err, IfOk, IfSome, IsErrOf, None, Ok, OnErr, OnOk, OnSome};
     ghost use Rattle.std.specs.Prelude.{length, map};
@@ -81,7 +81,7 @@ impl<N: Beginning, F: Folder + Drop> Keeper for StoreKeeper<N, F> {
 
     ghost stays = { λ s events. Unit {0} };
 
-    ghost kept_last = { λ k last events more. LastLike F.shows F.kept F.sound F.moment F.left_since
+    ghost kept_last = { λ k last events more. IsLast F.shows F.kept F.sound F.moment F.left_since
         N.first k.store.events.journal.medium k.store.events.journal.len
         k.store.events.journal.closed events more k.places.items
         (map part_in k.blocks.items) };
@@ -165,6 +165,82 @@ impl<N: Beginning, F: Folder + Drop> Keeper for StoreKeeper<N, F> {
                     Err(keep_error(error))
                 }
             },
+        }
+    }
+
+    /// What is none of the store's stays.
+    fn save(&mut self, alloc: Global, snapshot: &Snapshot) -> Result<LastKept, KeepError>
+        requires made { ⟦<StoreKeeper<N, F> as Keeper>⟧.idle ≡ false
+            → (events more : List Change) × ⟦<StoreKeeper<N, F> as Keeper>⟧.holds self.old events
+            × ⟦<StoreKeeper<N, F> as Keeper>⟧.may (events ++ more)
+            × IsOfAll N.first.world (events ++ more) (world_of snapshot.now) }
+        ensures ok { OnOk result ((events more : List Change)
+            → ⟦<StoreKeeper<N, F> as Keeper>⟧.holds self.old events
+            → (⟦<StoreKeeper<N, F> as Keeper>⟧.idle ≡ false
+            → IsOfAll N.first.world (events ++ more) (world_of snapshot.now))
+            → ⟦<StoreKeeper<N, F> as Keeper>⟧.holds self.new (events ++ more)) }
+        ensures last { IfOk result (λ last. (events more : List Change)
+            → ⟦<StoreKeeper<N, F> as Keeper>⟧.holds self.old events
+            → (⟦<StoreKeeper<N, F> as Keeper>⟧.idle ≡ false
+            → IsOfAll N.first.world (events ++ more) (world_of snapshot.now))
+            → ⟦<StoreKeeper<N, F> as Keeper>⟧.kept_last self.new last events more) }
+        ensures err { OnErr result ((events more : List Change)
+            → ⟦<StoreKeeper<N, F> as Keeper>⟧.holds self.old events
+            → (⟦<StoreKeeper<N, F> as Keeper>⟧.idle ≡ false
+            → IsOfAll N.first.world (events ++ more) (world_of snapshot.now))
+            → ⟦<StoreKeeper<N, F> as Keeper>⟧.holds self.new events) }
+        ensures any_moment { (events more : List Change)
+            → ⟦<StoreKeeper<N, F> as Keeper>⟧.holds self.old events
+            → (⟦<StoreKeeper<N, F> as Keeper>⟧.idle ≡ false
+            → IsOfAll N.first.world (events ++ more) (world_of snapshot.now))
+            → self.old.store.events.journal.closed ≡ false
+            → LeavesEvents ⟦<StoreKeeper<N, F> as Keeper>⟧.moment
+            ⟦<StoreKeeper<N, F> as Keeper>⟧.left_since
+            ⟦<StoreKeeper<N, F> as Keeper>⟧.stands self.old self.new
+            (AreAllAndSome events more) }
+        // Such a crash leaves the store as it was, or what is saved of the snapshot, and no events.
+        ensures leaves { (events more : List Change)
+            → (h : HoldsLike F.shows F.kept F.sound F.moment F.left_since N.first
+            self.old.store.events.journal.medium self.old.store.events.journal.len
+            self.old.store.events.journal.closed events self.old.places.items
+            (map part_in self.old.blocks.items))
+            → IsOfAll N.first.world (events ++ more) (world_of snapshot.now)
+            → self.old.store.events.journal.closed ≡ false
+            → LeavesOnly F.moment F.left_since self.old.store.events.journal.medium.folder
+            self.new.store.events.journal.medium.folder
+            (IsOldOrSaved h.0.saved h.0.parts h.0.late N.first.values snapshot.now) }
+        ensures open { OnOk result (self.new.store.events.journal.closed ≡ false) }
+        ensures closed { self.old.store.events.journal.closed ≡ true
+            → (result ≡ Err KeepError.Closed) × (self.new ≡ self.old) }
+        ensures lost { self.new.store.events.journal.closed ≡ true
+            → (self.old.store.events.journal.closed ≡ true)
+            ⊎ (F.failed self.new.store.events.journal.medium.folder ≡ true) }
+        ensures told { IsErrOf result KeepError.Closed
+            → self.old.store.events.journal.closed ≡ true }
+        ensures failed { IsErrOf result KeepError.Failed
+            → F.failed self.new.store.events.journal.medium.folder ≡ true }
+        // After `Ok` the journal has what is saved of the snapshot, and nothing more.
+        ensures len { OnOk result (self.new.store.events.journal.len ≡ length (file_of
+            (contents_with (head_texts (save N.first.values snapshot.now self.new.places.items))
+            []))) }
+        ensures file { OnOk result (HasHeadAlone F.shows F.kept
+            (save N.first.values snapshot.now self.new.places.items)
+            self.new.store.events.journal.medium.folder) }
+        // A start makes a snapshot of it and of blocks like these.
+        ensures stands { OnOk result ((made : List BlockPart) → AreLike snapshot.now.blocks made
+            → MayStand (started (save N.first.values snapshot.now self.new.places.items) made)) }
+        ensures foreign { KeepsForeign F.shows F.kept
+            self.old.store.events.journal.medium.folder
+            self.new.store.events.journal.medium.folder }
+        // Once the `meta.json` of each block says what the values mean, it does so from then on.
+        ensures says { EachSays F.shows F.kept N.first.values self.old.places.items
+            self.old.store.events.journal.medium.folder
+            → EachSays F.shows F.kept N.first.values self.new.places.items
+            self.new.store.events.journal.medium.folder }
+    {
+        match self.roll(alloc, snapshot) {
+            Ok(_) => Ok(LastKept(())),
+            Err(fault) => Err(save_error(fault)),
         }
     }
 

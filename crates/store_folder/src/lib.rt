@@ -6,7 +6,7 @@
 //! there. [`StoreKeeper::roll`] writes the blocks that the folder has not, begins the journal anew
 //! with a head that names them ([`StoreJournal::save`]), and removes what is no longer the store's
 //! ([`StoreJournal::sweep_blocks`]); it does so at a start and while the store runs, when
-//! [`RollTerms`] are met.
+//! [`RollTerms`] are met. A snapshot of more events is kept so too, at once (`save`).
 //!
 //! [`read_journal`] gives the head and the events of a journal's file, or the first fault, `J1` to
 //! `J4`, `J8` to `J14`, `J19`, `J20`; [`read_blocks`] gives the blocks at places, and

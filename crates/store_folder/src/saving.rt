@@ -12,10 +12,11 @@ ghost use Rattle.head.specs.Worlds.{Event as Change};
 ghost use Rattle.head_record.specs.Saved.{save};
 ghost use Rattle.head_record.specs.Spelling.{head_texts};
 ghost use Rattle.journal.specs.Records.{file_of};
-ghost use Rattle.store_folder.specs.Holding.{AreAt, HoldsStore, HoldsThese};
+ghost use Rattle.store_folder.specs.Causes.{IsRollCause};
+ghost use Rattle.store_folder.specs.Holding.{AreAt, HoldsStoreBetween, HoldsThese};
 ghost use Rattle.store_folder.specs.Rolls.{HasHeadAlone};
 ghost use Rattle.store_folder.specs.Saving.{IsOldOrSaved, MaySave};
-ghost use Rattle.store_folder.specs.Starting.{StartFinds};
+ghost use Rattle.store_folder.specs.Starting.{StartFindsEither};
 ghost use Rattle.store_folder.specs.States.{started};
 ghost use Rattle.store_folder.specs.Sweeps.{names_at};
 ghost use Rattle.store_folder.specs.Writing.{AreLike, AreRewritten, EachSays, places_from};
@@ -72,6 +73,7 @@ pub fn write_saved<F: Folder>(
     // The `meta.json` of each block that is written says what the values mean.
     ensures says { OnOk result (EachSays F.shows F.kept values
         (places_from next (length snapshot.now.blocks - same)) folder.new) }
+    ensures cause { IfErr result (λ e. IsRollCause false (F.failed folder.new) e) }
     ensures sound { F.sound folder.new ≡ true }
     ensures stays { KeepsStore F.shows F.kept F.sound F.moment F.left_since (names_at held.now)
         folder.old folder.new }
@@ -94,11 +96,12 @@ pub fn write_saved<F: Folder>(
 }
 
 impl<N: Beginning, F: Folder + Drop> StoreJournal<N, F> {
-    /// Saves a snapshot of the world of all events so far, and begins the journal anew with it. The
-    /// blocks that the journal's head names lie at the held places; the first `same` of them are
-    /// the snapshot's, and the snapshot's other blocks are written anew, in folders of the numbers
-    /// from `next` on, of which none is in use. No event may be kept meanwhile. The places of the
-    /// snapshot's blocks, which the head then names; what is at others is litter
+    /// Saves a snapshot, and begins the journal anew with it. It is one of the world of all events
+    /// so far, or of any others, which are kept by that in their place. The blocks that the
+    /// journal's head names lie at the held places; the first `same` of them are the snapshot's,
+    /// and the snapshot's other blocks are written anew, in folders of the numbers from `next` on,
+    /// of which none is in use. No event may be kept meanwhile. The places of the snapshot's
+    /// blocks, which the head then names; what is at others is litter
     /// ([`StoreJournal::sweep_blocks`]).
     ///
     /// Where it fails the journal goes on as it was, unless the fault is `Folder(Lost)`: then it is
@@ -111,55 +114,58 @@ impl<N: Beginning, F: Folder + Drop> StoreJournal<N, F> {
         same: usize,
         next: u64,
     ) -> Result<Vec<BlockPlace>, RollFault>
-        requires { self.old.events.journal.closed ≡ false → (events : List Change)
+        requires { self.old.events.journal.closed ≡ false → (events after : List Change)
             × (parts : List BlockPart) × MaySave F.shows F.kept F.sound F.moment F.left_since
             N.first self.old.events.journal.medium self.old.events.journal.len
-            self.old.events.journal.closed events snapshot.now held.now parts same }
-        // The same events are held, whatever the answer.
-        ensures held { (events : List Change) (parts : List BlockPart)
+            self.old.events.journal.closed events after snapshot.now held.now parts same }
+        // Where it fails the events before are held, or the journal is lost on the way from them to
+        // those after.
+        ensures held { OnErr result ((events after : List Change) (parts : List BlockPart)
             → MaySave F.shows F.kept F.sound F.moment F.left_since N.first
             self.old.events.journal.medium self.old.events.journal.len
-            self.old.events.journal.closed events snapshot.now held.now parts same
-            → HoldsStore F.shows F.kept F.sound F.moment F.left_since N.first
+            self.old.events.journal.closed events after snapshot.now held.now parts same
+            → HoldsStoreBetween F.shows F.kept F.sound F.moment F.left_since N.first
             self.new.events.journal.medium self.new.events.journal.len
-            self.new.events.journal.closed events }
+            self.new.events.journal.closed events after) }
         // After `Ok` the journal has what is saved of the snapshot, which names blocks like its own
-        // at these places, and no events.
-        ensures places { IfOk result (λ places. (events : List Change) (parts : List BlockPart)
+        // at these places, and no events behind it: those after are held.
+        ensures places { IfOk result (λ places. (events after : List Change)
+            (parts : List BlockPart)
             → MaySave F.shows F.kept F.sound F.moment F.left_since N.first
             self.old.events.journal.medium self.old.events.journal.len
-            self.old.events.journal.closed events snapshot.now held.now parts same
+            self.old.events.journal.closed events after snapshot.now held.now parts same
             → (made : List BlockPart) × AreLike snapshot.now.blocks made
             × HoldsThese F.shows F.kept F.sound F.moment F.left_since N.first
             self.new.events.journal.medium self.new.events.journal.len
-            self.new.events.journal.closed events
+            self.new.events.journal.closed after
             (save N.first.values snapshot.now places.items) made []) }
         // They are the first of those held, and folders of the numbers from the next one on.
         ensures numbers { IfOk result (λ places. places.items
             ≡ take same held.now ++ places_from next (length snapshot.now.blocks - same)) }
         // Where it fails and goes on, the head is the one before, with the events after it.
-        ensures same { OnErr result ((events : List Change) (parts : List BlockPart)
+        ensures same { OnErr result ((events after : List Change) (parts : List BlockPart)
             → (m : MaySave F.shows F.kept F.sound F.moment F.left_since N.first
             self.old.events.journal.medium self.old.events.journal.len
-            self.old.events.journal.closed events snapshot.now held.now parts same)
+            self.old.events.journal.closed events after snapshot.now held.now parts same)
             → self.new.events.journal.closed ≡ false
             → HoldsThese F.shows F.kept F.sound F.moment F.left_since N.first
             self.new.events.journal.medium self.new.events.journal.len
             self.new.events.journal.closed events
             m.holds.0.saved m.holds.0.parts m.holds.0.late) }
-        // After a crash at any moment of the call, a start finds the world of these events.
-        ensures any_moment { (events : List Change) (parts : List BlockPart)
+        // After a crash at any moment of the call, a start finds the world of the events before, or
+        // of those after.
+        ensures any_moment { (events after : List Change) (parts : List BlockPart)
             → MaySave F.shows F.kept F.sound F.moment F.left_since N.first
             self.old.events.journal.medium self.old.events.journal.len
-            self.old.events.journal.closed events snapshot.now held.now parts same
+            self.old.events.journal.closed events after snapshot.now held.now parts same
             → self.old.events.journal.closed ≡ false
-            → StartFinds F.moment F.left_since self.old.events.journal.medium.folder
-            self.new.events.journal.medium.folder N.first events }
+            → StartFindsEither F.moment F.left_since self.old.events.journal.medium.folder
+            self.new.events.journal.medium.folder N.first events after }
         // Such a crash leaves the store as it was, or what is saved of the snapshot, and no events.
-        ensures leaves { (events : List Change) (parts : List BlockPart)
+        ensures leaves { (events after : List Change) (parts : List BlockPart)
             → (m : MaySave F.shows F.kept F.sound F.moment F.left_since N.first
             self.old.events.journal.medium self.old.events.journal.len
-            self.old.events.journal.closed events snapshot.now held.now parts same)
+            self.old.events.journal.closed events after snapshot.now held.now parts same)
             → self.old.events.journal.closed ≡ false
             → LeavesOnly F.moment F.left_since self.old.events.journal.medium.folder
             self.new.events.journal.medium.folder (IsOldOrSaved m.holds.0.saved m.holds.0.parts
@@ -184,6 +190,9 @@ impl<N: Beginning, F: Folder + Drop> StoreJournal<N, F> {
             ⊎ (F.failed self.new.events.journal.medium.folder ≡ true) }
         ensures closed { self.old.events.journal.closed ≡ true
             → (result ≡ Err (RollFault.Folder RollError.Closed)) × (self.new ≡ self.old) }
+        // The fault tells that it was closed, or that the folder failed, where it is so.
+        ensures cause { IfErr result (λ e. IsRollCause self.old.events.journal.closed
+            (F.failed self.new.events.journal.medium.folder) e) }
         // What is none of the store's stays, and so do the files of the held blocks.
         ensures foreign { KeepsForeign F.shows F.kept self.old.events.journal.medium.folder
             self.new.events.journal.medium.folder }

@@ -9,7 +9,7 @@ ghost use Rattle.data_folder.specs.Sweeping.{KeepsForeign};
 ghost use Rattle.head.specs.Heads.{BlockPart, SnapshotParts};
 ghost use Rattle.head.specs.Worlds.{Event as Change};
 ghost use Rattle.head_record.specs.Saved.{Saved};
-ghost use Rattle.store_folder.specs.Holding.{HoldsAt, HoldsStore, HoldsThese};
+ghost use Rattle.store_folder.specs.Holding.{HoldsAt, HoldsStoreBetween, HoldsThese};
 ghost use Rattle.store_folder.specs.Saving.{IsOldOrSaved};
 ghost use Rattle.store_folder.specs.Starting.{StartFinds};
 ghost use Rattle.store_folder.specs.States.{IsState};
@@ -116,6 +116,8 @@ impl<N: Beginning, F: Folder + Drop> StoreJournal<N, F> {
             self.new.events.journal.medium self.new.events.journal.len
             self.new.events.journal.closed events places.now parts }
         ensures open { self.new.events.journal.closed ≡ false }
+        ensures lasting { F.failed self.old.events.journal.medium.folder ≡ true
+            → F.failed self.new.events.journal.medium.folder ≡ true }
         ensures len { self.new.events.journal.len ≡ self.old.events.journal.len }
         // After a crash at any moment of the call, a start finds the world of the same events.
         ensures any_moment { (events : List Change) (parts : List BlockPart)
@@ -151,6 +153,8 @@ impl<N: Beginning, F: Folder + Drop> StoreJournal<N, F> {
             N.first self.old.events.journal.medium self.old.events.journal.len
             self.old.events.journal.closed events places.now parts }
         ensures closed { self.new.events.journal.closed ≡ self.old.events.journal.closed }
+        ensures lasting { F.failed self.old.events.journal.medium.folder ≡ true
+            → F.failed self.new.events.journal.medium.folder ≡ true }
         ensures rests { self.old.events.journal.closed ≡ true → self.new ≡ self.old }
         ensures at { self.old.events.journal.closed ≡ false → (events : List Change)
             → (parts : List BlockPart)
@@ -160,18 +164,18 @@ impl<N: Beginning, F: Folder + Drop> StoreJournal<N, F> {
             → HoldsAt F.shows F.kept F.sound F.moment F.left_since N.first
             self.new.events.journal.medium self.new.events.journal.len
             self.new.events.journal.closed events places.now parts }
-        // What was held is held.
-        ensures held { (events : List Change) (parts : List BlockPart)
+        // What was held is held, and a journal that was lost stays as it was.
+        ensures held { (events after : List Change) (parts : List BlockPart)
             → (self.old.events.journal.closed ≡ false
             → HoldsAt F.shows F.kept F.sound F.moment F.left_since N.first
             self.old.events.journal.medium self.old.events.journal.len
             self.old.events.journal.closed events places.now parts)
-            → HoldsStore F.shows F.kept F.sound F.moment F.left_since N.first
+            → HoldsStoreBetween F.shows F.kept F.sound F.moment F.left_since N.first
             self.old.events.journal.medium self.old.events.journal.len
-            self.old.events.journal.closed events
-            → HoldsStore F.shows F.kept F.sound F.moment F.left_since N.first
+            self.old.events.journal.closed events after
+            → HoldsStoreBetween F.shows F.kept F.sound F.moment F.left_since N.first
             self.new.events.journal.medium self.new.events.journal.len
-            self.new.events.journal.closed events }
+            self.new.events.journal.closed events after }
         // After a crash at any moment since a folder, a start finds the same world.
         ensures any_moment { (events : List Change) (parts : List BlockPart) (before : F)
             → (self.old.events.journal.closed ≡ false
@@ -239,6 +243,7 @@ pub fn sweep_apart<F: Folder>(
 ) -> Result<usize, BlockFault>
     requires { F.sound folder.old ≡ true }
     ensures sound { F.sound folder.new ≡ true }
+    ensures lasting { F.failed folder.old ≡ true → F.failed folder.new ≡ true }
     ensures kept { KeepsStore F.shows F.kept F.sound F.moment F.left_since (names_at places.now)
         folder.old folder.new }
 {

@@ -1,10 +1,12 @@
 //! Blocks that are written anew.
 
-ghost use Rattle.std.specs.Prelude.{◌≡◌, ◌++◌, ◌∷◌, [], ℕ, List, IfOk, OnOk, length, map, true};
+ghost use Rattle.std.specs.Prelude.{◌≡◌, ◌++◌, ◌∷◌, [], ℕ, List, IfErr, IfOk, OnOk, length, map};
+ghost use Rattle.std.specs.Prelude.{true};
 ghost use Rattle.data_folder.specs.Sweeping.{KeepsStore, names_in};
 ghost use Rattle.head.specs.Blocks.{part_in};
 ghost use Rattle.head.specs.Heads.{BlockPart};
 ghost use Rattle.store_folder.specs.Blocks.{name_in, named_files};
+ghost use Rattle.store_folder.specs.Causes.{IsWriteCause};
 ghost use Rattle.store_folder.specs.Holding.{AreAt};
 ghost use Rattle.store_folder.specs.Sweeps.{names_at, names_of};
 ghost use Rattle.store_folder.specs.Writing.{AreRewritten, EachSays, IsRewritten, Says, Wrote};
@@ -32,6 +34,7 @@ fn write_in<F: Folder>(
     ensures wrote { OnOk result (Wrote F.shows F.kept F.sound F.moment F.left_since
         ((name_in number name.now, bytes.now) ∷ []) (names_in kept.old.items)
         (names_in kept.new.items) folder.old folder.new) }
+    ensures cause { IfErr result (λ e. IsWriteCause (F.failed folder.new) e) }
     ensures sound { F.sound folder.new ≡ true }
     ensures stays { KeepsStore F.shows F.kept F.sound F.moment F.left_since
         (names_in kept.old.items) folder.old folder.new }
@@ -57,6 +60,7 @@ fn write_files<F: Folder>(
     ensures wrote { OnOk result (Wrote F.shows F.kept F.sound F.moment F.left_since
         (named_files (number, 0) (files_in_memory files.now)) (names_in kept.old.items)
         (names_in kept.new.items) folder.old folder.new) }
+    ensures cause { IfErr result (λ e. IsWriteCause (F.failed folder.new) e) }
     ensures sound { F.sound folder.new ≡ true }
     ensures stays { KeepsStore F.shows F.kept F.sound F.moment F.left_since
         (names_in kept.old.items) folder.old folder.new }
@@ -77,6 +81,7 @@ fn write_files<F: Folder>(
 /// Makes the folders of the block with this number.
 fn make_folders<F: Folder>(alloc: Global, folder: &mut F, number: u64) -> Result<(), WriteFault>
     requires { F.sound folder.old ≡ true }
+    ensures cause { IfErr result (λ e. IsWriteCause (F.failed folder.new) e) }
     ensures sound { F.sound folder.new ≡ true }
     ensures stays { (names : List (List ℕ)) → KeepsStore F.shows F.kept F.sound F.moment
         F.left_since names folder.old folder.new }
@@ -93,6 +98,7 @@ fn make_folders<F: Folder>(alloc: Global, folder: &mut F, number: u64) -> Result
 /// Makes the folder of all blocks, that of one, and that of its chunks.
 fn make_each<F: Folder>(folder: &mut F, block: &str, chunks: &str) -> Result<(), WriteFault>
     requires { F.sound folder.old ≡ true }
+    ensures cause { IfErr result (λ e. IsWriteCause (F.failed folder.new) e) }
     ensures sound { F.sound folder.new ≡ true }
     ensures stays { (names : List (List ℕ)) → KeepsStore F.shows F.kept F.sound F.moment
         F.left_since names folder.old folder.new }
@@ -126,6 +132,7 @@ pub(crate) fn write_block<F: Folder>(
     ensures says { OnOk result (Says F.shows F.kept values folder.new (number, 0)) }
     ensures names { OnOk result (names_in kept.new.items
         ≡ names_in kept.old.items ++ names_of (number, 0)) }
+    ensures cause { IfErr result (λ e. IsWriteCause (F.failed folder.new) e) }
     ensures sound { F.sound folder.new ≡ true }
     // What was to be kept stays, whatever the answer, also after a crash at any moment.
     ensures stays { KeepsStore F.shows F.kept F.sound F.moment F.left_since
@@ -159,6 +166,7 @@ pub(crate) fn write_blocks<F: Folder>(
         places.items ≡ places_from first (length blocks.now)) }
     ensures names { IfOk result (λ places. names_in kept.new.items
         ≡ names_in kept.old.items ++ names_at places.items) }
+    ensures cause { IfErr result (λ e. IsWriteCause (F.failed folder.new) e) }
     ensures sound { F.sound folder.new ≡ true }
     ensures stays { KeepsStore F.shows F.kept F.sound F.moment F.left_since
         (names_in kept.old.items) folder.old folder.new }

@@ -13,8 +13,8 @@ use Rattle.labels.proofs.ContentLaws.{is_sorted-over}
 use Rattle.store_folder.specs.Origins.{Origin}
 use Rattle.store_folder.specs.States.{origin_of, started}
 use Rattle.store_joiner.specs.Adds.{beneath, with_beneath}
-use Rattle.store_joiner.specs.Joins.{parts_in}
-use Rattle.store_joiner.proofs.Held.{over_beneath, over_both}
+use Rattle.head.specs.Joins.{parts_in}
+use Rattle.block_joiner.proofs.Held.{over_beneath, over_both}
 use Rattle.store_joiner.proofs.Joins.{over_joined}
 
 -- what all make is what the own ones make, laid over what the others make

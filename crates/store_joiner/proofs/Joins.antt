@@ -36,7 +36,8 @@ use Rattle.store_folder.proofs.Rolls.{same_head, there_both}
 use Rattle.store_folder.proofs.Saves.{each_like, have_same}
 use Rattle.store_folder.proofs.Swept.{holds_swept, swept_finds, these_leave, these_swept}
 use Rattle.store_joiner.specs.Finds.{Finds, FindsEither, FindsNow, other_of}
-use Rattle.store_joiner.specs.Joins.{HoldSame, parts_in, with_blocks}
+use Rattle.head.specs.Joins.{HoldSame, parts_in}
+use Rattle.store_joiner.specs.Joins.{with_blocks}
 use Rattle.store_joiner.proofs.Starting.{either_starts, starts_of}
 use Rattle.store_joiner.proofs.Stores.{finds_in}
 

@@ -1,6 +1,5 @@
 pub mod Adds
 pub mod Changing
-pub mod Held
 pub mod Joins
 pub mod Says
 pub mod Starting

@@ -6,7 +6,7 @@ use Rattle.head.specs.Heads.{BlockPart, SnapshotParts}
 use Rattle.head.specs.Resuming.{resumed}
 use Rattle.head.specs.Worlds.{World}
 use Rattle.head_record.specs.Saved.{Saved}
-use Rattle.store_joiner.specs.Joins.{parts_in}
+use Rattle.head.specs.Joins.{parts_in}
 
 -- the snapshot of a head and its own blocks, with these before them, and a floor no lower than this
 abbrev pub beneath : List BlockPart → ℤ → Saved → List BlockPart → SnapshotParts

@@ -8,8 +8,8 @@ ghost use Rattle.head.specs.Resuming.{Denies, MayStand};
 ghost use Rattle.store_folder.specs.States.{started};
 ghost use Rattle.store_joiner.specs.Adds.{beneath, with_beneath};
 
-use crate::runs::share_into;
 use block::Block;
+use block_joiner::share_into;
 use head::{ResumeError, Snapshot};
 use head_record::HeadRecord;
 use std::alloc::{AllocError, Global};

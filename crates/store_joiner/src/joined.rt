@@ -6,7 +6,7 @@ ghost use Rattle.head.specs.Heads.{world_of};
 ghost use Rattle.store_folder.specs.States.{started};
 ghost use Rattle.store_joiner.specs.Joins.{with_blocks};
 
-use crate::runs::join_blocks;
+use block_joiner::join_blocks;
 use head::{ResumeError, Snapshot};
 use std::alloc::Global;
 use store_folder::FoundStore;

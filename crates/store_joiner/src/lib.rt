@@ -1,10 +1,8 @@
 //! The blocks of a store that is kept in a folder, joined into fewer, or with others beneath them.
 //!
-//! [`join_blocks`] makes of blocks fewer that hold the same samples: of two at one time the later
-//! block's stands, and what was deleted is left out. Where all are more than one block may have,
-//! each half is joined by itself. [`joined_snapshot`] is the snapshot of a store with its blocks
-//! joined: its world is the store's, but for the number of blocks. [`added_snapshot`] is that of a
-//! store with other blocks before its own, over whose samples the store's stand.
+//! [`joined_snapshot`] is the snapshot of a store with its blocks joined: its world is the store's,
+//! but for the number of blocks. [`added_snapshot`] is that of a store with other blocks before its
+//! own, over whose samples the store's stand.
 //!
 //! [`replace_store`] has the store of a folder begin with a snapshot: the files of the blocks are
 //! written beside those that lie there, then the journal is begun anew, and what is no longer the
@@ -14,7 +12,7 @@
 //! journal has was saved, and tell why not by a [`ChangeFault`].
 //!
 //! It stands on `store_folder` for the folder of a store, on `head` for snapshots, and on
-//! `block_outputs` and `block_writer` for blocks of the rows of several.
+//! `block_joiner` for blocks that are joined.
 #![tactic(auto)]
 
 mod added;
@@ -24,7 +22,6 @@ mod joined;
 mod joining;
 mod opened;
 mod replacing;
-mod runs;
 mod storing;
 
 pub use added::added_snapshot;
@@ -32,5 +29,4 @@ pub use adding::add_to_store;
 pub use error::ChangeFault;
 pub use joined::joined_snapshot;
 pub use joining::{BlockCounts, join_store};
-pub use runs::join_blocks;
 pub use storing::{ReplacedStore, replace_store};

@@ -1,5 +1,5 @@
 -- A text character by character, and the choice that is read of a pattern so far.
-use Rattle.std.proofs.Common.{◌≡◌, ℕ, suc, ◌+◌, ◌<◌, Bool, true, ◌&&◌, ◌||◌, false, List, [], ◌∷◌, ◌++◌, length, drop, map, Option, Some, None, option_map, get_or, slice_get, chars, encode_utf8, IsUtf8, refl, sym, ap, ◌∙◌, arith, append_assoc, append-nil, drop-cons, Vec, Global, ◌==◌, eqb-true, inl, inr, Result, Ok, Err, IfOk, IfSome}
+use Rattle.std.proofs.Common.{◌≡◌, ℕ, suc, ◌+◌, ◌<◌, Bool, true, ◌&&◌, ◌||◌, false, List, [], ◌∷◌, ◌++◌, length, drop, map, Option, Some, None, option_map, get_or, slice_get, chars, encode_utf8, IsUtf8, refl, sym, ap, ◌∙◌, arith, append_assoc, append-nil, drop-cons, ◌==◌, eqb-true, inl, inr, Result, Ok, Err, IfOk, IfSome}
 use lib.Utf8.{scalar, scalars, encodes}
 use Rattle.std.proofs.lemmas.Bool.{and_parts, and_from, cases_Bool, cond-true, cond-false}
 use Rattle.std.proofs.lemmas.List.{nil_from_length}
@@ -10,6 +10,7 @@ use Rattle.std.specs.Char.{IsScalar}
 use Rattle.std.specs.Str.Pattern.{HasCharAt}
 use Rattle.text_choices.specs.Alternatives.{Choice, spelled, choice_of, fits, takes, before, spelled_from, step, may_end}
 use Rattle.text_choices.specs.declared.atom.Atom.{Atom}
+use Rattle.text_choices.specs.declared.alternative.Alternative.{Alternative}
 use Rattle.text_choices.specs.declared.reading.Place.{Place}
 use Rattle.text_choices.proofs.Written.{by_step, step_is}
 use Rattle.text_choices.specs.declared.reading.Step.{Step}
@@ -108,9 +109,11 @@ pub any_map : {A B : Type 0} (f : B → Bool) (g : A → B) (xs : List A) → li
 any_map f g [] = refl
 any_map f g (x ∷ xs) = ap (λ b. f (g x) || b) (any_map f g xs)
 
-pub any_items : (value : List ℕ) (xs : List (Vec Atom Global)) →
-    list_any (λ atoms. fits atoms.items value) xs ≡ list_any (λ atoms. fits atoms value) (map (λ atoms. atoms.items) xs)
-any_items value xs = sym (any_map (λ atoms. fits atoms value) (λ (v : Vec Atom Global). v.items) xs)
+pub any_items : (value : List ℕ) (xs : List Alternative)
+    → list_any (λ one. fits one.atoms.items value) xs
+    ≡ list_any (λ atoms. fits atoms value) (map (λ one. one.atoms.items) xs)
+any_items value xs =
+    sym (any_map (λ atoms. fits atoms value) (λ (one : Alternative). one.atoms.items) xs)
 
 chars_front : (c : ℕ) (rest : List ℕ) → IsScalar c → chars (encode_utf8 c ++ rest) ≡ c ∷ chars rest
 chars_front c rest s =

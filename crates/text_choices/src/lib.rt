@@ -6,9 +6,9 @@
 //! `specs/Alternatives.antt`, which also says which patterns are choices.
 #![tactic(auto)]
 
+mod alternative;
 mod atom;
 mod choice;
 mod reading;
 
-pub use atom::Atom;
 pub use choice::{Choice, read_choice};

@@ -4,10 +4,10 @@ ghost use Rattle.std.specs.Prelude.{◌≡◌};
 ghost use Rattle.text_choices.specs.Alternatives.{has_meaning};
 ghost use Rattle.text_choices.specs.Alternatives.{is_mark, step, may_end};
 
-use crate::Atom;
+use crate::atom::Atom;
 
 /// A place in a pattern.
-#[derive(Clone, Copy, Debug, PartialEq, Eq)]
+#[derive(Clone, Copy)]
 pub enum Place {
     Inside,
     Escaped,
@@ -15,7 +15,7 @@ pub enum Place {
 }
 
 /// What a character of a pattern is.
-#[derive(Clone, Copy, Debug, PartialEq, Eq)]
+#[derive(Clone, Copy)]
 pub enum Step {
     Refuse,
     Goes(Place),

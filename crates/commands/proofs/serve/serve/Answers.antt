@@ -1,13 +1,21 @@
 use Rattle.std.proofs.lemmas.Result.{err_from_is_err_and}
 use Rattle.commands.specs.Reading.{paths_of}
-use Rattle.commands.specs.ServingRuns.{by_guard, by_watch}
+use Rattle.commands.specs.ServingRuns.{by_guard, by_keep, by_watch}
 use Rattle.commands.proofs.LineEnds.{unused}
 use Rattle.commands.proofs.Servings.{folder_fault, folder_told, directories_fault, directories_told}
 use Rattle.commands.proofs.serve.serve.Goals as goal
 
+pub returns-in_err-check_upkeep-clause-err : goal.returns-in_err-check_upkeep-clause-err
+returns-in_err-check_upkeep-clause-err g c =
+    let p = err_from_is_err_and c.from_residual.result c.from_residual.ensures.1 in
+    rw (p.1, p.2)
+    (by_keep c.in_err-check_upkeep.ensures.err (unused _ (g.W.Write.contents c.args.out.now)))
+
 pub returns-in_err-rules-clause-err : goal.returns-in_err-rules-clause-err
 returns-in_err-rules-clause-err g c =
-    let p = err_from_is_err_and c.from_residual.result c.from_residual.ensures.1 in
+    let p =
+    err_from_is_err_and c.from_residual-in_err-rules.result
+    c.from_residual-in_err-rules.ensures.1 in
     rw (p.1, p.2)
     (by_guard c.in_err-rules.ensures.err (unused _ (g.W.Write.contents c.args.out.now)))
 

@@ -8,6 +8,7 @@ loop-name-init g c =
     let f = g.F.Folder in
     record {
       sound = c.requires;
+      lasting = λ failed. failed;
       few = omega arith;
       kept = nothing_removed f.shows f.kept f.sound f.moment f.left_since g.met.F.Folder.only_now
           (names_in c.args.kept.now) c.args.folder.now;
@@ -19,6 +20,7 @@ loop-name-preserved g c =
     let l = c.loop-name in
     record {
       sound = c.remove_litter-left.ensures.sound;
+      lasting = λ failed. c.remove_litter-left.ensures.lasting (l.invariant.lasting failed);
       few = omega (arith, l.invariant.few, c.remove_litter-left.ensures.few);
       kept = then_kept f.shows f.kept f.sound f.moment f.left_since g.met.F.Folder.only_now
           (names_in c.args.kept.now) c.args.folder.now l.folder c.remove_litter-left.new.folder

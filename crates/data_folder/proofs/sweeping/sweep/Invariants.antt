@@ -7,6 +7,7 @@ invariant-loop-name g l =
     let f = g.F.Folder in
     record {
       sound : f.sound l.folder ≡ true;
+      lasting : f.failed l.fn.folder ≡ true → f.failed l.folder ≡ true;
       few : l.left ≤ l.name-index;
       kept : KeepsStore f.shows f.kept f.sound f.moment f.left_since (names_in l.kept) l.fn.folder
           l.folder;

@@ -13,7 +13,7 @@ returns-then-is_idle-clause-ok g c =
 
 pub returns-in-Ok-clause-ok : goal.returns-in-Ok-clause-ok
 returns-in-Ok-clause-ok g c =
-    let event : Event = g.C.Change.event c.args.change.now in
+    let event : Event = g.C.AsEvent.event c.args.change.now in
     let empty : c.new-bytes.result.items ≡ [] = search rules in
     let same : c.deref.result.now ≡ c.in_ok-text.text.items = search rules in
     inl (c.in-Ok.ensures.ok [] event (subst (λ (xs : List ℕ). SpellTogether xs []) (sym empty) nothing_spelled)

@@ -6,7 +6,8 @@ use Rattle.head.specs.Heads.{BlockPart, HeadSeries, SnapshotParts, world_of}
 use Rattle.head.specs.Resuming.{resumed}
 use Rattle.head_record.specs.Saved.{Saved}
 use Rattle.store_folder.specs.States.{started}
-use Rattle.store_joiner.specs.Joins.{HoldSame, with_blocks}
+use Rattle.head.specs.Joins.{HoldSame}
+use Rattle.store_joiner.specs.Joins.{with_blocks}
 use Rattle.store_joiner.proofs.Joins.{joined_world}
 use Rattle.store_joiner.proofs.joined.joined_snapshot.Goals as goal
 

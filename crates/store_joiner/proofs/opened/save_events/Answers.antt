@@ -28,6 +28,22 @@ use Rattle.store_joiner.proofs.opened.save_events.Goals as goal
 abbrev rolled : RollFault → ChangeFault
 rolled fault = faults.Roll fault
 
+pub roll-requires : goal.roll-requires
+roll-requires g c =
+    let f = g.F.Folder in
+    let first = g.N.Beginning.first in
+    let kept = c.in-Ok.kept in
+    let store = kept.keeper.store.events.journal in
+    let events = c.args.found.store.journal.events.items in
+    let goes : GoesOn f.shows f.kept f.sound f.moment f.left_since first store.medium store.len
+    store.closed events kept.keeper.places.items (map part_in kept.keeper.blocks.items)
+    kept.snapshot =
+    subst (λ (j : FoundJournal). GoesOn f.shows f.kept f.sound f.moment f.left_since first
+    store.medium store.len store.closed j.events.items kept.keeper.places.items
+    (map part_in kept.keeper.blocks.items) kept.snapshot) c.in-Ok.ensures.journal
+    c.in-Ok.ensures.resumed in
+    (events, events, inl goes.holds, goes.world)
+
 pub returns-in-Ok-roll-clause-any_moment : goal.returns-in-Ok-roll-clause-any_moment
 returns-in-Ok-roll-clause-any_moment g c =
     let f = g.F.Folder in
@@ -260,7 +276,7 @@ returns-in-Ok-roll-clause-starts g c may =
     starts_on f.moment f.left_since found.folder mid new
     (starts_of f.moment f.left_since head parts events found.folder mid c.in-Ok.ensures.leaves may)
     (saved_starts f.moment f.left_since h.saved h.parts h.late first.values kept.snapshot mid new
-    (c.roll.ensures.leaves events held.0 goes.world goes.is_open)
+    (c.roll.ensures.leaves events events held.0 goes.world goes.is_open)
     (subst₂ (λ (x : Saved) (bs : List BlockPart). MayStand (started x bs)) (sym held.1) (sym held.2)
     may))
 
@@ -287,6 +303,6 @@ returns-clause-starts g c may =
     starts_on f.moment f.left_since found.folder mid new
     (starts_of f.moment f.left_since head parts events found.folder mid c.in-Ok.ensures.leaves may)
     (saved_starts f.moment f.left_since h.saved h.parts h.late first.values kept.snapshot mid new
-    (c.roll.ensures.leaves events held.0 goes.world goes.is_open)
+    (c.roll.ensures.leaves events events held.0 goes.world goes.is_open)
     (subst₂ (λ (x : Saved) (bs : List BlockPart). MayStand (started x bs)) (sym held.1) (sym held.2)
     may))

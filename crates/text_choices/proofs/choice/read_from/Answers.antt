@@ -1,5 +1,4 @@
 use Rattle.std.proofs.Common.{◌++◌, ◌∷◌, [], map, sym, ap, ◌∙◌}
-use Rattle.std.proofs.lemmas.List.{map_push}
 use Rattle.text_choices.proofs.Steps.{refuse_step, goes_step, bar_step, put_step, bad_end, good_end, utf8_next}
 use Rattle.text_choices.proofs.choice.read_from.Goals as goal
 
@@ -11,15 +10,17 @@ pub loop-c-preserved-in-Goes : goal.loop-c-preserved-in-Goes
 loop-c-preserved-in-Goes c = record {
   same = goes_step _ _ _ _ _ _ _ _ _ c.loop-c.invariant.utf8 c.in-Some.ensures.steps.0 c.in-Some.ensures.steps.2 (sym c.step.ensures ∙ c.in-Goes.is) c.loop-c.invariant.same;
   utf8 = utf8_next _ _ _ c.loop-c.invariant.utf8 c.in-Some.ensures.steps.0;
+  shared = c.loop-c.invariant.shared;
 }
 
 pub loop-c-preserved-in-Bar : goal.loop-c-preserved-in-Bar
 loop-c-preserved-in-Bar c = record {
   same = bar_step _ _ _ _ _ _ _ _ _ _ c.loop-c.invariant.utf8 c.in-Some.ensures.steps.0 c.in-Some.ensures.steps.2 (sym c.step.ensures ∙ c.in-Bar.is) c.loop-c.invariant.same
-      (ap (map (λ atoms. atoms.items)) c.in_ok-push-in-Bar.ensures.items ∙ map_push (λ atoms. atoms.items) c.loop-c.alternatives.items _
-      ∙ ap (λ v. map (λ atoms. atoms.items) c.loop-c.alternatives.items ++ v.items ∷ []) c.replace.ensures.value)
+      (c.in_ok-add-in-Bar.ensures.added
+      ∙ ap (λ v. map (λ one. one.atoms.items) c.loop-c.alternatives.items ++ v.items ∷ []) c.replace.ensures.value)
       (ap (λ v. v.items) c.replace.ensures.after ∙ c.new.ensures.items);
   utf8 = utf8_next _ _ _ c.loop-c.invariant.utf8 c.in-Some.ensures.steps.0;
+  shared = c.in_ok-add-in-Bar.ensures.shared;
 }
 
 pub loop-c-preserved : goal.loop-c-preserved
@@ -27,6 +28,7 @@ loop-c-preserved c = record {
   same = put_step _ _ _ _ _ _ _ _ _ _ c.loop-c.invariant.utf8 c.in-Some.ensures.steps.0 c.in-Some.ensures.steps.2 (sym c.step.ensures ∙ c.in-Put.is) c.loop-c.invariant.same
       c.in_ok-push-in-Put.ensures.items;
   utf8 = utf8_next _ _ _ c.loop-c.invariant.utf8 c.in-Some.ensures.steps.0;
+  shared = c.loop-c.invariant.shared;
 }
 
 pub returns-then-not-may_end-clause-none : goal.returns-then-not-may_end-clause-none
@@ -36,4 +38,4 @@ returns-then-not-may_end-clause-none c =
 pub returns-clause-some : goal.returns-clause-some
 returns-clause-some c =
     good_end _ _ _ _ _ _ _ c.in-None.ensures.steps.0.0 (sym c.may_end.ensures ∙ c.if-not-may_end.false) c.loop-c.invariant.same
-    (ap (map (λ atoms. atoms.items)) c.in_ok-push.ensures.items ∙ map_push (λ atoms. atoms.items) c.loop-c.alternatives.items _)
+    c.in_ok-add.ensures.added

@@ -11,7 +11,7 @@ use Rattle.snapshots.proofs.Asked.{shows_asked}
 use Rattle.snapshots.proofs.Between.{all_between, finds_between, group_between}
 use Rattle.snapshots.proofs.Keeps.{of_all_kept}
 use Rattle.snapshots.proofs.Prefixes.{prefix_self}
-use Rattle.snapshots.proofs.Tips.{group_parts}
+use Rattle.snapshots.proofs.Tips.{group_parts, more_of}
 use Rattle.snapshots.proofs.book.Book.publish.Goals as goal
 
 -- the group does not follow
@@ -78,11 +78,11 @@ returns-clause-in_flight g c opened =
     let k = g.K.Keeper in
     let group = c.args.group in
     let follows : accepted group.log ≡ accepted c.self.inside.log = search rules in
-    let is = group_parts g.J.Naming.opening k.idle group.log (arc_value group.standing.snapshot) group.standing.counts.items group.records.items
-    c.requires.group (accepted c.self.inside.log) follows in
+    let more = more_of group.log (accepted c.self.inside.log) follows in
+    let is = group_parts group.log (accepted c.self.inside.log) follows in
     group_between k.moment k.left_since k.stands g.J.Naming.before _ c.args.self.now c.publish_group.new.keeper (list_of group.log)
-    c.requires.group.waiting.more c.self.view_is is
-    (c.publish_group.ensures.in_flight c.requires.group.waiting.more is (ap (λ (p : Published _). k.closed p.keeper) c.self.view_is ∙ opened))
+    more c.self.view_is is
+    (c.publish_group.ensures.in_flight more is (ap (λ (p : Published _). k.closed p.keeper) c.self.view_is ∙ opened))
 
 pub returns-clause-finds : goal.returns-clause-finds
 returns-clause-finds g c opened keeps left had =

@@ -17,12 +17,12 @@ overflow_add-tally g c =
 pub add-requires-clause-tally : goal.add-requires-clause-tally
 add-requires-clause-tally g c =
     rw (← c.self.view_is)
-    (tally_try c.self.inside.tally _ c.self.inside.seen.log (entry_of g.C.Change.event c.args.tried.now)
+    (tally_try c.self.inside.tally _ c.self.inside.seen.log (entry_of g.C.AsEvent.event c.args.tried.now)
     c.self.invariant.2 refl refl refl refl)
 
 pub add-requires-clause-asked : goal.add-requires-clause-asked
 add-requires-clause-asked g c =
     rw (← c.self.view_is)
-    (try_asked g.J.Naming.asked c.self.inside.seen.log (entry_of g.C.Change.event c.args.tried.now) c.self.invariant.3
-    (subst (λ (log : List Mark). g.J.Naming.asked (g.C.Change.event c.args.tried.now.change.now) c.args.tried.now.seat
+    (try_asked g.J.Naming.asked c.self.inside.seen.log (entry_of g.C.AsEvent.event c.args.tried.now) c.self.invariant.3
+    (subst (λ (log : List Mark). g.J.Naming.asked (g.C.AsEvent.event c.args.tried.now.change.now) c.args.tried.now.seat
     (count_of c.args.tried.now.seat (tried_of log))) (sym c.self.view_is) c.requires.asked))

@@ -19,7 +19,7 @@ invariant_of-self-2 g c =
     let t = c.self.inside in
     let fits : FitsSeat c.args.seat.now t.ahead.counts.items = subst (λ (l : Ledger). FitsSeat c.args.seat.now l.counts) (sym c.self.view_is) c.requires.fits in
     let counts = t.ahead.counts.items in
-    let entry : Entry = record { event = g.C.Change.event c.args.change.now; seat = c.number-number.result } in
+    let entry : Entry = record { event = g.C.AsEvent.event c.args.change.now; seat = c.number-number.result } in
     let within = subst (λ (k : ℕ). k < length counts) (sym c.number-number.ensures) fits.0 in
     let more = ap (λ (k : ℕ). k + 1) (c.count.ensures ∙ sym (ap (slice_index counts) c.number-number.ensures ∙ fits.1)) in
     let step = subst (λ (l : Ledger). Steps l.parts entry.event (arc_value c.args.snapshot)) (sym c.self.view_is) c.requires.steps in (
@@ -36,7 +36,7 @@ invariant_of-self-2 g c =
 pub returns-clause-list : goal.returns-clause-list
 returns-clause-list g c =
     let t = c.self.inside in
-    let event = g.C.Change.event c.args.change.now in
+    let event = g.C.AsEvent.event c.args.change.now in
     let entry : Entry = record { event = event; seat = c.number-number.result } in
     ap tried_of c.share.ensures.same
     ∙ (tried_all t.waits t.log c.add_try.new.self entry c.if-is_given_up.ensures c.add_try.ensures
@@ -46,7 +46,7 @@ returns-clause-list g c =
 pub returns-clause-begins : goal.returns-clause-begins
 returns-clause-begins g c =
     let t = c.self.inside in
-    let entry : Entry = record { event = g.C.Change.event c.args.change.now; seat = c.number-number.result } in
+    let entry : Entry = record { event = g.C.AsEvent.event c.args.change.now; seat = c.number-number.result } in
     subst (λ (z : List Mark). IsPrefix c.args.seat.now.seen (tried_of z)) (sym c.share.ensures.same)
     (prefix_more c.args.seat.now.seen (current t.waits t.log) (tried_of c.add_try.new.self) entry
     (subst (λ (l : Ledger). IsPrefix c.args.seat.now.seen l.entries) (sym c.self.view_is) c.requires.begins)
@@ -56,7 +56,7 @@ pub returns-clause-counted : goal.returns-clause-counted
 returns-clause-counted g c =
     let t = c.self.inside in
     let fits : FitsSeat c.args.seat.now t.ahead.counts.items = subst (λ (l : Ledger). FitsSeat c.args.seat.now l.counts) (sym c.self.view_is) c.requires.fits in
-    let entry : Entry = record { event = g.C.Change.event c.args.change.now; seat = c.number-number.result } in
+    let entry : Entry = record { event = g.C.AsEvent.event c.args.change.now; seat = c.number-number.result } in
     subst (λ (z : List Mark). count_of c.args.seat.now.number (tried_of z) ≡ c.args.seat.now.count + 1) (sym c.share.ensures.same)
     (counted_next t.ahead.counts.items (current t.waits t.log) (tried_of c.add_try.new.self) entry c.args.seat.now.number (c.args.seat.now.count + 1)
     c.self.invariant.0.counted
@@ -68,7 +68,7 @@ returns-clause-books g c =
     let t = c.self.inside in
     let fits : FitsSeat c.args.seat.now t.ahead.counts.items = subst (λ (l : Ledger). FitsSeat c.args.seat.now l.counts) (sym c.self.view_is) c.requires.fits in
     let counts = t.ahead.counts.items in
-    let entry : Entry = record { event = g.C.Change.event c.args.change.now; seat = c.number-number.result } in
+    let entry : Entry = record { event = g.C.AsEvent.event c.args.change.now; seat = c.number-number.result } in
     let within = subst (λ (k : ℕ). k < length counts) (sym c.number-number.ensures) fits.0 in
     let more = ap (λ (k : ℕ). k + 1) (c.count.ensures ∙ sym (ap (slice_index counts) c.number-number.ensures ∙ fits.1)) in
     let step = subst (λ (l : Ledger). Steps l.parts entry.event (arc_value c.args.snapshot)) (sym c.self.view_is) c.requires.steps in
@@ -81,7 +81,7 @@ returns-clause-world g c =
     let t = c.self.inside in
     let fits : FitsSeat c.args.seat.now t.ahead.counts.items = subst (λ (l : Ledger). FitsSeat c.args.seat.now l.counts) (sym c.self.view_is) c.requires.fits in
     let counts = t.ahead.counts.items in
-    let entry : Entry = record { event = g.C.Change.event c.args.change.now; seat = c.number-number.result } in
+    let entry : Entry = record { event = g.C.AsEvent.event c.args.change.now; seat = c.number-number.result } in
     let within = subst (λ (k : ℕ). k < length counts) (sym c.number-number.ensures) fits.0 in
     let more = ap (λ (k : ℕ). k + 1) (c.count.ensures ∙ sym (ap (slice_index counts) c.number-number.ensures ∙ fits.1)) in
     let step = subst (λ (l : Ledger). Steps l.parts entry.event (arc_value c.args.snapshot)) (sym c.self.view_is) c.requires.steps in
@@ -92,14 +92,14 @@ returns-clause-world g c =
 pub returns-clause-published : goal.returns-clause-published
 returns-clause-published g c =
     let t = c.self.inside in
-    let entry : Entry = record { event = g.C.Change.event c.args.change.now; seat = c.number-number.result } in
+    let entry : Entry = record { event = g.C.AsEvent.event c.args.change.now; seat = c.number-number.result } in
     ap accepted c.add_try.ensures ∙ (accepted_try t.log entry ∙ ap (λ (l : Ledger). l.published) c.self.view_is)
 
 pub add_try-requires-clause-asked : goal.add_try-requires-clause-asked
 add_try-requires-clause-asked g c =
     let t = c.self.inside in
     let number = c.args.seat.now.number in
-    let event = g.C.Change.event c.args.change.now in
+    let event = g.C.AsEvent.event c.args.change.now in
     let fits : FitsSeat c.args.seat.now t.ahead.counts.items = subst (λ (l : Ledger). FitsSeat c.args.seat.now l.counts) (sym c.self.view_is) c.requires.fits in
     let as_many : c.args.seat.now.count ≡ count_of number (tried_of t.log) =
     sym fits.1

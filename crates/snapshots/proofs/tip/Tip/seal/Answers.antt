@@ -20,7 +20,7 @@ invariant_of-self g c =
           (sealed_stands opening t.log c.add_seal.new.self s t.ahead.counts.items c.add_seal.ensures stands),
       behind_while t.waits
           (sealed_behind opening g.K.Keeper.idle t.log c.add_seal.new.self (arc_value t.base.snapshot) t.base.counts.items
-          t.records.items c.replace-records.new.dest.items c.add_seal.ensures behind none),
+          c.replace-records.new.dest.items c.add_seal.ensures behind.stands none),
       c.self.invariant.2,
       c.self.invariant.3 ∙ sym (ap accepted c.add_seal.ensures ∙ accepted_seal t.log),
       c.self.invariant.4,

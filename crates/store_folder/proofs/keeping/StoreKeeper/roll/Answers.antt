@@ -6,14 +6,16 @@ use Rattle.data_folder.proofs.Moments.{joined, weaker}
 use Rattle.data_folder.specs.Sweeping.{AreAmong}
 use Rattle.head.specs.Blocks.{part_in}
 use Rattle.head_record.specs.Saved.{Place, save}
-use Rattle.store_folder.specs.KeeperLaws.{as_store}
 use Rattle.store_folder.specs.Saving.{AreBelow, IsAbove, IsOldOrSaved}
 use Rattle.store_folder.specs.States.{IsState}
 use Rattle.store_folder.specs.Sweeps.{names_at}
 use Rattle.store_folder.specs.Writing.{EachSays, places_from}
-use Rattle.store_folder.proofs.Fronts.{failed_like, may_save, open_like, saved_like}
+use Rattle.store_folder.proofs.Causes.{cause_lasts}
+use Rattle.store_folder.proofs.Fronts.{as_between, failed_like, may_save, open_like, same_between}
+use Rattle.store_folder.proofs.Fronts.{saved_like}
 use Rattle.store_folder.proofs.HeadsAlone.{head_stays}
-use Rattle.store_folder.proofs.Rolls.{at_these, finds_on, state_rests, stays_so}
+use Rattle.store_folder.proofs.Rolls.{at_these, finds_same, state_rests}
+use Rattle.store_folder.proofs.Saves.{saved_finds}
 use Rattle.store_folder.proofs.Says.{among_last, says_on}
 use Rattle.store_folder.proofs.keeping.StoreKeeper.roll.Goals as goal
 
@@ -26,17 +28,18 @@ save-requires g c opened =
     let first = g.N.Beginning.first in
     let blocks = map part_in self.blocks.items in
     let events = c.requires.0 in
-    let held = c.requires.1 in
-    let world = c.requires.2 in
+    let after = c.requires.1 in
+    let held = c.requires.2 in
+    let world = c.requires.3 in
     let like = open_like f.shows f.kept f.sound f.moment f.left_since first j.medium j.len j.closed
     events self.places.items blocks held c.if-self.false in
     let may = may_save f.shows f.kept f.sound f.moment f.left_since first j.medium j.len j.closed
-    events self.places.items c.deref-3.result.now blocks (map part_in c.blocks-3.result.now)
+    events after self.places.items c.deref-3.result.now blocks (map part_in c.blocks-3.result.now)
     (map part_in c.deref.result.now) c.args.snapshot.now c.same_blocks-same.result like world
     c.deref-3.ensures.value c.blocks-3.ensures
     (ap (λ (bs : List Shown). map part_in bs) c.deref.ensures.value) c.same_blocks-same.ensures.few
     c.same_blocks-same.ensures.same in
-    (events, like.0.parts, may)
+    (events, after, like.0.parts, may)
 
 pub sweep_blocks-requires-clause-held : goal.sweep_blocks-requires-clause-held
 sweep_blocks-requires-clause-held g c =
@@ -47,20 +50,21 @@ sweep_blocks-requires-clause-held g c =
     let first = g.N.Beginning.first in
     let blocks = map part_in self.blocks.items in
     let events = c.requires.0 in
-    let held = c.requires.1 in
-    let world = c.requires.2 in
+    let after = c.requires.1 in
+    let held = c.requires.2 in
+    let world = c.requires.3 in
     let like = open_like f.shows f.kept f.sound f.moment f.left_since first j.medium j.len j.closed
     events self.places.items blocks held c.if-self.false in
     let may = may_save f.shows f.kept f.sound f.moment f.left_since first j.medium j.len j.closed
-    events self.places.items c.deref-3.result.now blocks (map part_in c.blocks-3.result.now)
+    events after self.places.items c.deref-3.result.now blocks (map part_in c.blocks-3.result.now)
     (map part_in c.deref.result.now) c.args.snapshot.now c.same_blocks-same.result like world
     c.deref-3.ensures.value c.blocks-3.ensures
     (ap (λ (bs : List Shown). map part_in bs) c.deref.ensures.value) c.same_blocks-same.ensures.few
     c.same_blocks-same.ensures.same in
-    let placed = c.in-Ok-save.ensures.places events like.0.parts may in
-    let at = at_these f.shows f.kept f.sound f.moment f.left_since first _ _ _ events _ placed.0 []
+    let placed = c.in-Ok-save.ensures.places events after like.0.parts may in
+    let at = at_these f.shows f.kept f.sound f.moment f.left_since first _ _ _ after _ placed.0 []
     c.in-Ok-save.places.items placed.2 refl in
-    (events, placed.0, (at.0, at.1 ∙ sym c.deref-in-Ok-save.ensures.value, at.2))
+    (after, placed.0, (at.0, at.1 ∙ sym c.deref-in-Ok-save.ensures.value, at.2))
 
 pub sweep_after-requires : goal.sweep_after-requires
 sweep_after-requires g c opened =
@@ -71,22 +75,23 @@ sweep_after-requires g c opened =
     let first = g.N.Beginning.first in
     let blocks = map part_in self.blocks.items in
     let events = c.requires.0 in
-    let held = c.requires.1 in
-    let world = c.requires.2 in
+    let after = c.requires.1 in
+    let held = c.requires.2 in
+    let world = c.requires.3 in
     let like = open_like f.shows f.kept f.sound f.moment f.left_since first j.medium j.len j.closed
     events self.places.items blocks held c.if-self.false in
     let may = may_save f.shows f.kept f.sound f.moment f.left_since first j.medium j.len j.closed
-    events self.places.items c.deref-3.result.now blocks (map part_in c.blocks-3.result.now)
+    events after self.places.items c.deref-3.result.now blocks (map part_in c.blocks-3.result.now)
     (map part_in c.deref.result.now) c.args.snapshot.now c.same_blocks-same.result like world
     c.deref-3.ensures.value c.blocks-3.ensures
     (ap (λ (bs : List Shown). map part_in bs) c.deref.ensures.value) c.same_blocks-same.ensures.few
     c.same_blocks-same.ensures.same in
     let at = at_these f.shows f.kept f.sound f.moment f.left_since first _ _ _ events _ _ _ _
-    (c.in-Err.ensures.same events like.0.parts may opened) may.holds.1 in
+    (c.in-Err.ensures.same events after like.0.parts may opened) may.holds.1 in
     (events, like.0.parts, (at.0, at.1 ∙ (c.deref-3.ensures.value ∙ sym c.deref-in-Err.ensures.value), at.2))
 
-pub returns-in-Ok-save-clause-held : goal.returns-in-Ok-save-clause-held
-returns-in-Ok-save-clause-held g c events held world =
+pub returns-in-Ok-save-clause-saved : goal.returns-in-Ok-save-clause-saved
+returns-in-Ok-save-clause-saved g c events after held world =
     let f = g.F.Folder in
     let met = g.met.F.Folder in
     let self = c.args.self.now in
@@ -96,27 +101,31 @@ returns-in-Ok-save-clause-held g c events held world =
     let like = open_like f.shows f.kept f.sound f.moment f.left_since first j.medium j.len j.closed
     events self.places.items blocks held c.if-self.false in
     let may = may_save f.shows f.kept f.sound f.moment f.left_since first j.medium j.len j.closed
-    events self.places.items c.deref-3.result.now blocks (map part_in c.blocks-3.result.now)
+    events after self.places.items c.deref-3.result.now blocks (map part_in c.blocks-3.result.now)
     (map part_in c.deref.result.now) c.args.snapshot.now c.same_blocks-same.result like world
     c.deref-3.ensures.value c.blocks-3.ensures
     (ap (λ (bs : List Shown). map part_in bs) c.deref.ensures.value) c.same_blocks-same.ensures.few
     c.same_blocks-same.ensures.same in
-    let placed = c.in-Ok-save.ensures.places events like.0.parts may in
-    let at = at_these f.shows f.kept f.sound f.moment f.left_since first _ _ _ events _ placed.0 []
+    let placed = c.in-Ok-save.ensures.places events after like.0.parts may in
+    let at = at_these f.shows f.kept f.sound f.moment f.left_since first _ _ _ after _ placed.0 []
     c.in-Ok-save.places.items placed.2 refl in
-    let swept = c.sweep_blocks.ensures.held events placed.0
+    let swept = c.sweep_blocks.ensures.held after placed.0
     (at.0, at.1 ∙ sym c.deref-in-Ok-save.ensures.value, at.2) in
     let now = c.sweep_blocks.new.self.events.journal in
-    inl (saved_like f.shows f.kept f.sound f.moment f.left_since first now.medium now.len now.closed
-    events c.deref-in-Ok-save.result.now c.in-Ok-save.places.items placed.0 c.args.snapshot.now.blocks
+    saved_like f.shows f.kept f.sound f.moment f.left_since first now.medium now.len now.closed
+    after c.deref-in-Ok-save.result.now c.in-Ok-save.places.items placed.0 c.args.snapshot.now.blocks
     (map part_in c.in-Ok.blocks.items) swept placed.1 (sym c.deref-in-Ok-save.ensures.value)
-    (c.in-Ok.ensures ∙ c.blocks-2.ensures))
+    (c.in-Ok.ensures ∙ c.blocks-2.ensures)
+
+pub returns-in-Ok-save-clause-held : goal.returns-in-Ok-save-clause-held
+returns-in-Ok-save-clause-held g c events held world =
+    inl (returns-in-Ok-save-clause-saved g c events events held world)
 
 pub returns-in-Ok-save-clause-blocks : goal.returns-in-Ok-save-clause-blocks
 returns-in-Ok-save-clause-blocks g c = c.in-Ok.ensures ∙ c.blocks-2.ensures
 
-pub returns-in-Ok-save-clause-any_moment : goal.returns-in-Ok-save-clause-any_moment
-returns-in-Ok-save-clause-any_moment g c events held world opened =
+pub returns-in-Err-clause-unsaved : goal.returns-in-Err-clause-unsaved
+returns-in-Err-clause-unsaved g c events after held world =
     let f = g.F.Folder in
     let met = g.met.F.Folder in
     let self = c.args.self.now in
@@ -126,33 +135,7 @@ returns-in-Ok-save-clause-any_moment g c events held world opened =
     let like = open_like f.shows f.kept f.sound f.moment f.left_since first j.medium j.len j.closed
     events self.places.items blocks held c.if-self.false in
     let may = may_save f.shows f.kept f.sound f.moment f.left_since first j.medium j.len j.closed
-    events self.places.items c.deref-3.result.now blocks (map part_in c.blocks-3.result.now)
-    (map part_in c.deref.result.now) c.args.snapshot.now c.same_blocks-same.result like world
-    c.deref-3.ensures.value c.blocks-3.ensures
-    (ap (λ (bs : List Shown). map part_in bs) c.deref.ensures.value) c.same_blocks-same.ensures.few
-    c.same_blocks-same.ensures.same in
-    let placed = c.in-Ok-save.ensures.places events like.0.parts may in
-    let at = at_these f.shows f.kept f.sound f.moment f.left_since first _ _ _ events _ placed.0 []
-    c.in-Ok-save.places.items placed.2 refl in
-    finds_on f.moment f.left_since first events j.medium.folder
-    c.save.new.self.events.journal.medium.folder
-    c.sweep_blocks.new.self.events.journal.medium.folder
-    (c.in-Ok-save.ensures.any_moment events like.0.parts may opened)
-    (c.sweep_blocks.ensures.any_moment events placed.0
-    (at.0, at.1 ∙ sym c.deref-in-Ok-save.ensures.value, at.2))
-
-pub returns-in-Err-clause-held : goal.returns-in-Err-clause-held
-returns-in-Err-clause-held g c events held world =
-    let f = g.F.Folder in
-    let met = g.met.F.Folder in
-    let self = c.args.self.now in
-    let j = self.store.events.journal in
-    let first = g.N.Beginning.first in
-    let blocks = map part_in self.blocks.items in
-    let like = open_like f.shows f.kept f.sound f.moment f.left_since first j.medium j.len j.closed
-    events self.places.items blocks held c.if-self.false in
-    let may = may_save f.shows f.kept f.sound f.moment f.left_since first j.medium j.len j.closed
-    events self.places.items c.deref-3.result.now blocks (map part_in c.blocks-3.result.now)
+    events after self.places.items c.deref-3.result.now blocks (map part_in c.blocks-3.result.now)
     (map part_in c.deref.result.now) c.args.snapshot.now c.same_blocks-same.result like world
     c.deref-3.ensures.value c.blocks-3.ensures
     (ap (λ (bs : List Shown). map part_in bs) c.deref.ensures.value) c.same_blocks-same.ensures.few
@@ -162,51 +145,35 @@ returns-in-Err-clause-held g c events held world =
     let now = c.sweep_after.new.self.events.journal in
     let there = c.deref-3.ensures.value ∙ sym c.deref-in-Err.ensures.value in
     failed_like f.shows f.kept f.sound f.moment f.left_since met.only_now first j.medium mid.medium
-    now.medium j.len mid.len now.len j.closed mid.closed now.closed events self.places.items
+    now.medium j.len mid.len now.len j.closed mid.closed now.closed events after self.places.items
     c.deref-in-Err.result.now blocks like c.sweep_after.ensures.closed
     (λ opened. (let at = at_these f.shows f.kept f.sound f.moment f.left_since first _ _ _ events _ _ _ _
-    (c.in-Err.ensures.same events parts may opened) may.holds.1 in (at.0, at.1 ∙ there, at.2)))
+    (c.in-Err.ensures.same events after parts may opened) may.holds.1 in (at.0, at.1 ∙ there, at.2)))
     (λ opened at. c.sweep_after.ensures.at opened events parts at)
-    (c.sweep_after.ensures.held events parts
+    (c.sweep_after.ensures.held events after parts
     (λ opened. (let at = at_these f.shows f.kept f.sound f.moment f.left_since first _ _ _ events _ _ _ _
-    (c.in-Err.ensures.same events parts may opened) may.holds.1 in (at.0, at.1 ∙ there, at.2)))
-    (c.in-Err.ensures.held events parts may))
+    (c.in-Err.ensures.same events after parts may opened) may.holds.1 in (at.0, at.1 ∙ there, at.2)))
+    (c.in-Err.ensures.held events after parts may))
     c.deref-in-Err.ensures.value
 
-pub returns-in-Err-clause-any_moment : goal.returns-in-Err-clause-any_moment
-returns-in-Err-clause-any_moment g c events held world opened =
+pub returns-in-Err-clause-held : goal.returns-in-Err-clause-held
+returns-in-Err-clause-held g c events held world =
     let f = g.F.Folder in
-    let met = g.met.F.Folder in
     let self = c.args.self.now in
-    let j = self.store.events.journal in
-    let first = g.N.Beginning.first in
-    let blocks = map part_in self.blocks.items in
-    let like = open_like f.shows f.kept f.sound f.moment f.left_since first j.medium j.len j.closed
-    events self.places.items blocks held c.if-self.false in
-    let may = may_save f.shows f.kept f.sound f.moment f.left_since first j.medium j.len j.closed
-    events self.places.items c.deref-3.result.now blocks (map part_in c.blocks-3.result.now)
-    (map part_in c.deref.result.now) c.args.snapshot.now c.same_blocks-same.result like world
-    c.deref-3.ensures.value c.blocks-3.ensures
-    (ap (λ (bs : List Shown). map part_in bs) c.deref.ensures.value) c.same_blocks-same.ensures.few
-    c.same_blocks-same.ensures.same in
-    let parts = like.0.parts in
-    let there = c.deref-3.ensures.value ∙ sym c.deref-in-Err.ensures.value in
-    c.sweep_after.ensures.any_moment events parts j.medium.folder
-    (λ goes. (let at = at_these f.shows f.kept f.sound f.moment f.left_since first _ _ _ events _ _ _ _
-    (c.in-Err.ensures.same events parts may goes) may.holds.1 in (at.0, at.1 ∙ there, at.2)))
-    (c.in-Err.ensures.any_moment events parts may opened)
-
--- what is left is the store as it was, or what is saved
+    let now = c.sweep_after.new.self.events.journal in
+    same_between f.shows f.kept f.sound f.moment f.left_since g.N.Beginning.first now.medium now.len
+    now.closed events self.places.items (map part_in self.blocks.items)
+    (returns-in-Err-clause-unsaved g c events events held world)
 
 pub returns-in-Ok-save-clause-leaves : goal.returns-in-Ok-save-clause-leaves
-returns-in-Ok-save-clause-leaves g c events h world opened =
+returns-in-Ok-save-clause-leaves g c events after h world opened =
     let f = g.F.Folder in
     let self = c.args.self.now in
     let j = self.store.events.journal in
     let first = g.N.Beginning.first in
     let blocks = map part_in self.blocks.items in
     let may = may_save f.shows f.kept f.sound f.moment f.left_since first j.medium j.len j.closed
-    events self.places.items c.deref-3.result.now blocks (map part_in c.blocks-3.result.now)
+    events after self.places.items c.deref-3.result.now blocks (map part_in c.blocks-3.result.now)
     (map part_in c.deref.result.now) c.args.snapshot.now c.same_blocks-same.result h world
     c.deref-3.ensures.value c.blocks-3.ensures
     (ap (λ (bs : List Shown). map part_in bs) c.deref.ensures.value) c.same_blocks-same.ensures.few
@@ -214,12 +181,12 @@ returns-in-Ok-save-clause-leaves g c events h world opened =
     let s = c.args.snapshot.now in
     let places = c.in-Ok-save.places.items in
     let saved = save first.values s places in
-    let placed = c.in-Ok-save.ensures.places events h.0.parts may in
+    let placed = c.in-Ok-save.ensures.places events after h.0.parts may in
     let mid = c.save.new.self.events.journal.medium.folder in
     let new = c.sweep_blocks.new.self.events.journal.medium.folder in
     let P = IsOldOrSaved h.0.saved h.0.parts h.0.late first.values s in
     joined f.moment f.left_since j.medium.folder mid new P
-    (c.in-Ok-save.ensures.leaves events h.0.parts may opened)
+    (c.in-Ok-save.ensures.leaves events after h.0.parts may opened)
     (weaker f.moment f.left_since mid new (IsState saved placed.0 []) P
     (λ left state. inr (
       places,
@@ -228,28 +195,70 @@ returns-in-Ok-save-clause-leaves g c events h world opened =
       state,
       c.in-Ok-save.ensures.stands placed.0 placed.1,
     ))
-    (c.sweep_blocks.ensures.leaves events saved placed.0 [] placed.2
+    (c.sweep_blocks.ensures.leaves after saved placed.0 [] placed.2
     (sym c.deref-in-Ok-save.ensures.value)))
 
+pub returns-in-Ok-save-clause-finds : goal.returns-in-Ok-save-clause-finds
+returns-in-Ok-save-clause-finds g c events after held world opened =
+    let f = g.F.Folder in
+    let met = g.met.F.Folder in
+    let self = c.args.self.now in
+    let j = self.store.events.journal in
+    let first = g.N.Beginning.first in
+    let like = open_like f.shows f.kept f.sound f.moment f.left_since first j.medium j.len j.closed
+    events self.places.items (map part_in self.blocks.items) held opened in
+    saved_finds f.shows f.kept f.sound f.moment f.left_since met.only_now met.earlier first j.medium
+    c.sweep_blocks.new.self.events.journal.medium.folder j.len j.closed events after
+    c.args.snapshot.now like.0 world (returns-in-Ok-save-clause-leaves g c events after like world opened)
+
+pub returns-in-Ok-save-clause-any_moment : goal.returns-in-Ok-save-clause-any_moment
+returns-in-Ok-save-clause-any_moment g c events held world opened =
+    let f = g.F.Folder in
+    finds_same f.moment f.left_since g.N.Beginning.first events
+    c.args.self.now.store.events.journal.medium.folder
+    c.sweep_blocks.new.self.events.journal.medium.folder
+    (returns-in-Ok-save-clause-finds g c events events held world opened)
+
 pub returns-in-Err-clause-leaves : goal.returns-in-Err-clause-leaves
-returns-in-Err-clause-leaves g c events h world opened =
+returns-in-Err-clause-leaves g c events after h world opened =
     let f = g.F.Folder in
     let self = c.args.self.now in
     let j = self.store.events.journal in
     let first = g.N.Beginning.first in
     let blocks = map part_in self.blocks.items in
     let may = may_save f.shows f.kept f.sound f.moment f.left_since first j.medium j.len j.closed
-    events self.places.items c.deref-3.result.now blocks (map part_in c.blocks-3.result.now)
+    events after self.places.items c.deref-3.result.now blocks (map part_in c.blocks-3.result.now)
     (map part_in c.deref.result.now) c.args.snapshot.now c.same_blocks-same.result h world
     c.deref-3.ensures.value c.blocks-3.ensures
     (ap (λ (bs : List Shown). map part_in bs) c.deref.ensures.value) c.same_blocks-same.ensures.few
     c.same_blocks-same.ensures.same in
     c.sweep_after.ensures.leaves events h.0.saved h.0.parts h.0.late first.values c.args.snapshot.now
-    j.medium.folder (λ goes. c.in-Err.ensures.same events h.0.parts may goes)
-    (h.1 ∙ sym c.deref-in-Err.ensures.value) (c.in-Err.ensures.leaves events h.0.parts may opened)
+    j.medium.folder (λ goes. c.in-Err.ensures.same events after h.0.parts may goes)
+    (h.1 ∙ sym c.deref-in-Err.ensures.value) (c.in-Err.ensures.leaves events after h.0.parts may opened)
+
+pub returns-in-Err-clause-finds : goal.returns-in-Err-clause-finds
+returns-in-Err-clause-finds g c events after held world opened =
+    let f = g.F.Folder in
+    let met = g.met.F.Folder in
+    let self = c.args.self.now in
+    let j = self.store.events.journal in
+    let first = g.N.Beginning.first in
+    let like = open_like f.shows f.kept f.sound f.moment f.left_since first j.medium j.len j.closed
+    events self.places.items (map part_in self.blocks.items) held opened in
+    saved_finds f.shows f.kept f.sound f.moment f.left_since met.only_now met.earlier first j.medium
+    c.sweep_after.new.self.events.journal.medium.folder j.len j.closed events after
+    c.args.snapshot.now like.0 world (returns-in-Err-clause-leaves g c events after like world opened)
+
+pub returns-in-Err-clause-any_moment : goal.returns-in-Err-clause-any_moment
+returns-in-Err-clause-any_moment g c events held world opened =
+    let f = g.F.Folder in
+    finds_same f.moment f.left_since g.N.Beginning.first events
+    c.args.self.now.store.events.journal.medium.folder
+    c.sweep_after.new.self.events.journal.medium.folder
+    (returns-in-Err-clause-finds g c events events held world opened)
 
 pub returns-in_default-clause-leaves : goal.returns-in_default-clause-leaves
-returns-in_default-clause-leaves g c events h world opened =
+returns-in_default-clause-leaves g c events after h world opened =
     let f = g.F.Folder in
     let met = g.met.F.Folder in
     let j = c.args.self.now.store.events.journal in
@@ -260,18 +269,44 @@ returns-in_default-clause-leaves g c events h world opened =
     (state_rests f.shows f.kept f.sound f.moment f.left_since met.only_now met.earlier
     g.N.Beginning.first j.medium j.len j.closed events h.0 opened)
 
--- no memory was left
+-- nothing was saved
 
-pub returns-in_default-clause-any_moment : goal.returns-in_default-clause-any_moment
-returns-in_default-clause-any_moment g c events held world opened =
+pub returns-then-self-clause-unsaved : goal.returns-then-self-clause-unsaved
+returns-then-self-clause-unsaved g c events after held world =
+    let f = g.F.Folder in
+    let self = c.args.self.now in
+    let j = self.store.events.journal in
+    as_between f.shows f.kept f.sound f.moment f.left_since g.N.Beginning.first j.medium j.len
+    j.closed events after self.places.items (map part_in self.blocks.items) held
+
+pub returns-in_default-clause-unsaved : goal.returns-in_default-clause-unsaved
+returns-in_default-clause-unsaved g c events after held world =
+    let f = g.F.Folder in
+    let self = c.args.self.now in
+    let j = self.store.events.journal in
+    as_between f.shows f.kept f.sound f.moment f.left_since g.N.Beginning.first j.medium j.len
+    j.closed events after self.places.items (map part_in self.blocks.items) held
+
+pub returns-in_default-clause-finds : goal.returns-in_default-clause-finds
+returns-in_default-clause-finds g c events after held world opened =
     let f = g.F.Folder in
     let met = g.met.F.Folder in
     let self = c.args.self.now in
     let j = self.store.events.journal in
-    stays_so f.shows f.kept f.sound f.moment f.left_since met.only_now met.earlier
-    g.N.Beginning.first j.medium j.len j.closed events
-    (as_store f.shows f.kept f.sound f.moment f.left_since met.only_now g.N.Beginning.first j.medium
-    j.len j.closed events self.places.items (map part_in self.blocks.items) held) opened
+    let first = g.N.Beginning.first in
+    let like = open_like f.shows f.kept f.sound f.moment f.left_since first j.medium j.len j.closed
+    events self.places.items (map part_in self.blocks.items) held opened in
+    saved_finds f.shows f.kept f.sound f.moment f.left_since met.only_now met.earlier first j.medium
+    c.args.self.now.store.events.journal.medium.folder j.len j.closed events after
+    c.args.snapshot.now like.0 world (returns-in_default-clause-leaves g c events after like world opened)
+
+pub returns-in_default-clause-any_moment : goal.returns-in_default-clause-any_moment
+returns-in_default-clause-any_moment g c events held world opened =
+    let f = g.F.Folder in
+    finds_same f.moment f.left_since g.N.Beginning.first events
+    c.args.self.now.store.events.journal.medium.folder
+    c.args.self.now.store.events.journal.medium.folder
+    (returns-in_default-clause-finds g c events events held world opened)
 
 pub returns-then-self-clause-foreign : goal.returns-then-self-clause-foreign
 returns-then-self-clause-foreign g c =
@@ -373,3 +408,13 @@ returns-in-Ok-save-clause-numbers g c =
           (c.deref-in-Ok-save.ensures.value ∙ c.in-Ok-save.ensures.numbers) among) there)
           c.in-Ok-save.ensures.written,
     )
+
+-- what the fault tells
+
+pub returns-in-Err-clause-cause : goal.returns-in-Err-clause-cause
+returns-in-Err-clause-cause g c =
+    let f = g.F.Folder in
+    cause_lasts c.args.self.now.store.events.journal.closed
+    (f.failed c.save.new.self.events.journal.medium.folder)
+    (f.failed c.sweep_after.new.self.events.journal.medium.folder) c.in-Err.fault
+    c.sweep_after.ensures.lasting c.in-Err.ensures.cause

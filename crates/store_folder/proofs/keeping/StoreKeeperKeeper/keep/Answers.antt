@@ -84,14 +84,14 @@ returns-in-Ok-append-clause-last g c events more held s =
     let next =
     subst (λ records. AreNext old.medium.names records more after) (sym c.deref.ensures.value)
     (c.in-Ok.ensures.ok more s) in
-    like_last f.shows f.kept f.sound f.moment f.left_since g.met.F.Folder.only_now
+    inl (like_last f.shows f.kept f.sound f.moment f.left_since g.met.F.Folder.only_now
     g.N.Beginning.first old.medium new.medium old.len new.len old.closed new.closed events more
     k.places.items (map part_in k.blocks.items) like c.in-Ok-append.ensures.beside.0
     (named_so f.shows f.kept f.sound f.moment f.left_since g.met.F.Folder.only_now
     (head_texts h.saved) new.medium new.len new.closed after (h.late ++ more)
     c.in-Ok-append.ensures.beside.1
     (c.in-Ok-append.ensures.ok (head_texts h.saved) old.medium.names after h.late more before
-    next))
+    next)))
 
 pub returns-clause-err : goal.returns-clause-err
 returns-clause-err g c events held =

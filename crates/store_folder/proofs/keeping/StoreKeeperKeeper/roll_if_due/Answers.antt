@@ -10,6 +10,11 @@ use Rattle.store_folder.specs.States.{IsState}
 use Rattle.store_folder.proofs.Rolls.{state_rests, stays_so}
 use Rattle.store_folder.proofs.keeping.StoreKeeperKeeper.roll_if_due.Goals as goal
 
+pub roll-requires : goal.roll-requires
+roll-requires g c =
+    let made = c.requires.made refl in
+    (made.0, made.0, made.1, made.2)
+
 pub returns-then-not-are_met-clause-any_moment : goal.returns-then-not-are_met-clause-any_moment
 returns-then-not-are_met-clause-any_moment g c events held world opened =
     let f = g.F.Folder in
@@ -74,11 +79,11 @@ returns-then-not-are_met-clause-leaves g c events h world opened =
 
 pub returns-in-Ok-clause-leaves : goal.returns-in-Ok-clause-leaves
 returns-in-Ok-clause-leaves g c events h world opened =
-    c.in-Ok.ensures.leaves events h world opened
+    c.in-Ok.ensures.leaves events events h world opened
 
 pub returns-in-Err-clause-leaves : goal.returns-in-Err-clause-leaves
 returns-in-Err-clause-leaves g c events h world opened =
-    c.in-Err.ensures.leaves events h world opened
+    c.in-Err.ensures.leaves events events h world opened
 
 -- what is none of the store's
 

@@ -9,8 +9,11 @@ use Rattle.head_record.specs.Saved.{Saved}
 use Rattle.head_record.specs.Spelling.{head_texts}
 use Rattle.journal.specs.Group.{IsJournalText}
 use Rattle.store_folder.specs.KeeperLaws.{open_head}
+use Rattle.store_folder.proofs.Causes.{folder_cause}
+use Rattle.store_folder.proofs.Fronts.{store_between}
 use Rattle.store_folder.proofs.HeadsAlone.{head_alone}
-use Rattle.store_folder.proofs.Rolls.{apart_both, files_of_both, goes_on, keeps_now, not_rolled}
+use Rattle.store_folder.proofs.Rolls.{apart_both, files_of_both, finds_first, goes_on, keeps_now}
+use Rattle.store_folder.proofs.Rolls.{not_rolled}
 use Rattle.store_folder.proofs.Rolls.{of_these, roll_finds, roll_leaves, rolled, same_these}
 use Rattle.store_folder.proofs.Rolls.{state_rests, stays_so, there_both}
 use Rattle.store_folder.specs.States.{IsEither, IsState}
@@ -24,7 +27,7 @@ roll-requires-clause-kept g c opened =
     let r = c.requires in
     let h =
     open_head f.shows f.kept f.sound f.moment f.left_since met.only_now g.N.Beginning.first old.medium
-    old.len old.closed r.0 r.2.holds c.if-self.false in (
+    old.len old.closed r.0 r.3.holds c.if-self.false in (
       head_texts h.saved ++ h.journal.contents,
       keeps_now f.shows f.kept f.sound f.moment f.left_since met.only_now met.earlier
           g.N.Beginning.first old.medium old.len old.closed r.0 h c.if-self.false,
@@ -36,7 +39,7 @@ roll-requires-clause-whole g c =
     (new, subst (IsJournalText new) (sym c.deref.ensures.value) c.in-Ok.ensures.text)
 
 pub returns-in-Ok-roll-clause-alone : goal.returns-in-Ok-roll-clause-alone
-returns-in-Ok-roll-clause-alone g c events parts m =
+returns-in-Ok-roll-clause-alone g c events after parts m =
     let f = g.F.Folder in
     let met = g.met.F.Folder in
     let old = c.args.self.now.events.journal in
@@ -44,7 +47,7 @@ returns-in-Ok-roll-clause-alone g c events parts m =
     let new = contents_with (head_texts c.args.head.now) [] in
     rolled f.shows f.kept f.sound f.moment f.left_since met.only_now met.earlier
     g.N.Beginning.first old.medium made.medium old.len made.len old.closed made.closed
-    c.args.head.now parts events m c.in-Ok.ensures.saved c.in-Ok-roll.ensures.named
+    c.args.head.now parts events after m c.in-Ok.ensures.saved c.in-Ok-roll.ensures.named
     (c.in-Ok-roll.ensures.ok new
     (subst (IsJournalText new) (sym c.deref.ensures.value) c.in-Ok.ensures.text))
     c.in-Ok-roll.ensures.files
@@ -75,12 +78,8 @@ returns-clause-goes_on g c unless opened =
     (f.failed made.medium.folder) c.in-Err-roll.is c.roll.ensures.closed
     c.roll.ensures.not_written unless opened
 
-pub returns-in-Ok-roll-clause-held : goal.returns-in-Ok-roll-clause-held
-returns-in-Ok-roll-clause-held g c events parts m =
-    let t = returns-in-Ok-roll-clause-alone g c events parts m in inl t.0
-
 pub returns-in-Ok-roll-clause-leaves : goal.returns-in-Ok-roll-clause-leaves
-returns-in-Ok-roll-clause-leaves g c events was parts blocks late t m opened =
+returns-in-Ok-roll-clause-leaves g c events after was parts blocks late t m opened =
     let f = g.F.Folder in
     let met = g.met.F.Folder in
     let first = g.N.Beginning.first in
@@ -107,7 +106,7 @@ returns-in-Ok-roll-clause-leaves g c events was parts blocks late t m opened =
     m.blocks)))
 
 pub returns-in-Ok-roll-clause-any_moment : goal.returns-in-Ok-roll-clause-any_moment
-returns-in-Ok-roll-clause-any_moment g c events parts m opened =
+returns-in-Ok-roll-clause-any_moment g c events after parts m opened =
     let f = g.F.Folder in
     let met = g.met.F.Folder in
     let first = g.N.Beginning.first in
@@ -116,11 +115,12 @@ returns-in-Ok-roll-clause-any_moment g c events parts m opened =
     open_head f.shows f.kept f.sound f.moment f.left_since met.only_now first old.medium old.len
     old.closed events m.holds opened in
     roll_finds f.shows f.kept f.sound f.moment f.left_since met.only_now met.earlier first old.medium
-    c.roll.new.journal.medium old.len old.closed c.args.head.now parts events h m
-    (returns-in-Ok-roll-clause-leaves g c events h.saved h.parts parts h.late (h, refl, refl, refl) m opened)
+    c.roll.new.journal.medium old.len old.closed c.args.head.now parts events after h m
+    (returns-in-Ok-roll-clause-leaves g c events after h.saved h.parts parts h.late
+    (h, refl, refl, refl) m opened)
 
 pub returns-clause-leaves : goal.returns-clause-leaves
-returns-clause-leaves g c events was parts blocks late t m opened =
+returns-clause-leaves g c events after was parts blocks late t m opened =
     let f = g.F.Folder in
     let met = g.met.F.Folder in
     let first = g.N.Beginning.first in
@@ -147,7 +147,7 @@ returns-clause-leaves g c events was parts blocks late t m opened =
     m.blocks)))
 
 pub returns-clause-any_moment : goal.returns-clause-any_moment
-returns-clause-any_moment g c events parts m opened =
+returns-clause-any_moment g c events after parts m opened =
     let f = g.F.Folder in
     let met = g.met.F.Folder in
     let first = g.N.Beginning.first in
@@ -156,11 +156,12 @@ returns-clause-any_moment g c events parts m opened =
     open_head f.shows f.kept f.sound f.moment f.left_since met.only_now first old.medium old.len
     old.closed events m.holds opened in
     roll_finds f.shows f.kept f.sound f.moment f.left_since met.only_now met.earlier first old.medium
-    c.roll.new.journal.medium old.len old.closed c.args.head.now parts events h m
-    (returns-clause-leaves g c events h.saved h.parts parts h.late (h, refl, refl, refl) m opened)
+    c.roll.new.journal.medium old.len old.closed c.args.head.now parts events after h m
+    (returns-clause-leaves g c events after h.saved h.parts parts h.late
+    (h, refl, refl, refl) m opened)
 
 pub returns-clause-held : goal.returns-clause-held
-returns-clause-held g c events parts m =
+returns-clause-held g c events after parts m =
     let f = g.F.Folder in
     let met = g.met.F.Folder in
     let old = c.args.self.now.events.journal in
@@ -170,12 +171,12 @@ returns-clause-held g c events parts m =
     open_head f.shows f.kept f.sound f.moment f.left_since met.only_now g.N.Beginning.first old.medium
     old.len old.closed events m.holds opened in
     not_rolled f.shows f.kept f.sound f.moment f.left_since met.only_now met.earlier
-    g.N.Beginning.first old.medium made.medium old.len made.len old.closed made.closed events h
+    g.N.Beginning.first old.medium made.medium old.len made.len old.closed made.closed events after h
     opened c.in-Err-roll.ensures.names
     (c.in-Err-roll.ensures.err (head_texts h.saved ++ h.journal.contents)
     (keeps_now f.shows f.kept f.sound f.moment f.left_since met.only_now met.earlier
     g.N.Beginning.first old.medium old.len old.closed events h opened))
-    c.in-Err-roll.ensures.files (returns-clause-any_moment g c events parts m opened)
+    c.in-Err-roll.ensures.files (returns-clause-any_moment g c events after parts m opened)
 
 pub returns-clause-same : goal.returns-clause-same
 returns-clause-same g c events was parts late t goes_on =
@@ -201,11 +202,11 @@ pub returns-in-Err-clause-same : goal.returns-in-Err-clause-same
 returns-in-Err-clause-same g c events was parts late t goes_on = t
 
 pub returns-then-self-clause-leaves : goal.returns-then-self-clause-leaves
-returns-then-self-clause-leaves g c events was parts blocks late t m opened =
+returns-then-self-clause-leaves g c events after was parts blocks late t m opened =
     absurd (let a : true ≡ false = sym c.if-self.true ∙ opened in cc)
 
 pub returns-in-Err-clause-leaves : goal.returns-in-Err-clause-leaves
-returns-in-Err-clause-leaves g c events was parts blocks late t m opened =
+returns-in-Err-clause-leaves g c events after was parts blocks late t m opened =
     let f = g.F.Folder in
     let met = g.met.F.Folder in
     let old = c.args.self.now.events.journal in
@@ -221,22 +222,32 @@ returns-in-Err-clause-leaves g c events was parts blocks late t m opened =
     g.N.Beginning.first old.medium old.len old.closed events t.0 opened))
 
 pub returns-then-self-clause-held : goal.returns-then-self-clause-held
-returns-then-self-clause-held g c events parts m = m.holds
+returns-then-self-clause-held g c events after parts m =
+    let f = g.F.Folder in
+    let old = c.args.self.now.events.journal in
+    store_between f.shows f.kept f.sound f.moment f.left_since g.N.Beginning.first old.medium old.len
+    old.closed events after m.holds
 
 pub returns-then-self-clause-any_moment : goal.returns-then-self-clause-any_moment
-returns-then-self-clause-any_moment g c events parts m opened =
+returns-then-self-clause-any_moment g c events after parts m opened =
     absurd (let a : true ≡ false = sym c.if-self.true ∙ opened in cc)
 
 pub returns-in-Err-clause-held : goal.returns-in-Err-clause-held
-returns-in-Err-clause-held g c events parts m = m.holds
+returns-in-Err-clause-held g c events after parts m =
+    let f = g.F.Folder in
+    let old = c.args.self.now.events.journal in
+    store_between f.shows f.kept f.sound f.moment f.left_since g.N.Beginning.first old.medium old.len
+    old.closed events after m.holds
 
 pub returns-in-Err-clause-any_moment : goal.returns-in-Err-clause-any_moment
-returns-in-Err-clause-any_moment g c events parts m opened =
+returns-in-Err-clause-any_moment g c events after parts m opened =
     let f = g.F.Folder in
     let met = g.met.F.Folder in
     let old = c.args.self.now.events.journal in
-    stays_so f.shows f.kept f.sound f.moment f.left_since met.only_now met.earlier
-    g.N.Beginning.first old.medium old.len old.closed events m.holds opened
+    finds_first f.moment f.left_since g.N.Beginning.first events after old.medium.folder
+    old.medium.folder
+    (stays_so f.shows f.kept f.sound f.moment f.left_since met.only_now met.earlier
+    g.N.Beginning.first old.medium old.len old.closed events m.holds opened)
 
 pub returns-then-self-clause-others : goal.returns-then-self-clause-others
 returns-then-self-clause-others g c =
@@ -249,3 +260,13 @@ returns-in-Err-clause-others g c =
     let f = g.F.Folder in
     nothing_changed f.shows f.kept next_name journal_name
     c.args.self.now.events.journal.medium.folder
+
+-- what the fault tells
+
+pub returns-clause-cause : goal.returns-clause-cause
+returns-clause-cause g c =
+    let f = g.F.Folder in
+    let made = c.roll.new.journal in
+    folder_cause c.roll.result c.in-Err-roll.error c.args.self.now.events.journal.closed made.closed
+    (f.failed made.medium.folder) c.in-Err-roll.is c.roll.ensures.closed
+    c.roll.ensures.not_written c.roll.ensures.lost

@@ -1,4 +1,5 @@
-use Rattle.std.proofs.Common.{◌-◌, ◌++◌, ap, inl, length, subst, sym, take, ◌∙◌, List, [], refl}
+use Rattle.std.proofs.Common.{◌-◌, ◌++◌, ap, inl, length, subst, sym, take, ◌∙◌, Bool, List, []}
+use Rattle.std.proofs.Common.{refl}
 use Rattle.data_folder.proofs.Foreign.{foreign_beside, foreign_kept, foreign_rests, foreign_then}
 use Rattle.store_folder.specs.Sweeps.{names_at}
 use Rattle.block_folder.specs.declared.values.Values.{Values}
@@ -6,12 +7,12 @@ use Rattle.event_journal.specs.Holding.{contents_with}
 use Rattle.head_record.specs.Saved.{Place, Saved, save}
 use Rattle.head_record.specs.Spelling.{head_texts}
 use Rattle.journal.specs.Records.{file_of}
+use Rattle.store_folder.specs.Causes.{IsRollCause}
 use Rattle.store_folder.specs.Holding.{HoldsThese}
 use Rattle.store_folder.specs.Writing.{EachSays, places_from}
-use Rattle.store_folder.proofs.Saves.{enough, like_made, may_roll, saving_leaves, still_held}
-use Rattle.store_folder.proofs.Saves.{still_these, writing_finds, writing_leaves}
+use Rattle.store_folder.proofs.Saves.{enough, like_made, may_roll, saved_finds, saving_leaves}
+use Rattle.store_folder.proofs.Saves.{still_held, still_these, writing_leaves}
 use Rattle.store_folder.proofs.HeadsAlone.{same_alone}
-use Rattle.store_folder.proofs.Rolls.{finds_on}
 use Rattle.store_folder.proofs.Says.{says_on, says_saved, there_beside}
 use Rattle.store_folder.proofs.Standing.{same_stand}
 use Rattle.store_folder.proofs.store_journal.StoreJournal.save.Goals as goal
@@ -26,10 +27,11 @@ write_saved-requires-clause-blocks g c =
     let same = c.args.same in
     let first = g.N.Beginning.first in
     let given = c.requires c.if-self.false in
-    enough f.shows f.kept f.sound f.moment f.left_since met.only_now met.earlier first old.medium old.len old.closed given.0 s held given.1 same given.2
+    enough f.shows f.kept f.sound f.moment f.left_since met.only_now met.earlier first old.medium
+    old.len old.closed given.0 given.1 s held given.2 same given.3
 
 pub returns-in-Err-clause-same : goal.returns-in-Err-clause-same
-returns-in-Err-clause-same g c events parts may goes_on =
+returns-in-Err-clause-same g c events after parts may goes_on =
     let f = g.F.Folder in
     let met = g.met.F.Folder in
     let old = c.args.self.now.events.journal in
@@ -38,12 +40,12 @@ returns-in-Err-clause-same g c events parts may goes_on =
     let same = c.args.same in
     let first = g.N.Beginning.first in
     still_these f.shows f.kept f.sound f.moment f.left_since met.only_now met.earlier first old.medium
-    (record (old.medium) { folder = c.write_saved.new.folder }) old.len old.closed events s held
+    (record (old.medium) { folder = c.write_saved.new.folder }) old.len old.closed events after s held
     parts same may c.if-self.false refl
     c.write_saved.ensures.stays
 
 pub returns-in-Err-clause-leaves : goal.returns-in-Err-clause-leaves
-returns-in-Err-clause-leaves g c events parts may opened =
+returns-in-Err-clause-leaves g c events after parts may opened =
     let f = g.F.Folder in
     let met = g.met.F.Folder in
     let old = c.args.self.now.events.journal in
@@ -52,11 +54,11 @@ returns-in-Err-clause-leaves g c events parts may opened =
     let same = c.args.same in
     let first = g.N.Beginning.first in
     writing_leaves f.shows f.kept f.sound f.moment f.left_since met.only_now met.earlier first old.medium
-    c.write_saved.new.folder old.len old.closed events s held parts same first.values may opened
+    c.write_saved.new.folder old.len old.closed events after s held parts same first.values may opened
     c.write_saved.ensures.stays
 
 pub returns-in-Err-clause-held : goal.returns-in-Err-clause-held
-returns-in-Err-clause-held g c events parts may =
+returns-in-Err-clause-held g c events after parts may =
     let f = g.F.Folder in
     let met = g.met.F.Folder in
     let old = c.args.self.now.events.journal in
@@ -66,27 +68,23 @@ returns-in-Err-clause-held g c events parts may =
     let first = g.N.Beginning.first in
     let at =
     still_held f.shows f.kept f.sound f.moment f.left_since met.only_now met.earlier first old.medium
-    (record (old.medium) { folder = c.write_saved.new.folder }) old.len old.closed events s held
+    (record (old.medium) { folder = c.write_saved.new.folder }) old.len old.closed events after s held
     parts same may c.if-self.false refl
     c.write_saved.ensures.stays in
     inl at.0
 
 pub returns-in-Err-clause-any_moment : goal.returns-in-Err-clause-any_moment
-returns-in-Err-clause-any_moment g c events parts may opened =
+returns-in-Err-clause-any_moment g c events after parts may opened =
     let f = g.F.Folder in
     let met = g.met.F.Folder in
     let old = c.args.self.now.events.journal in
-    let s = c.args.snapshot.now in
-    let held = c.args.held.now in
-    let same = c.args.same in
-    let first = g.N.Beginning.first in
-    writing_finds f.shows f.kept f.sound f.moment f.left_since met.only_now met.earlier first old.medium
-    (record (old.medium) { folder = c.write_saved.new.folder }) old.len old.closed events s held
-    parts same may c.if-self.false
-    c.write_saved.ensures.stays
+    saved_finds f.shows f.kept f.sound f.moment f.left_since met.only_now met.earlier
+    g.N.Beginning.first old.medium c.write_saved.new.folder old.len old.closed events
+    after c.args.snapshot.now may.holds.0 may.world
+    (returns-in-Err-clause-leaves g c events after parts may opened)
 
 pub returns-in_default-clause-same : goal.returns-in_default-clause-same
-returns-in_default-clause-same g c events parts may goes_on =
+returns-in_default-clause-same g c events after parts may goes_on =
     let f = g.F.Folder in
     let met = g.met.F.Folder in
     let old = c.args.self.now.events.journal in
@@ -95,12 +93,12 @@ returns-in_default-clause-same g c events parts may goes_on =
     let same = c.args.same in
     let first = g.N.Beginning.first in
     still_these f.shows f.kept f.sound f.moment f.left_since met.only_now met.earlier first old.medium
-    (record (old.medium) { folder = c.write_saved.new.folder }) old.len old.closed events s held
+    (record (old.medium) { folder = c.write_saved.new.folder }) old.len old.closed events after s held
     parts same may c.if-self.false refl
     c.write_saved.ensures.stays
 
 pub returns-in_default-clause-leaves : goal.returns-in_default-clause-leaves
-returns-in_default-clause-leaves g c events parts may opened =
+returns-in_default-clause-leaves g c events after parts may opened =
     let f = g.F.Folder in
     let met = g.met.F.Folder in
     let old = c.args.self.now.events.journal in
@@ -109,11 +107,11 @@ returns-in_default-clause-leaves g c events parts may opened =
     let same = c.args.same in
     let first = g.N.Beginning.first in
     writing_leaves f.shows f.kept f.sound f.moment f.left_since met.only_now met.earlier first old.medium
-    c.write_saved.new.folder old.len old.closed events s held parts same first.values may opened
+    c.write_saved.new.folder old.len old.closed events after s held parts same first.values may opened
     c.write_saved.ensures.stays
 
 pub returns-in_default-clause-held : goal.returns-in_default-clause-held
-returns-in_default-clause-held g c events parts may =
+returns-in_default-clause-held g c events after parts may =
     let f = g.F.Folder in
     let met = g.met.F.Folder in
     let old = c.args.self.now.events.journal in
@@ -123,24 +121,20 @@ returns-in_default-clause-held g c events parts may =
     let first = g.N.Beginning.first in
     let at =
     still_held f.shows f.kept f.sound f.moment f.left_since met.only_now met.earlier first old.medium
-    (record (old.medium) { folder = c.write_saved.new.folder }) old.len old.closed events s held
+    (record (old.medium) { folder = c.write_saved.new.folder }) old.len old.closed events after s held
     parts same may c.if-self.false refl
     c.write_saved.ensures.stays in
     inl at.0
 
 pub returns-in_default-clause-any_moment : goal.returns-in_default-clause-any_moment
-returns-in_default-clause-any_moment g c events parts may opened =
+returns-in_default-clause-any_moment g c events after parts may opened =
     let f = g.F.Folder in
     let met = g.met.F.Folder in
     let old = c.args.self.now.events.journal in
-    let s = c.args.snapshot.now in
-    let held = c.args.held.now in
-    let same = c.args.same in
-    let first = g.N.Beginning.first in
-    writing_finds f.shows f.kept f.sound f.moment f.left_since met.only_now met.earlier first old.medium
-    (record (old.medium) { folder = c.write_saved.new.folder }) old.len old.closed events s held
-    parts same may c.if-self.false
-    c.write_saved.ensures.stays
+    saved_finds f.shows f.kept f.sound f.moment f.left_since met.only_now met.earlier
+    g.N.Beginning.first old.medium c.write_saved.new.folder old.len old.closed events
+    after c.args.snapshot.now may.holds.0 may.world
+    (returns-in_default-clause-leaves g c events after parts may opened)
 
 pub roll-requires : goal.roll-requires
 roll-requires g c =
@@ -153,40 +147,19 @@ roll-requires g c =
     let first = g.N.Beginning.first in
     let given = c.requires c.if-self.false in
     let there = c.in-Ok.ensures.there in
-    let made = take same given.1 ++ there.0 in
+    let made = take same given.2 ++ there.0 in
     let rolls =
     may_roll f.shows f.kept f.sound f.moment f.left_since met.only_now met.earlier first old.medium
-    (record (old.medium) { folder = c.write_saved.new.folder }) old.len old.closed given.0 s held
-    given.1 same
+    (record (old.medium) { folder = c.write_saved.new.folder }) old.len old.closed given.0 given.1 s
+    held given.2 same
     (places_from c.args.next (length s.blocks - same)) there.0 c.values-values.result
-    c.in-Ok.head given.2 c.if-self.false refl c.write_saved.ensures.stays there.1 there.2
+    c.in-Ok.head given.3 c.if-self.false refl c.write_saved.ensures.stays there.1 there.2
     c.values-values.ensures
     c.in-Ok.ensures.saved c.in-Ok.ensures.stands in
-    (given.0, made, rolls)
-
-pub returns-in-Ok-roll-clause-held : goal.returns-in-Ok-roll-clause-held
-returns-in-Ok-roll-clause-held g c events parts may =
-    let f = g.F.Folder in
-    let met = g.met.F.Folder in
-    let old = c.args.self.now.events.journal in
-    let s = c.args.snapshot.now in
-    let held = c.args.held.now in
-    let same = c.args.same in
-    let first = g.N.Beginning.first in
-    let there = c.in-Ok.ensures.there in
-    let made = take same parts ++ there.0 in
-    let rolls =
-    may_roll f.shows f.kept f.sound f.moment f.left_since met.only_now met.earlier first old.medium
-    (record (old.medium) { folder = c.write_saved.new.folder }) old.len old.closed events s held
-    parts same
-    (places_from c.args.next (length s.blocks - same)) there.0 c.values-values.result
-    c.in-Ok.head may c.if-self.false refl c.write_saved.ensures.stays there.1 there.2
-    c.values-values.ensures
-    c.in-Ok.ensures.saved c.in-Ok.ensures.stands in
-    c.in-Ok-roll.ensures.held events made rolls
+    (given.0, given.1, made, rolls)
 
 pub returns-in-Ok-roll-clause-places : goal.returns-in-Ok-roll-clause-places
-returns-in-Ok-roll-clause-places g c events parts may =
+returns-in-Ok-roll-clause-places g c events after parts may =
     let f = g.F.Folder in
     let met = g.met.F.Folder in
     let old = c.args.self.now.events.journal in
@@ -198,7 +171,7 @@ returns-in-Ok-roll-clause-places g c events parts may =
     let made = take same parts ++ there.0 in
     let rolls =
     may_roll f.shows f.kept f.sound f.moment f.left_since met.only_now met.earlier first old.medium
-    (record (old.medium) { folder = c.write_saved.new.folder }) old.len old.closed events s held
+    (record (old.medium) { folder = c.write_saved.new.folder }) old.len old.closed events after s held
     parts same
     (places_from c.args.next (length s.blocks - same)) there.0 c.values-values.result
     c.in-Ok.head may c.if-self.false refl c.write_saved.ensures.stays there.1 there.2
@@ -212,41 +185,14 @@ returns-in-Ok-roll-clause-places g c events parts may =
     (sym (named ∙ ap (λ (h : Saved). h.places) c.in-Ok.ensures.saved))
     ∙ ap (λ (v : Values). save v s c.in-Ok-from_slice.places.items) c.values-values.ensures) in (
       made,
-      like_made f.shows f.kept f.sound f.moment f.left_since met.only_now met.earlier first old.medium old.len old.closed events s held parts same there.0 may there.1,
+      like_made f.shows f.kept f.sound f.moment f.left_since met.only_now met.earlier first old.medium old.len old.closed events after s held parts same there.0 may there.1,
       subst (λ (x : Saved). HoldsThese f.shows f.kept f.sound f.moment f.left_since first
-          now.medium now.len now.closed events x made []) is
-          (c.in-Ok-roll.ensures.alone events made rolls),
+          now.medium now.len now.closed after x made []) is
+          (c.in-Ok-roll.ensures.alone events after made rolls),
     )
 
-pub returns-in-Ok-roll-clause-any_moment : goal.returns-in-Ok-roll-clause-any_moment
-returns-in-Ok-roll-clause-any_moment g c events parts may opened =
-    let f = g.F.Folder in
-    let met = g.met.F.Folder in
-    let old = c.args.self.now.events.journal in
-    let s = c.args.snapshot.now in
-    let held = c.args.held.now in
-    let same = c.args.same in
-    let first = g.N.Beginning.first in
-    let there = c.in-Ok.ensures.there in
-    let made = take same parts ++ there.0 in
-    let rolls =
-    may_roll f.shows f.kept f.sound f.moment f.left_since met.only_now met.earlier first old.medium
-    (record (old.medium) { folder = c.write_saved.new.folder }) old.len old.closed events s held
-    parts same
-    (places_from c.args.next (length s.blocks - same)) there.0 c.values-values.result
-    c.in-Ok.head may c.if-self.false refl c.write_saved.ensures.stays there.1 there.2
-    c.values-values.ensures
-    c.in-Ok.ensures.saved c.in-Ok.ensures.stands in
-    finds_on f.moment f.left_since first events old.medium.folder c.write_saved.new.folder
-    c.roll.new.self.events.journal.medium.folder
-    (writing_finds f.shows f.kept f.sound f.moment f.left_since met.only_now met.earlier first old.medium
-    (record (old.medium) { folder = c.write_saved.new.folder }) old.len old.closed events s held
-    parts same may c.if-self.false
-    c.write_saved.ensures.stays)
-    (c.in-Ok-roll.ensures.any_moment events made rolls c.if-self.false)
-
 pub returns-clause-held : goal.returns-clause-held
-returns-clause-held g c events parts may =
+returns-clause-held g c events after parts may =
     let f = g.F.Folder in
     let met = g.met.F.Folder in
     let old = c.args.self.now.events.journal in
@@ -258,16 +204,16 @@ returns-clause-held g c events parts may =
     let made = take same parts ++ there.0 in
     let rolls =
     may_roll f.shows f.kept f.sound f.moment f.left_since met.only_now met.earlier first old.medium
-    (record (old.medium) { folder = c.write_saved.new.folder }) old.len old.closed events s held
+    (record (old.medium) { folder = c.write_saved.new.folder }) old.len old.closed events after s held
     parts same
     (places_from c.args.next (length s.blocks - same)) there.0 c.values-values.result
     c.in-Ok.head may c.if-self.false refl c.write_saved.ensures.stays there.1 there.2
     c.values-values.ensures
     c.in-Ok.ensures.saved c.in-Ok.ensures.stands in
-    c.in-Err-roll.ensures.held events made rolls
+    c.in-Err-roll.ensures.held events after made rolls
 
 pub returns-clause-same : goal.returns-clause-same
-returns-clause-same g c events parts may goes_on =
+returns-clause-same g c events after parts may goes_on =
     let f = g.F.Folder in
     let met = g.met.F.Folder in
     let old = c.args.self.now.events.journal in
@@ -278,39 +224,12 @@ returns-clause-same g c events parts may goes_on =
     let h = may.holds.0 in
     c.in-Err-roll.ensures.same events h.saved h.parts h.late
     (still_these f.shows f.kept f.sound f.moment f.left_since met.only_now met.earlier first old.medium
-    (record (old.medium) { folder = c.write_saved.new.folder }) old.len old.closed events s held
+    (record (old.medium) { folder = c.write_saved.new.folder }) old.len old.closed events after s held
     parts same may c.if-self.false refl
     c.write_saved.ensures.stays) goes_on
 
-pub returns-clause-any_moment : goal.returns-clause-any_moment
-returns-clause-any_moment g c events parts may opened =
-    let f = g.F.Folder in
-    let met = g.met.F.Folder in
-    let old = c.args.self.now.events.journal in
-    let s = c.args.snapshot.now in
-    let held = c.args.held.now in
-    let same = c.args.same in
-    let first = g.N.Beginning.first in
-    let there = c.in-Ok.ensures.there in
-    let made = take same parts ++ there.0 in
-    let rolls =
-    may_roll f.shows f.kept f.sound f.moment f.left_since met.only_now met.earlier first old.medium
-    (record (old.medium) { folder = c.write_saved.new.folder }) old.len old.closed events s held
-    parts same
-    (places_from c.args.next (length s.blocks - same)) there.0 c.values-values.result
-    c.in-Ok.head may c.if-self.false refl c.write_saved.ensures.stays there.1 there.2
-    c.values-values.ensures
-    c.in-Ok.ensures.saved c.in-Ok.ensures.stands in
-    finds_on f.moment f.left_since first events old.medium.folder c.write_saved.new.folder
-    c.roll.new.self.events.journal.medium.folder
-    (writing_finds f.shows f.kept f.sound f.moment f.left_since met.only_now met.earlier first old.medium
-    (record (old.medium) { folder = c.write_saved.new.folder }) old.len old.closed events s held
-    parts same may c.if-self.false
-    c.write_saved.ensures.stays)
-    (c.in-Err-roll.ensures.any_moment events made rolls c.if-self.false)
-
 pub returns-in-Ok-roll-clause-leaves : goal.returns-in-Ok-roll-clause-leaves
-returns-in-Ok-roll-clause-leaves g c events parts may opened =
+returns-in-Ok-roll-clause-leaves g c events after parts may opened =
     let f = g.F.Folder in
     let met = g.met.F.Folder in
     let old = c.args.self.now.events.journal in
@@ -323,29 +242,39 @@ returns-in-Ok-roll-clause-leaves g c events parts may opened =
     let places = places_from c.args.next (length s.blocks - same) in
     let rolls =
     may_roll f.shows f.kept f.sound f.moment f.left_since met.only_now met.earlier first old.medium
-    (record (old.medium) { folder = c.write_saved.new.folder }) old.len old.closed events s held
+    (record (old.medium) { folder = c.write_saved.new.folder }) old.len old.closed events after s held
     parts same places there.0 c.values-values.result c.in-Ok.head may c.if-self.false refl
     c.write_saved.ensures.stays there.1 there.2 c.values-values.ensures c.in-Ok.ensures.saved
     c.in-Ok.ensures.stands in
     let h = may.holds.0 in
     saving_leaves f.shows f.kept f.sound f.moment f.left_since met.only_now met.earlier first old.medium
-    c.write_saved.new.folder c.roll.new.self.events.journal.medium.folder old.len old.closed events s
+    c.write_saved.new.folder c.roll.new.self.events.journal.medium.folder old.len old.closed events after s
     held parts same first.values c.values-values.result (take same held ++ places) made c.in-Ok.head may
     opened c.write_saved.ensures.stays
     (like_made f.shows f.kept f.sound f.moment f.left_since met.only_now met.earlier first old.medium
-    old.len old.closed events s held parts same there.0 may there.1)
+    old.len old.closed events after s held parts same there.0 may there.1)
     (c.in-Ok.ensures.stands made (like_made f.shows f.kept f.sound f.moment f.left_since met.only_now
-    met.earlier first old.medium old.len old.closed events s held parts same there.0 may there.1))
+    met.earlier first old.medium old.len old.closed events after s held parts same there.0 may there.1))
     c.values-values.ensures c.in-Ok.ensures.saved
-    (c.in-Ok-roll.ensures.leaves events h.saved h.parts made h.late
+    (c.in-Ok-roll.ensures.leaves events after h.saved h.parts made h.late
     (still_these f.shows f.kept f.sound f.moment f.left_since met.only_now met.earlier first old.medium
-    (record (old.medium) { folder = c.write_saved.new.folder }) old.len old.closed events s held
+    (record (old.medium) { folder = c.write_saved.new.folder }) old.len old.closed events after s held
     parts same may c.if-self.false refl
     c.write_saved.ensures.stays)
     rolls c.if-self.false)
+
+pub returns-in-Ok-roll-clause-any_moment : goal.returns-in-Ok-roll-clause-any_moment
+returns-in-Ok-roll-clause-any_moment g c events after parts may opened =
+    let f = g.F.Folder in
+    let met = g.met.F.Folder in
+    let old = c.args.self.now.events.journal in
+    saved_finds f.shows f.kept f.sound f.moment f.left_since met.only_now met.earlier
+    g.N.Beginning.first old.medium c.roll.new.self.events.journal.medium.folder old.len old.closed events
+    after c.args.snapshot.now may.holds.0 may.world
+    (returns-in-Ok-roll-clause-leaves g c events after parts may opened)
 
 pub returns-clause-leaves : goal.returns-clause-leaves
-returns-clause-leaves g c events parts may opened =
+returns-clause-leaves g c events after parts may opened =
     let f = g.F.Folder in
     let met = g.met.F.Folder in
     let old = c.args.self.now.events.journal in
@@ -358,26 +287,36 @@ returns-clause-leaves g c events parts may opened =
     let places = places_from c.args.next (length s.blocks - same) in
     let rolls =
     may_roll f.shows f.kept f.sound f.moment f.left_since met.only_now met.earlier first old.medium
-    (record (old.medium) { folder = c.write_saved.new.folder }) old.len old.closed events s held
+    (record (old.medium) { folder = c.write_saved.new.folder }) old.len old.closed events after s held
     parts same places there.0 c.values-values.result c.in-Ok.head may c.if-self.false refl
     c.write_saved.ensures.stays there.1 there.2 c.values-values.ensures c.in-Ok.ensures.saved
     c.in-Ok.ensures.stands in
     let h = may.holds.0 in
     saving_leaves f.shows f.kept f.sound f.moment f.left_since met.only_now met.earlier first old.medium
-    c.write_saved.new.folder c.roll.new.self.events.journal.medium.folder old.len old.closed events s
+    c.write_saved.new.folder c.roll.new.self.events.journal.medium.folder old.len old.closed events after s
     held parts same first.values c.values-values.result (take same held ++ places) made c.in-Ok.head may
     opened c.write_saved.ensures.stays
     (like_made f.shows f.kept f.sound f.moment f.left_since met.only_now met.earlier first old.medium
-    old.len old.closed events s held parts same there.0 may there.1)
+    old.len old.closed events after s held parts same there.0 may there.1)
     (c.in-Ok.ensures.stands made (like_made f.shows f.kept f.sound f.moment f.left_since met.only_now
-    met.earlier first old.medium old.len old.closed events s held parts same there.0 may there.1))
+    met.earlier first old.medium old.len old.closed events after s held parts same there.0 may there.1))
     c.values-values.ensures c.in-Ok.ensures.saved
-    (c.in-Err-roll.ensures.leaves events h.saved h.parts made h.late
+    (c.in-Err-roll.ensures.leaves events after h.saved h.parts made h.late
     (still_these f.shows f.kept f.sound f.moment f.left_since met.only_now met.earlier first old.medium
-    (record (old.medium) { folder = c.write_saved.new.folder }) old.len old.closed events s held
+    (record (old.medium) { folder = c.write_saved.new.folder }) old.len old.closed events after s held
     parts same may c.if-self.false refl
     c.write_saved.ensures.stays)
     rolls c.if-self.false)
+
+pub returns-clause-any_moment : goal.returns-clause-any_moment
+returns-clause-any_moment g c events after parts may opened =
+    let f = g.F.Folder in
+    let met = g.met.F.Folder in
+    let old = c.args.self.now.events.journal in
+    saved_finds f.shows f.kept f.sound f.moment f.left_since met.only_now met.earlier
+    g.N.Beginning.first old.medium c.roll.new.self.events.journal.medium.folder old.len old.closed events
+    after c.args.snapshot.now may.holds.0 may.world
+    (returns-clause-leaves g c events after parts may opened)
 
 pub returns-in-Ok-roll-clause-len : goal.returns-in-Ok-roll-clause-len
 returns-in-Ok-roll-clause-len g c =
@@ -515,3 +454,11 @@ returns-in-Ok-roll-clause-written g c =
     (λ files among there. there_beside f.shows f.kept places files mid new c.roll.ensures.others among there)
     (subst (λ (v : Values). EachSays f.shows f.kept v places mid) c.values-values.ensures
     c.in-Ok.ensures.says)
+
+-- what the fault tells
+
+pub returns-in-Err-clause-cause : goal.returns-in-Err-clause-cause
+returns-in-Err-clause-cause g c =
+    let f = g.F.Folder in
+    subst (λ (b : Bool). IsRollCause b (f.failed c.write_saved.new.folder) c.in-Err.fault)
+    (sym c.if-self.false) c.in-Err.ensures.cause

@@ -10,13 +10,13 @@ pub sweep_blocks-requires-clause-held : goal.sweep_blocks-requires-clause-held
 sweep_blocks-requires-clause-held g c = c.requires c.if-self.false
 
 pub returns-then-self-clause-held : goal.returns-then-self-clause-held
-returns-then-self-clause-held g c events parts at held = held
+returns-then-self-clause-held g c events after parts at held = held
 
 pub returns-then-self-clause-any_moment : goal.returns-then-self-clause-any_moment
 returns-then-self-clause-any_moment g c events parts before at found = found
 
 pub returns-clause-held : goal.returns-clause-held
-returns-clause-held g c events parts at held =
+returns-clause-held g c events after parts at held =
     let swept = c.sweep_blocks.ensures.held events parts (at c.if-self.false) in
     inl swept.0
 

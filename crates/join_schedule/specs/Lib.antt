@@ -1,0 +1,4 @@
+pub mod Blocks
+pub mod Windows
+pub mod Neighbours
+pub mod Expiry
