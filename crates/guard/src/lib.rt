@@ -3,8 +3,8 @@
 //! A server on 127.0.0.1 is reached by each page in that machine's browser and by each local user.
 //! [`Rules`] say what is asked of a request beyond its form: that it changes nothing
 //! (`read_only`), or that it comes from no page, names this machine and, if it changes the store,
-//! bears a [`Token`]. [`Rules::judge`] judges the [`Claims`] of a request's head: exactly the requests of
-//! `judgement` (`specs/Judging.antt`) are admitted. Without rules each is.
+//! bears a [`Token`]. [`Rules::judge`] judges the [`Claims`] of a request's head: exactly the
+//! requests of `judgement` (`specs/Judging.antt`) are admitted. Without rules each is.
 //!
 //! ```
 //! let claims = Claims {

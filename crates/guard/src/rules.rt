@@ -12,8 +12,8 @@ use crate::token::{Token, bears};
 pub struct Rules {
     /// Nothing changes the store.
     pub read_only: bool,
-    /// Each request comes from no page and names this machine, and each that changes the store bears
-    /// this token.
+    /// Each request comes from no page and names this machine, and each that changes the store
+    /// bears this token.
     pub token: Option<Token>,
 }
 

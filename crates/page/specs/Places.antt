@@ -33,8 +33,9 @@ first_fault lines name =
     option_map (λ (line : Line). line.judgement)
     (find (λ (line : Line). is_of name line.subject && is_fault line.judgement) lines)
 
--- What is said of the part at a place: what the line at that place says of it, since there is a line
--- for each part, in order. Where the lines are of refused files alone, it is the fault that is named.
+-- What is said of the part at a place: what the line at that place says of it, since there is a
+-- line for each part, in order. If the lines are of refused files alone, it is the fault that is
+-- named.
 abbrev pub judgement_at : List Line → ℕ → PartName → Option Judgement
 judgement_at lines at name = option_or (own_judgement lines at name) (first_fault lines name)
 
