@@ -7,7 +7,7 @@ use Rattle.block_upkeep.specs.declared.limits.Upkeep.{Upkeep}
 -- began with so many blocks
 abbrev pub limits_of : Upkeep → ℕ → ℕ → Limits
 limits_of upkeep cut begun = record {
-  samples = 33554432;
+  samples = upkeep.join_samples;
   series = 1048576;
   bytes = 1073741824;
   cut = cut;

@@ -8,6 +8,7 @@
 //! let upkeep = Upkeep {
 //!     keep: Some(25),
 //!     keep_bytes: None,
+//!     join_samples: 33_554_432,
 //! };
 //! let block = |from, to, samples| Shape {
 //!     from,

@@ -15,10 +15,9 @@ pub struct Upkeep {
     pub keep: Option<u64>,
     /// How many bytes the blocks may have before the oldest samples leave. None is any number.
     pub keep_bytes: Option<u64>,
+    /// The most samples of a joined block: a join has some 70 bytes for each in memory.
+    pub join_samples: u64,
 }
-
-/// The most samples of a joined block: a join has some 70 bytes for each in memory.
-const MOST_SAMPLES: u64 = 33_554_432;
 
 /// The most series of the blocks that are joined.
 const MOST_SERIES: u64 = 1_048_576;
@@ -49,7 +48,7 @@ impl Upkeep {
         ensures { result ≡ limits_of self.now cut begun }
     {
         let limits = Limits {
-            samples: MOST_SAMPLES,
+            samples: self.join_samples,
             series: MOST_SERIES,
             bytes: MOST_BYTES,
             cut,

@@ -40,13 +40,14 @@ IsKeepOf (Some text) (Some keep) = IsSpan text.now keep
 
 -- the bytes of so many GB, as far as they can be counted; none of 0
 abbrev pub bytes_of : ℕ → Option ℕ
-bytes_of gb = if gb == 0 then None else Some (min (gb * 1073741824) 18446744073709551615)
+bytes_of gb = if gb == 0 then None else Some (min (gb * 1000000000) 18446744073709551615)
 
 -- what is done with the blocks of a store that is kept and cut
 pub record IsUpkeepOf (serving : Serving) (upkeep : Upkeep) : Type 0 where
   pub tended : IsTended serving
   pub keep : IsKeepOf serving.keep upkeep.keep
   pub bytes : upkeep.keep_bytes ≡ bytes_of serving.keep_gb
+  pub joins : upkeep.join_samples ≡ serving.join_samples
 
 -- why the options are refused: their store is not kept or not cut, or no span is written; or memory
 -- failed

@@ -21,9 +21,9 @@ ghost use Rattle.commands.specs.Lines.{AreTakenByClap, AreRefusedByClap, IsFound
 ghost use Rattle.commands.specs.Lines.{texts_of};
 
 use crate::help::{
-    BACKUPS, CHECKS, COPY, CUT_AFTER, CUT_EVERY, DATA, EXAMPLE, FROM, GUARD, IDLE, JOURNAL_MB,
-    JOURNALS, KEEP, KEEP_GB, PATH, PORT, PROMETHEUS_PORT, PROMETHEUS_WORKERS, QUIET, READ_ONLY,
-    REQUESTS, SERVES, SOURCE, STATUS_PORT, STATUSES, TO, VERSION, WORKERS,
+    BACKUPS, CHECKS, COPY, CUT_AFTER, CUT_EVERY, DATA, EXAMPLE, FROM, GUARD, IDLE, JOIN_SAMPLES,
+    JOURNAL_MB, JOURNALS, KEEP, KEEP_GB, PATH, PORT, PROMETHEUS_PORT, PROMETHEUS_WORKERS, QUIET,
+    READ_ONLY, REQUESTS, SERVES, SOURCE, STATUS_PORT, STATUSES, TO, VERSION, WORKERS,
 };
 use clap::builder::ValueParser;
 use clap::error::ErrorKind;
@@ -73,6 +73,8 @@ pub struct Serving<'a> {
     pub keep: Option<&'a str>,
     /// How many GB its blocks may have before the oldest samples leave, or 0 for any number.
     pub keep_gb: u64,
+    /// How many samples a block may have that is joined of others.
+    pub join_samples: u64,
 }
 
 /// What is read, as it was written.
@@ -260,6 +262,7 @@ fn serve<'a>(alloc: Global) -> Result<Command<'a>, AllocError>
     counts(alloc)?
         .arg(text(alloc, "keep", "D", KEEP))?
         .arg(count(alloc, "keep-gb", "GB", (1, 1048576), KEEP_GB))?
+        .arg(count(alloc, "join-samples", "N", (1, 67108864), JOIN_SAMPLES))?
         .arg(flag(alloc, "read-only", READ_ONLY))?
         .arg(text(alloc, "guard", "FILE", GUARD))?
         .arg(text(alloc, "data", "DIR", DATA))?
@@ -403,6 +406,7 @@ fn serving_in<'a>(found: &ArgMatches<'a>) -> Serving<'a>
     let cut_after = count_in(found, "cut-after", cut_every - cut_every / 2);
     let journal_mb = count_in(found, "journal-mb", 8);
     let keep_gb = count_in(found, "keep-gb", 0);
+    let join_samples = count_in(found, "join-samples", 33_554_432);
     Serving {
         port,
         workers,
@@ -419,6 +423,7 @@ fn serving_in<'a>(found: &ArgMatches<'a>) -> Serving<'a>
         journal_mb,
         keep: given_in(found, "keep"),
         keep_gb,
+        join_samples,
     }
 }
 

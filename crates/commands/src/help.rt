@@ -110,6 +110,9 @@ pub(crate) const KEEP: &str =
 pub(crate) const KEEP_GB: &str =
     "With how many GB of blocks the oldest samples leave, 1 to 1048576 [default: never]";
 
+pub(crate) const JOIN_SAMPLES: &str =
+    "How many samples a joined block may have, 1 to 67108864 [default: 33554432]";
+
 pub(crate) const PATH: &str = "A journal, or the folder of --data that it stands in";
 
 pub(crate) const JOURNALS: &str =
@@ -226,10 +229,11 @@ the last one that lies --cut-after milliseconds, or more, before the newest samp
 floor.
 
 With --data and --cut-every, the server also joins the blocks of its cuts into fewer, and tells
-`joined N blocks into N`; so there is room for more cuts. With --keep D, samples leave once the
-block that they are in has ended for D, by the floor and by the clock: it tells `dropped samples
+`joined N blocks into N`; so there is room for more cuts. A join takes some 70 bytes of memory for
+each sample, of which a joined block has at most --join-samples. With --keep D, samples leave once
+the block that they are in has ended for D, by the floor and by the clock: it tells `dropped samples
 before T: N blocks`. With --keep-gb GB, the oldest leave as soon as the blocks have more bytes, of
-which 16 are reckoned for each sample and series. Series stay known. Both options need --data and
+which 16 are reckoned for each sample and series. Series stay known. Both need --data and
 --cut-every.
 
 A status port, and cuts, each take the room of one worker of 64, and so does each worker of the

@@ -11,7 +11,7 @@ use span_text::span_of;
 use std::alloc::Global;
 
 /// How many bytes one GB has.
-const GB: u64 = 1_073_741_824;
+const GB: u64 = 1_000_000_000;
 
 /// Whether the store is kept in a folder, and cut by itself.
 fn is_tended(serving: Serving<'_>) -> bool
@@ -85,5 +85,6 @@ pub(crate) fn upkeep_of(serving: Serving<'_>) -> Option<Upkeep>
     Some(Upkeep {
         keep: keep_of(serving),
         keep_bytes: bytes_of(serving.keep_gb),
+        join_samples: serving.join_samples,
     })
 }
