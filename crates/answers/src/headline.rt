@@ -16,10 +16,10 @@ use std::thread::Threads;
 /// The list of events that the pass has seen then begins with all that it had seen, and with the
 /// list of each receipt that it learnt. The rows are exactly those of what this list makes of the
 /// opening's content, restricted to the matchers and the range. The answer reports each part of
-/// that snapshot, with the certificate that shows that its rows are all. The first blocks of the
-/// snapshot are those that the store opened with, each with its range, its references and its label
-/// sets. If there is no snapshot, the error is `S1`, and without memory it is `memory`; then the
-/// pass knows no less than before. It waits for nobody.
+/// that snapshot, with the certificate that shows that its rows are all. If no event of the list
+/// joins blocks, the first blocks of the snapshot are those that the store opened with, each with
+/// its range, its references and its label sets. If there is no snapshot, the error is `S1`, and
+/// without memory it is `memory`; then the pass knows no less than before. It waits for nobody.
 pub fn ask<J: Naming>(
     alloc: Global,
     pass: &mut Pass<J>,

@@ -8,14 +8,27 @@ use Rattle.logbook.specs.Pages.{Book}
 use Rattle.snapshots.specs.declared.entry.Entry.{Entry}
 use Rattle.snapshots.specs.declared.entry.Mark.{Mark}
 use Rattle.snapshots.specs.declared.entry.Mark.TheVariants.{Try, Seal, Done, Void}
-use Rattle.snapshots.specs.Asking.{AreAsked, AskedBehind}
+use Rattle.snapshots.specs.Asking.{AreAsked, AskedBehind, AsksNoJoin}
 use Rattle.snapshots.specs.Grows.{Shows}
 use Rattle.snapshots.specs.Marks.{accepted, list_of, tried_of}
+use Rattle.snapshots.specs.Replays.{events_in, AreJoinless, IsAfter, KeepsFrames}
 use Rattle.snapshots.specs.Seats.{count_of}
 use Rattle.snapshots.specs.Standings.{current}
 use Rattle.snapshots.specs.Views.{Edition}
 use Rattle.snapshots.proofs.Accepts.{accepted_begins_tried, list_begins}
 use Rattle.snapshots.proofs.Accepts.{tried_done, tried_seal, tried_try, tried_void}
+
+-- if no join may be asked for, none of what was asked for joins blocks
+joinless_behind : (asked : Event → ℕ → ℕ → Type 0) → AsksNoJoin asked → (before xs : List Entry)
+    → AskedBehind asked before xs → AreJoinless (events_in xs)
+joinless_behind asked none before [] a = tt
+joinless_behind asked none before (x ∷ xs) a =
+    (none x.event x.seat (count_of x.seat before) a.0, joinless_behind asked none (before ++ x ∷ []) xs a.1)
+
+-- so the opening's blocks stand first in what these entries make
+pub blocks_stay : (asked : Event → ℕ → ℕ → Type 0) (opening s : SnapshotParts) (xs : List Entry)
+    → AreAsked asked xs → IsAfter opening xs s → AsksNoJoin asked → KeepsFrames opening s
+blocks_stay asked opening s xs a after none = after.blocks (joinless_behind asked none [] xs a.each)
 
 module _ (asked : Event → ℕ → ℕ → Type 0) where
   pub none_asked : AreAsked asked []

@@ -1,5 +1,6 @@
 -- Which events were asked for.
 use Rattle.std.specs.Prelude.{ℕ, List, [], ◌∷◌, ◌++◌}
+use Rattle.head.specs.Joins.{IsNoJoin}
 use Rattle.head.specs.Worlds.{Event}
 use Rattle.snapshots.specs.declared.entry.Entry.{Entry}
 use Rattle.snapshots.specs.Seats.{count_of}
@@ -15,3 +16,7 @@ AskedBehind asked before (e ∷ later) =
 -- asked for, and none more often than it was asked for.
 pub record AreAsked (asked : Event → ℕ → ℕ → Type 0) (entries : List Entry) : Type 0 where
   pub each : AskedBehind asked [] entries
+
+-- no join may be asked for
+abbrev pub AsksNoJoin : (Event → ℕ → ℕ → Type 0) → Type 0
+AsksNoJoin asked = (event : Event) (seat place : ℕ) → asked event seat place → IsNoJoin event

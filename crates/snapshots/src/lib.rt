@@ -18,8 +18,8 @@
 //! what a start found. Each type carries the name of its store ([`Naming`]), so a pass, a receipt
 //! and a seat of another store have other types. The name says which events were asked for, too,
 //! and what a keeper holds for good; nothing else is published. Under [`Open`] anything but joins
-//! may be asked for, so the blocks that a store was opened with stay first in it; under [`Joining`]
-//! anything.
+//! may be asked for, so the blocks that a store was opened with stay first in it (`blocks` of
+//! [`Pass::snapshot`]); under [`Joining`] anything.
 //!
 //! ```
 //! let opened = store.open::<J, &R>(rt, alloc, Vec::new(alloc), 1, 1);

@@ -42,26 +42,30 @@ impl Naming for Brand {
     ghost kept = { λ entries. Unit {0} };
 }
 
-/// The name of a store whose callers may ask for any event but a join, and count all of it as kept.
+/// The name of a store whose callers may ask for any event but a join, and for joins of blocks too
+/// if it admits them. They count all of it as kept.
 pub trait OpenNaming: Naming {
-    ghost use Rattle.std.specs.Prelude.{ℕ, List};
+    ghost use Rattle.std.specs.Prelude.{◌≡◌, ℕ, Bool, true, List};
     ghost use Rattle.head.specs.Joins.{IsNoJoin};
-    ghost use Rattle.head.specs.Worlds.{Event};
+    ghost use Rattle.head.specs.Worlds.{Event, joined};
     ghost use Rattle.snapshots.specs.declared.entry.Entry.{Entry};
+
+    ghost admits_joins: { Bool };
 
     ghost any: { (event : Event) → IsNoJoin event → (seat place : ℕ)
         → Self.asked event seat place };
 
     ghost any_kept: { (entries : List Entry) → Self.kept entries };
+
+    ghost any_join: { admits_joins ≡ true → (at count made seat place : ℕ)
+        → Self.asked (joined at count made) seat place };
 }
 
-/// The name of a store whose callers may ask for joins of blocks too.
+/// The name of a store that admits joins of blocks.
 pub trait JoiningNaming: OpenNaming {
-    ghost use Rattle.std.specs.Prelude.{ℕ};
-    ghost use Rattle.head.specs.Worlds.{joined};
+    ghost use Rattle.std.specs.Prelude.{◌≡◌, true};
 
-    ghost any_join: { (at count made seat place : ℕ)
-        → Self.asked (joined at count made) seat place };
+    ghost joins: { Self.admits_joins ≡ true };
 }
 
 /// The same name, under which any event but a join may be asked for, and all counts as kept.
@@ -84,9 +88,16 @@ impl<J: Naming> Naming for Open<J> {
 }
 
 impl<J: Naming> OpenNaming for Open<J> {
+    ghost use Rattle.std.specs.Prelude.{false};
+    ghost use Rattle.std.proofs.lemmas.Bool.{false≢true};
+
+    ghost admits_joins = { false };
+
     ghost any = { λ event none seat place. none };
 
     ghost any_kept = { λ entries. tt };
+
+    ghost any_join = { λ admitted at count made seat place. absurd (false≢true admitted) };
 }
 
 /// The same name, under which any event may be asked for, joins of blocks too, and all counts as
@@ -108,11 +119,19 @@ impl<J: Naming> Naming for Joining<J> {
 }
 
 impl<J: Naming> OpenNaming for Joining<J> {
+    ghost use Rattle.std.specs.Prelude.{true};
+
+    ghost admits_joins = { true };
+
     ghost any = { λ event none seat place. tt };
 
     ghost any_kept = { λ entries. tt };
+
+    ghost any_join = { λ admitted at count made seat place. tt };
 }
 
 impl<J: Naming> JoiningNaming for Joining<J> {
-    ghost any_join = { λ at count made seat place. tt };
+    ghost use Rattle.std.specs.Prelude.{refl};
+
+    ghost joins = { refl };
 }

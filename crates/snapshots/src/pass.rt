@@ -4,9 +4,9 @@ ghost use Rattle.std.specs.Prelude.{◌≡◌, [], length, IfOk};
 ghost use Rattle.std.specs.Arc.{arc_value};
 ghost use mathlib.Core.List.{IsPrefix};
 ghost use Rattle.left_right.specs.Sides.{view};
-ghost use Rattle.snapshots.specs.Asking.{AreAsked};
+ghost use Rattle.snapshots.specs.Asking.{AreAsked, AsksNoJoin};
 ghost use Rattle.snapshots.specs.Marks.{accepted};
-ghost use Rattle.snapshots.specs.Replays.{AreAccepted, IsAfter};
+ghost use Rattle.snapshots.specs.Replays.{AreAccepted, IsAfter, KeepsFrames};
 ghost use Rattle.snapshots.specs.Views.{nothing};
 
 use crate::entry::Entry;
@@ -98,6 +98,9 @@ impl<J: Naming> Pass<J> {
     /// than what the pass was told of, which does not occur.
     pub fn snapshot(&mut self) -> Result<Arc<Snapshot>, SnapshotError>
         ensures world { IfOk result (λ s. IsAfter J.opening self.new.seen (arc_value s)) }
+        // Where no join may be asked for, the opening's blocks stand first in it.
+        ensures blocks { IfOk result (λ s.
+            AsksNoJoin J.asked → KeepsFrames J.opening (arc_value s)) }
         ensures asked { IfOk result (λ s. AreAsked J.asked self.new.seen) }
         ensures held { IfOk result (λ s. J.kept self.new.seen) }
         ensures told { IfOk result (λ s. IsPrefix self.old.told self.new.seen) }

@@ -1,4 +1,4 @@
-use Rattle.snapshots.proofs.Asked.{accepted_asked}
+use Rattle.snapshots.proofs.Asked.{accepted_asked, blocks_stay, shows_asked}
 use Rattle.snapshots.proofs.Growing.{enters}
 use Rattle.snapshots.proofs.pass.Pass.snapshot.Goals as goal
 use Rattle.snapshots.proofs.pass.Pass.snapshot.Goals.{in-Some-taken, in-None}
@@ -19,5 +19,16 @@ pub returns-after-taken-clause-asked : goal.returns-after-taken-clause-asked
 returns-after-taken-clause-asked g c = elim c.match-taken.branch [
   | in-Some-taken w ↦ (rw w.result-is (accepted_asked g.J.Naming.asked c.log-seen.result
       (rw (c.log-seen.ensures.log, c.get.ensures) (c.in-Ok.ensures.1.0.3))))
+  | in-None w ↦ rw w.result-is tt
+]
+
+pub returns-after-taken-clause-blocks : goal.returns-after-taken-clause-blocks
+returns-after-taken-clause-blocks g c = elim c.match-taken.branch [
+  | in-Some-taken w ↦
+      let shows = c.in-Ok.ensures.1.0 in
+      rw (w.result-is, w.in-Some-taken.ensures.parts, c.get.ensures)
+      (blocks_stay g.J.Naming.asked g.J.Naming.opening _ _
+      (shows_asked g.J.Naming.asked g.J.Naming.book g.J.Naming.opening g.J.Naming.kept
+      c.in-Ok.reading.part.value.version _ shows) shows.2)
   | in-None w ↦ rw w.result-is tt
 ]
