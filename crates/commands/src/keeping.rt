@@ -33,6 +33,7 @@ use crate::files::ReadFiles;
 use crate::locking::{block_path_in, cannot_read, cannot_write, lock_data, path_in};
 use crate::process::Process;
 use crate::serve::{Doors, counts_of, passes_of, seats_of, serve_workers, watch_at, with_roles};
+use crate::upkeep::upkeep_of;
 use block_folder::Values;
 use data_folder::{Folder, HostFolder, RollError};
 use guard::Rules;
@@ -510,6 +511,7 @@ fn serve_kept<
         rt, alloc, store, found, passes, seats,
     )?;
     let workers = with_roles(alloc, opened, serving)?;
+    let workers = workers.joining(alloc, upkeep_of(serving));
     serve_workers(rt, alloc, files, workers, rules, doors, serving, out)
 }
 

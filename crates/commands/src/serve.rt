@@ -27,14 +27,14 @@ use crate::opening::open_blocks;
 use crate::process::Process;
 use crate::rules::rules_of;
 use crate::sending::send;
-use crate::upkeep::{check_upkeep, upkeep_of};
+use crate::upkeep::check_upkeep;
 use block::Block;
 use guard::Rules;
 use keeper::Keeper;
 use server::{
     Listeners, Schedule, ServeError, Shift, Terms, Watch, Workers, report_opening, serve_watched,
 };
-use snapshots::{Joining, JoiningNaming, Naming, OpenNaming, Store};
+use snapshots::{Naming, Open, OpenNaming, Store};
 use std::alloc::{AllocError, Global};
 use std::io::Write;
 use std::marker::Brand;
@@ -126,7 +126,7 @@ pub(crate) fn watch_at<'a, F>(
 /// Runs workers, and meanwhile answers those that watch, if any can.
 fn run_workers<
     'a,
-    J: JoiningNaming + Send + Sync,
+    J: OpenNaming + Send + Sync,
     K: Keeper + Drop + Send,
     R: Wait + Threads + Clock + Eprint + Sync,
     F: ReadFiles,
@@ -194,7 +194,7 @@ pub(crate) fn passes_of(serving: Serving<'_>) -> usize
 
 /// The workers of the first port, of as many as there are seats. The others serve the port of
 /// Prometheus, as many as the options ask for. One seat is for the cuts of the server itself, if
-/// the options ask for them, and for the joins of the blocks of a store that is kept.
+/// the options ask for them.
 pub(crate) fn with_roles<J: OpenNaming, C: Wait + Drop, K: Keeper + Drop>(
     alloc: Global,
     workers: Workers<J, C, K>,
@@ -211,7 +211,7 @@ pub(crate) fn with_roles<J: OpenNaming, C: Wait + Drop, K: Keeper + Drop>(
             every: serving.cut_every,
             after: serving.cut_after,
         };
-        Ok(workers.cutting(alloc, when, upkeep_of(serving)))
+        Ok(workers.cutting(when))
     }
 }
 
@@ -219,7 +219,7 @@ pub(crate) fn with_roles<J: OpenNaming, C: Wait + Drop, K: Keeper + Drop>(
 /// Returns what each has done.
 pub(crate) fn serve_workers<
     'a,
-    J: JoiningNaming + Send + Sync,
+    J: OpenNaming + Send + Sync,
     K: Keeper + Drop + Send,
     R: Wait + Threads + Net<Listener = TcpListener, Stream = TcpStream> + Clock + Eprint + Sync,
     F: ReadFiles,
@@ -284,7 +284,7 @@ fn serve_blocks<
 {
     let seats = seats_of(serving);
     let passes = passes_of(serving);
-    let opened = Workers::<Joining<J>, &R>::open(rt, alloc, store, blocks, passes, seats)?;
+    let opened = Workers::<Open<J>, &R>::open(rt, alloc, store, blocks, passes, seats)?;
     let workers = with_roles(alloc, opened, serving)?;
     serve_workers(rt, alloc, files, workers, rules, doors, serving, out)
 }

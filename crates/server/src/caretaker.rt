@@ -6,38 +6,54 @@ use crate::place::Place;
 use crate::tally::Tally;
 use block_upkeep::Upkeep;
 use keeper::Keeper;
-use snapshots::{Committer, JoiningNaming, Naming};
+use snapshots::{Committer, JoiningNaming, OpenNaming};
 use std::alloc::Global;
 use std::sync::{Arc, Wait};
 use std::time::Clock;
 
-/// Who cuts a store, joins its blocks and lets samples leave it, with a pass and a seat of its own.
+/// Who cuts a store, with a pass and a seat of its own. If there is a joiner, its blocks are joined
+/// too, and samples leave it.
 #[derive(Drop)]
-pub(crate) struct Caretaker<J: Naming> {
+pub(crate) struct Caretaker<J: OpenNaming> {
     place: Place<J>,
     cutter: Cutter,
-    joiner: Option<Joiner>,
+    joiner: Option<Joiner<J>>,
     /// How many pauses there are before it looks for a cut, and at the blocks.
     until_cut: u64,
     until_join: u64,
 }
 
-impl<J: Naming> Caretaker<J> {
-    /// One who cuts by a schedule, and tends the blocks if it is told how.
-    pub(crate) fn new(
-        alloc: Global,
-        place: Place<J>,
-        when: Schedule,
-        upkeep: Option<Upkeep>,
-    ) -> Caretaker<J> {
+impl<J: JoiningNaming> Caretaker<J> {
+    /// The same one, who tends the blocks too, if it is told how.
+    pub(crate) fn joining(self, alloc: Global, upkeep: Option<Upkeep>) -> Caretaker<J> {
+        let Caretaker {
+            place,
+            cutter,
+            joiner: _,
+            until_cut,
+            until_join,
+        } = self;
         let joiner = match upkeep {
-            Some(upkeep) => Some(Joiner::new(alloc, upkeep, when.every)),
+            Some(upkeep) => Some(Joiner::new(alloc, upkeep, cutter.every())),
             None => None,
         };
         Caretaker {
             place,
-            cutter: Cutter::new(when),
+            cutter,
             joiner,
+            until_cut,
+            until_join,
+        }
+    }
+}
+
+impl<J: OpenNaming> Caretaker<J> {
+    /// One who cuts by a schedule.
+    pub(crate) fn new(place: Place<J>, when: Schedule) -> Caretaker<J> {
+        Caretaker {
+            place,
+            cutter: Cutter::new(when),
+            joiner: None,
             until_cut: 0,
             until_join: 0,
         }
@@ -46,9 +62,7 @@ impl<J: Naming> Caretaker<J> {
     pub(crate) fn tally(&self) -> &Arc<Tally> {
         &self.place.tally
     }
-}
 
-impl<J: JoiningNaming> Caretaker<J> {
     /// Cuts the store if that is due. Looks for it only after the pauses of the look before.
     fn look_for_cut<C: Wait + Drop, K: Keeper + Drop>(
         &mut self,

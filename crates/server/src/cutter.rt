@@ -139,6 +139,11 @@ impl Cutter {
         }
     }
 
+    /// How many milliseconds lie between the times of cuts.
+    pub(crate) fn every(&self) -> u64 {
+        self.when.every
+    }
+
     /// Which cut of the store is due now. It is above the floor, and above each time that was
     /// tried. There is none if nothing was published since the last look and that look found none
     /// that waits for the clock.

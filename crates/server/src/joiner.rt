@@ -2,6 +2,7 @@
 
 use crate::clock::now_in;
 use crate::cutter::{code_of, pauses_after};
+use crate::join_right::JoinRight;
 use crate::place::Place;
 use crate::shapes::{count_ended, shape_of, shapes_of};
 use block::Block;
@@ -11,7 +12,7 @@ use head::{Event, MAX_BLOCKS, Snapshot};
 use join_schedule::{Run, Shape};
 use keeper::Keeper;
 use labels::MIN_TIME;
-use snapshots::{Committer, JoinError, JoinedRun, JoiningNaming};
+use snapshots::{Committer, JoinError, JoinedRun, JoiningNaming, OpenNaming};
 use std::alloc::{AllocError, Global};
 use std::sync::{Arc, Wait};
 use std::time::{Clock, Instant};
@@ -63,7 +64,8 @@ enum Work {
 
 /// Who joins the blocks of a store, and lets samples leave it.
 #[derive(Drop)]
-pub(crate) struct Joiner {
+pub(crate) struct Joiner<J: OpenNaming> {
+    right: JoinRight<J>,
     upkeep: Upkeep,
     /// The store is cut at multiples of so many milliseconds.
     cut: u64,
@@ -151,8 +153,9 @@ fn refused(rt: &impl Eprint, count: usize, error: JoinError) -> Outcome {
 }
 
 /// Publishes a join.
-fn publish<J: JoiningNaming, C: Wait + Drop, K: Keeper + Drop>(
+fn publish<J: OpenNaming, C: Wait + Drop, K: Keeper + Drop>(
     rt: &impl Wait,
+    right: &JoinRight<J>,
     committer: &Committer<J, C, K>,
     place: &mut Place<J>,
     run: &JoinedRun,
@@ -164,9 +167,10 @@ fn publish<J: JoiningNaming, C: Wait + Drop, K: Keeper + Drop>(
 }
 
 /// Lets blocks leave in which no sample is left.
-fn remove<J: JoiningNaming, C: Wait + Drop, K: Keeper + Drop>(
+fn remove<J: OpenNaming, C: Wait + Drop, K: Keeper + Drop>(
     rt: &(impl Wait + Eprint),
     alloc: Global,
+    right: &JoinRight<J>,
     committer: &Committer<J, C, K>,
     place: &mut Place<J>,
     part: Part,
@@ -175,7 +179,7 @@ fn remove<J: JoiningNaming, C: Wait + Drop, K: Keeper + Drop>(
     let Some(run) = removed(alloc, part) else {
         return Outcome::Later;
     };
-    match publish(rt, committer, place, &run) {
+    match publish(rt, right, committer, place, &run) {
         Ok(()) => {
             place.tally.count_removed(count as u64);
             let noun = noun_of(count);
@@ -189,7 +193,7 @@ fn remove<J: JoiningNaming, C: Wait + Drop, K: Keeper + Drop>(
 /// Lets the samples before a time leave, by a deletion without matchers. Series stay, and so do the
 /// times of their newest samples: the time is that of a block's end, which is at or below the
 /// floor.
-fn expire<J: JoiningNaming, C: Wait + Drop, K: Keeper + Drop>(
+fn expire<J: OpenNaming, C: Wait + Drop, K: Keeper + Drop>(
     rt: &(impl Wait + Eprint),
     alloc: Global,
     committer: &Committer<J, C, K>,
@@ -218,9 +222,10 @@ fn expire<J: JoiningNaming, C: Wait + Drop, K: Keeper + Drop>(
     }
 }
 
-impl Joiner {
-    pub(crate) fn new(alloc: Global, upkeep: Upkeep, cut: u64) -> Joiner {
+impl<J: JoiningNaming> Joiner<J> {
+    pub(crate) fn new(alloc: Global, upkeep: Upkeep, cut: u64) -> Joiner<J> {
         Joiner {
+            right: JoinRight::new(),
             upkeep,
             cut,
             rested: None,
@@ -228,7 +233,9 @@ impl Joiner {
             unjoined: Vec::new(alloc),
         }
     }
+}
 
+impl<J: OpenNaming> Joiner<J> {
     /// The shapes as joins see them: a block that was too much for one with others fits nowhere.
     fn joinable(&self, alloc: Global, shapes: &[Shape]) -> Result<Vec<Shape>, AllocError> {
         let mut seen = Vec::new(alloc);
@@ -297,7 +304,7 @@ impl Joiner {
     }
 
     /// Joins blocks. The new ones are made without a lock.
-    fn join<J: JoiningNaming, C: Wait + Drop, K: Keeper + Drop>(
+    fn join<C: Wait + Drop, K: Keeper + Drop>(
         &mut self,
         rt: &(impl Wait + Eprint),
         alloc: Global,
@@ -315,7 +322,7 @@ impl Joiner {
             return self.give_up(rt, blocks.as_slice());
         }
         let run = JoinedRun::of(at, blocks, made);
-        match publish(rt, committer, place, &run) {
+        match publish(rt, &self.right, committer, place, &run) {
             Ok(()) => {
                 let noun = noun_of(count);
                 let _ = eprintln!(rt; "joined {count} {noun} into {left}");
@@ -325,7 +332,7 @@ impl Joiner {
         }
     }
 
-    fn perform<J: JoiningNaming, C: Wait + Drop, K: Keeper + Drop>(
+    fn perform<C: Wait + Drop, K: Keeper + Drop>(
         &mut self,
         rt: &(impl Wait + Eprint),
         alloc: Global,
@@ -334,7 +341,7 @@ impl Joiner {
         work: Work,
     ) -> Outcome {
         match work {
-            Work::Remove(part) => remove(rt, alloc, committer, place, part),
+            Work::Remove(part) => remove(rt, alloc, &self.right, committer, place, part),
             Work::Expire { before, ended } => { expire(rt, alloc, committer, place, before, ended) }
             Work::Join(part) => self.join(rt, alloc, committer, place, part),
         }
@@ -342,7 +349,7 @@ impl Joiner {
 
     /// Does the next task for the blocks of a snapshot, if there is one. The snapshot is let go
     /// before that.
-    fn tend<J: JoiningNaming, C: Wait + Drop, K: Keeper + Drop>(
+    fn tend<C: Wait + Drop, K: Keeper + Drop>(
         &mut self,
         rt: &(impl Wait + Clock + Eprint),
         alloc: Global,
@@ -362,7 +369,7 @@ impl Joiner {
     /// Looks what is to be done for the blocks of a store, and does the next of it. It rests as
     /// long as the blocks stand as they did when nothing was left to do: so what a client deletes
     /// is looked at after the next cut.
-    pub(crate) fn look<J: JoiningNaming, C: Wait + Drop, K: Keeper + Drop>(
+    pub(crate) fn look<C: Wait + Drop, K: Keeper + Drop>(
         &mut self,
         rt: &(impl Wait + Clock + Eprint),
         alloc: Global,

@@ -31,6 +31,7 @@ mod connections;
 mod cutter;
 mod ending;
 mod error;
+mod join_right;
 mod joiner;
 mod place;
 mod places;

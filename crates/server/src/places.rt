@@ -16,14 +16,14 @@ use block::Block;
 use block_upkeep::Upkeep;
 use head::Snapshot;
 use keeper::{Keeper, NoKeeper};
-use snapshots::{Committer, Naming, OpenError, OpenNaming, Pass, Seat, Store};
+use snapshots::{Committer, JoiningNaming, Naming, OpenError, OpenNaming, Pass, Seat, Store};
 use std::alloc::{AllocError, Global};
 use std::marker::Model;
 use std::sync::{Arc, Wait};
 
 /// An open store and its workers. Contracts see how many workers of the first port there are.
 #[derive(Drop)]
-pub struct Workers<J: Naming, C: Wait + Drop, K: Keeper + Drop = NoKeeper> {
+pub struct Workers<J: OpenNaming, C: Wait + Drop, K: Keeper + Drop = NoKeeper> {
     pub(crate) committer: Committer<J, C, K>,
     pub(crate) places: Vec<Place<J>>,
     /// Those that serve the port of Prometheus.
@@ -32,7 +32,7 @@ pub struct Workers<J: Naming, C: Wait + Drop, K: Keeper + Drop = NoKeeper> {
     pub(crate) caretaker: Option<Caretaker<J>>,
 }
 
-impl<J: Naming, C: Wait + Drop, K: Keeper + Drop> Model for Workers<J, C, K> {
+impl<J: OpenNaming, C: Wait + Drop, K: Keeper + Drop> Model for Workers<J, C, K> {
     ghost use Rattle.std.specs.Prelude.{ℕ, vec_len};
 
     ghost Value = { ℕ };
@@ -157,9 +157,8 @@ impl<J: OpenNaming, C: Wait + Drop, K: Keeper + Drop> Workers<J, C, K> {
     }
 
     /// One worker fewer. What was its own is for cuts that the store makes by itself. Each is made
-    /// as soon as it is due by `cut_schedule`. If it is told how, the store also joins its blocks
-    /// and lets old samples leave.
-    pub fn cutting(self, alloc: Global, when: Schedule, upkeep: Option<Upkeep>) -> Workers<J, C, K>
+    /// as soon as it is due by `cut_schedule`.
+    pub fn cutting(self, when: Schedule) -> Workers<J, C, K>
         requires { 0 < self }
         ensures { result + 1 ≡ self }
     {
@@ -178,7 +177,34 @@ impl<J: OpenNaming, C: Wait + Drop, K: Keeper + Drop> Workers<J, C, K> {
             places,
             receivers,
             spare,
-            caretaker: Some(Caretaker::new(alloc, place, when, upkeep)),
+            caretaker: Some(Caretaker::new(place, when)),
+        }
+    }
+}
+
+impl<J: JoiningNaming, C: Wait + Drop, K: Keeper + Drop> Workers<J, C, K> {
+    /// If the store makes cuts by itself and it is told how, it also joins its blocks and lets old
+    /// samples leave.
+    pub fn joining(self, alloc: Global, upkeep: Option<Upkeep>) -> Workers<J, C, K>
+        ensures { result ≡ self }
+    {
+        let Workers {
+            committer,
+            places,
+            receivers,
+            spare,
+            caretaker,
+        } = self;
+        let caretaker = match caretaker {
+            Some(caretaker) => Some(caretaker.joining(alloc, upkeep)),
+            None => None,
+        };
+        Workers {
+            committer,
+            places,
+            receivers,
+            spare,
+            caretaker,
         }
     }
 }

@@ -16,7 +16,7 @@ use crate::tending::{is_tended, tend_while};
 use crate::worker::{Shift, work};
 use guard::Rules;
 use keeper::Keeper;
-use snapshots::{Committer, JoiningNaming, OpenNaming, Pass};
+use snapshots::{Committer, OpenNaming, Pass};
 use std::alloc::{AllocError, Global};
 use std::net::TcpListener;
 use std::sync::atomic::{AtomicBool, Ordering};
@@ -201,7 +201,7 @@ where
 /// Serves as [`run_ports`] does, and tends the store at the same time.
 fn run_tended<
     'a,
-    J: JoiningNaming + Send + Sync,
+    J: OpenNaming + Send + Sync,
     C: Wait + Drop + Send + Sync,
     K: Keeper + Drop + Send,
     R: Threads + Wait + Clock + Eprint + Sync,
@@ -252,7 +252,7 @@ where
 /// `NoListener` is returned if a worker has ended because there is no listener any more.
 pub fn serve<
     'a,
-    J: JoiningNaming + Send + Sync,
+    J: OpenNaming + Send + Sync,
     C: Wait + Drop + Send + Sync,
     K: Keeper + Drop + Send,
     R: Threads + Wait + Clock + Eprint + Sync,
@@ -311,7 +311,7 @@ fn tallies_of<J: OpenNaming>(
 /// Answers the clients of the status port, and tends the store if that is needed, until that is
 /// over.
 fn watch_and_tend<
-    J: JoiningNaming + Send + Sync,
+    J: OpenNaming + Send + Sync,
     C: Wait + Drop + Send + Sync,
     K: Keeper + Drop + Send,
     R: Threads + Wait + Clock + Eprint + Sync,
@@ -343,7 +343,7 @@ where
 /// Serves as [`serve`] does, and answers the clients of the status port at the same time.
 pub fn serve_watched<
     'a,
-    J: JoiningNaming + Send + Sync,
+    J: OpenNaming + Send + Sync,
     C: Wait + Drop + Send + Sync,
     K: Keeper + Drop + Send,
     R: Threads + Wait + Clock + Eprint + Sync,

@@ -3,7 +3,7 @@
 use crate::caretaker::Caretaker;
 use crate::cutter::PAUSE;
 use keeper::{KeepError, Keeper};
-use snapshots::{Committer, JoiningNaming, OpenNaming};
+use snapshots::{Committer, OpenNaming};
 use std::alloc::Global;
 use std::sync::Wait;
 use std::sync::atomic::{AtomicBool, Ordering};
@@ -48,12 +48,7 @@ fn save<J: OpenNaming, C: Wait + Drop, K: Keeper + Drop>(
 
 /// Looks now and then whether the store is to be cut, joined or saved, and does so, until that is
 /// over.
-pub(crate) fn tend_while<
-    J: JoiningNaming,
-    C: Wait + Drop,
-    K: Keeper + Drop,
-    R: Wait + Clock + Eprint,
->(
+pub(crate) fn tend_while<J: OpenNaming, C: Wait + Drop, K: Keeper + Drop, R: Wait + Clock + Eprint>(
     rt: &R,
     alloc: Global,
     caretaker: Option<Caretaker<J>>,

@@ -5,7 +5,7 @@ ghost use Rattle.head.specs.Blocks.{opening_of};
 
 use guard::Rules;
 use server::{Listeners, Terms, Workers, serve};
-use snapshots::{Joining, JoiningNaming, Naming, Store};
+use snapshots::{Naming, Open, OpenNaming, Store};
 use std::alloc::Global;
 use std::io::{Read, Write};
 use std::marker::Brand;
@@ -73,7 +73,7 @@ fn ask_all<R: Net<Stream = TcpStream>>(
 
 /// Whether the workers all ended.
 fn serve_all<
-    J: JoiningNaming + Send + Sync,
+    J: OpenNaming + Send + Sync,
     C: Wait + Drop + Send + Sync,
     R: Threads + Wait + Clock + Eprint + Sync,
 >(rt: &R, alloc: Global, workers: Workers<J, C>, listener: &TcpListener) -> bool {
@@ -92,7 +92,7 @@ fn serve_all<
 
 /// The replies to these requests, asked by a thread beside the workers, if the workers all ended.
 fn serve_beside<
-    J: JoiningNaming + Send + Sync,
+    J: OpenNaming + Send + Sync,
     C: Wait + Drop + Send + Sync,
     R: Threads + Wait + Clock + Eprint + Net<Stream = TcpStream> + Sync,
 >(
@@ -135,7 +135,7 @@ fn replies_of_two<
     requires opening { opening_of [] ≡ J.opening }
 {
     let port = port_of(listener)?;
-    let workers = Workers::<Joining<J>, &R>::open(rt, alloc, store, Vec::new(alloc), 2, 2).ok()?;
+    let workers = Workers::<Open<J>, &R>::open(rt, alloc, store, Vec::new(alloc), 2, 2).ok()?;
     serve_beside(rt, alloc, workers, listener, port, asked)
 }
 
