@@ -83,7 +83,7 @@ class Blocks(Folders):
 
 
 def cuts(them, looks):
-    """Blocks of cuts: they are written once, and again after a deletion."""
+    """Blocks of cuts: they are written once, and each again after a deletion from it."""
     folder, world = them.kept(session())
     looks.that("no start, no block", not os.path.exists(f"{folder}/blocks"))
     numbers = [1, 2, 3]
@@ -116,12 +116,18 @@ def cuts(them, looks):
         looks.at(event.line(), OK, server.tell(event), tell=False)
         world.apply(event)
     server.end()
-    numbers = [5, 6, 7, 8, 9]
+    numbers = [5, 2, 3, 4, 6]
     server = them.again(
         "after a deletion", folder, [recovered(2, blocks=4), rolled(folder, Head.of(world, numbers))], world,
         numbers, 2,
     )
     them.there("after a deletion", folder, world, numbers)
+    last = tree(folder)
+    others = [name for name in now if name.startswith(("blocks/2/", "blocks/3/", "blocks/4/"))]
+    looks.that(
+        "blocks from which nothing was deleted stay as they were",
+        others and all(last.get(name, 0) == now[name] for name in others),
+    )
     server.end()
     server = them.again("and once more", folder, [recovered(0, blocks=5)], world, numbers)
     server.end()
@@ -138,7 +144,7 @@ def cuts(them, looks):
         looks.at(event.line(), OK, server.tell(event), tell=False)
         world.apply(event)
     server.end()
-    numbers = list(range(10, 10 + len(world.blocks)))
+    numbers = [7, 2, 3, 4, 6, *range(8, 3 + len(world.blocks))]
     server = them.again(
         "an empty block", folder, [recovered(2, blocks=5), rolled(folder, Head.of(world, numbers))], world,
         numbers, 2,

@@ -72,7 +72,7 @@ pub(crate) fn begin_with<F: Folder + Drop>(
     ensures refused { IfErr result (λ e. IsOfTarget e.0) }
 {
     let mut folder = folder;
-    let head = match write_saved(alloc, &mut folder, snapshot, &[], 0, 1, values) {
+    let head = match write_saved(alloc, &mut folder, snapshot, &[], &[], 1, values) {
         Ok(head) => head,
         Err(fault) => return Err((CopyFault::Write(fault), folder)),
     };

@@ -1,7 +1,6 @@
 -- The blocks that a head names, and those in memory.
-use Rattle.std.proofs.Common.{◌≡◌, ◌≤◌, inl, inr, ⊎_elim, ℕ, zero, suc, Bool, true, false, List}
-use Rattle.std.proofs.Common.{[], ◌∷◌, ◌++◌, append_assoc}
-use Rattle.std.proofs.Common.{Option, Ok, length, take, refl, sym, ap, subst, subst₂, ◌∙◌, arith}
+use Rattle.std.proofs.Common.{◌≡◌, inl, inr, ⊎_elim, ℕ, suc, Bool, true, false, List, [], ◌∷◌, ◌++◌}
+use Rattle.std.proofs.Common.{append_assoc, Option, Ok, length, refl, sym, ap, subst, subst₂, ◌∙◌}
 use Rattle.data_folder.specs.declared.journal_file.JournalFile.{JournalFile}
 use Rattle.data_folder.specs.Folders.{Left, MayLeaveOf}
 use Rattle.head.specs.Heads.{BlockPart, SnapshotParts, world_of}
@@ -12,26 +11,14 @@ use Rattle.store_folder.specs.Holding.{HoldsOrLostBetween, HoldsStoreBetween, Is
 use Rattle.store_folder.specs.Holding.{StandsForMore}
 use Rattle.store_folder.specs.KeeperLaws.{now_found}
 use Rattle.store_folder.specs.Origins.{Origin}
-use Rattle.store_folder.specs.Saving.{MaySave}
+use Rattle.store_folder.specs.Saving.{AreFound, MaySave}
 use Rattle.store_folder.specs.States.{StandsFor}
-use Rattle.store_folder.specs.Writing.{AreLike}
+use Rattle.store_folder.specs.Writing.{AreLike, IsLike}
+use Rattle.store_folder.proofs.Found.{found_like}
 
 pub like_all : (blocks : List BlockPart) → AreLike blocks blocks
 like_all [] = tt
 like_all (b ∷ blocks) = (record { min = refl; max = refl; points = refl }, like_all blocks)
-
-pub like_taken : (n : ℕ) (a b : List BlockPart) → AreLike a b → AreLike (take n a) (take n b)
-like_taken zero a b l = tt
-like_taken (suc n) [] [] l = tt
-like_taken (suc n) [] (y ∷ b) l = absurd l
-like_taken (suc n) (x ∷ a) [] l = absurd l
-like_taken (suc n) (x ∷ a) (y ∷ b) l = (l.0, like_taken n a b l.1)
-
-pub length_like : (a b : List BlockPart) → AreLike a b → length a ≡ length b
-length_like [] [] l = refl
-length_like [] (y ∷ b) l = absurd l
-length_like (x ∷ a) [] l = absurd l
-length_like (x ∷ a) (y ∷ b) l = ap suc (length_like a b l.1)
 
 -- what stands for more events, and more, stands for fewer, and more
 pub stands_more : (first : Origin) (events more : List Event) (left : Left)
@@ -124,31 +111,25 @@ module _ {F : Type 0} (shows : F → List ℕ → Option (List ℕ) → Type 0)
         (lost.leaves left had);
   })
 
-  -- a snapshot may be saved, of which these blocks are the first
+  -- a snapshot may be saved, whose blocks are found among these where they are the same
   abbrev pub may_save : (first : Origin) (m : JournalFile F) (len : ℕ) (closed : Bool)
-      (events after : List Event) (places held : List Place)
-      (blocks shown others : List BlockPart) (s : SnapshotParts) (same : ℕ)
-      (h : Like first m len closed events places blocks)
-      → replayed first.world after ≡ Ok (world_of s) → held ≡ places → shown ≡ s.blocks
-      → others ≡ blocks → same ≤ length others → take same shown ≡ take same others
+      (events after : List Event) (places held looked : List Place)
+      (blocks shown others : List BlockPart) (s : SnapshotParts)
+      (found given : List (Option Place)) (h : Like first m len closed events places blocks)
+      → replayed first.world after ≡ Ok (world_of s) → held ≡ places → looked ≡ places
+      → shown ≡ s.blocks → others ≡ blocks → given ≡ found
+      → AreFound (λ (block part : BlockPart). block ≡ part) looked others found shown
       → MaySave shows kept sound moment left_since first m len closed events after s held h.0.parts
-      same
-  may_save first m len closed events after places held blocks shown others s same h world is snaps
-      mine few front =
-      let long : length held ≡ length blocks =
-      ap (λ (ps : List Place). length ps) (is ∙ sym h.1)
-      ∙ (as_many h.0.saved.places h.0.parts m.folder h.0.blocks
-      ∙ sym (length_like blocks h.0.parts h.2)) in
-      let count : length others ≡ length blocks = ap (λ (bs : List BlockPart). length bs) mine in
-      let begins : take same s.blocks ≡ take same blocks =
-      ap (λ (bs : List BlockPart). take same bs) (sym snaps)
-      ∙ (front ∙ ap (λ (bs : List BlockPart). take same bs) mine) in
-      record {
+      given
+  may_save first m len closed events after places held looked blocks shown others s found given h
+      world is seen snaps mine so at = record {
         holds = (h.0, h.1 ∙ sym is, refl);
         world = world;
-        few = omega (arith, few, long, count);
-        front = subst (λ (bs : List BlockPart). AreLike bs (take same h.0.parts)) (sym begins)
-            (like_taken same blocks h.0.parts h.2);
+        like = subst₂ (λ (ps : List Place) (bs : List BlockPart).
+            AreFound IsLike ps h.0.parts given bs) (seen ∙ sym is) snaps
+            (subst (λ (xs : List (Option Place)). AreFound IsLike looked h.0.parts xs shown) (sym so)
+            (found_like looked others h.0.parts found shown at
+            (subst (λ (bs : List BlockPart). AreLike bs h.0.parts) (sym mine) h.2)));
       }
 
   -- what is held after a new head

@@ -2,6 +2,7 @@ pub mod Causes
 pub mod Contents
 pub mod Faults
 pub mod Files
+pub mod Found
 pub mod Fronts
 pub mod HeadsAlone
 pub mod Kept

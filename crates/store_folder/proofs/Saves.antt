@@ -1,8 +1,9 @@
 -- A snapshot that is saved.
-use Rattle.std.proofs.Common.{◌≡◌, ◌≤◌, inl, inr, ⊎_elim, ℕ, zero, suc, Bool, true, false, List, []}
-use Rattle.std.proofs.Common.{◌∷◌, ◌++◌, Option, Ok, drop, take, length, refl, sym, ap, subst, ◌∙◌}
-use Rattle.std.proofs.Common.{arith}
-use Rattle.std.proofs.lemmas.List.{append-nil, take-append-drop}
+use Rattle.std.proofs.Common.{◌≡◌, ◌≤◌, ◌+◌, inl, inr, ⊎_elim, ℕ, zero, suc, Bool, true, false, List}
+use Rattle.std.proofs.Common.{[], ◌∷◌, Option, None, Some, Ok, drop, length, refl, sym, ap, subst}
+use Rattle.std.proofs.Common.{subst₂, ◌∙◌}
+use Rattle.std.specs.Prelude.{slice_get}
+use Rattle.std.proofs.lemmas.List.{append-nil}
 use Rattle.block_folder.specs.declared.values.Values.{Values}
 use Rattle.block_rewriter.proofs.Full.{same_points}
 use Rattle.data_folder.specs.declared.journal_file.JournalFile.{JournalFile}
@@ -21,13 +22,13 @@ use Rattle.store_folder.specs.Origins.{Origin}
 use Rattle.store_folder.specs.Rewriting.{HaveSame}
 use Rattle.store_folder.specs.RewritingLaws.{same_replay}
 use Rattle.store_folder.specs.Rolls.{MayRoll}
-use Rattle.store_folder.specs.Saving.{IsOldOrSaved, MaySave}
+use Rattle.store_folder.specs.Saving.{AreFound, IsOldOrSaved, MaySave}
 use Rattle.store_folder.specs.Starting.{StartFindsEither}
 use Rattle.store_folder.specs.States.{IsEither, IsState, StandsForEither, started}
 use Rattle.store_folder.specs.Sweeps.{names_at}
-use Rattle.store_folder.specs.Writing.{AreLike, AreRewritten, IsLike, IsRewritten}
+use Rattle.store_folder.specs.Writing.{AreLike, AreRewritten, IsLike, IsRewritten, places_from}
+use Rattle.store_folder.specs.Writing.{places_with, unfound}
 use Rattle.store_folder.proofs.Swept.{holds_swept, these_leave, these_swept}
-use Rattle.store_folder.proofs.Writes.{at_joined}
 
 -- blocks that are like others
 
@@ -44,26 +45,11 @@ each_like [] (y ∷ b) w = absurd w
 each_like (x ∷ a) [] w = absurd w
 each_like (x ∷ a) (y ∷ b) w = (rewritten_like x y w.0, each_like a b w.1)
 
-like_joined : (a b c d : List BlockPart) → AreLike a b → AreLike c d → AreLike (a ++ c) (b ++ d)
-like_joined [] [] c d first second = second
-like_joined [] (y ∷ b) c d first second = absurd first
-like_joined (x ∷ a) [] c d first second = absurd first
-like_joined (x ∷ a) (y ∷ b) c d first second = (first.0, like_joined a b c d first.1 second)
-
 pub have_same : (a b : List BlockPart) → AreLike a b → HaveSame a b
 have_same [] [] l = tt
 have_same [] (y ∷ b) l = absurd l
 have_same (x ∷ a) [] l = absurd l
 have_same (x ∷ a) (y ∷ b) l = (l.0.points, have_same a b l.1)
-
--- the first of a snapshot's blocks are as before, and the others are written anew
-made_like : (same : ℕ) (blocks parts news : List BlockPart) → AreLike (take same blocks) (take same parts)
-    → AreRewritten (drop same blocks) news → AreLike blocks (take same parts ++ news)
-made_like same blocks parts news front back =
-    subst (λ (bs : List BlockPart). AreLike bs (take same parts ++ news))
-    (take-append-drop same blocks)
-    (like_joined (take same blocks) (take same parts) (drop same blocks) news front
-    (each_like (drop same blocks) news back))
 
 pub length_like : (a b : List BlockPart) → AreLike a b → length a ≡ length b
 length_like [] [] l = refl
@@ -71,24 +57,59 @@ length_like [] (y ∷ b) l = absurd l
 length_like (x ∷ a) [] l = absurd l
 length_like (x ∷ a) (y ∷ b) l = ap suc (length_like a b l.1)
 
-shorter : {A B : Type 0} (same : ℕ) (xs : List A) (ys : List B) → length (take same xs) ≡ length (take same ys)
-    → same ≤ length xs → same ≤ length ys
-shorter zero xs ys is le = omega arith
-shorter (suc same) [] ys is le = absurd (omega (arith, le))
-shorter (suc same) (x ∷ xs) [] is le = absurd (omega (arith, is))
-shorter (suc same) (x ∷ xs) (y ∷ ys) is le =
-    let rest : same ≤ length ys = shorter same xs ys (omega (arith, is)) (omega (arith, le)) in
-    omega (arith, rest)
-
 module _ {F : Type 0} (shows : F → List ℕ → Option (List ℕ) → Type 0)
     (kept : F → List ℕ → ℕ → Type 0) where
-  at_first : (same : ℕ) (ps : List Place) (bs : List BlockPart) (f : F)
-      → AreAt shows kept ps bs f → AreAt shows kept (take same ps) (take same bs) f
-  at_first zero ps bs f at = tt
-  at_first (suc same) [] [] f at = tt
-  at_first (suc same) [] (b ∷ bs) f at = absurd at
-  at_first (suc same) (p ∷ ps) [] f at = absurd at
-  at_first (suc same) (p ∷ ps) (b ∷ bs) f at = (at.0, at_first same ps bs f at.1)
+  -- one of blocks that lie there, and those behind it
+
+  at_place : (i : ℕ) (ps : List Place) (bs : List BlockPart) (p : Place) (b : BlockPart) (f : F)
+      → AreAt shows kept ps bs f → slice_get ps i ≡ Some p → slice_get bs i ≡ Some b
+      → AreAt shows kept (p ∷ []) (b ∷ []) f
+  at_place i [] bs p b f at here is = absurd cc
+  at_place i (q ∷ ps) [] p b f at here is = absurd at
+  at_place zero (q ∷ ps) (c ∷ bs) p b f at here is =
+      let same : q ≡ p = cc in
+      let block : c ≡ b = cc in
+      subst₂ (λ (r : Place) (d : BlockPart). AreAt shows kept (r ∷ []) (d ∷ []) f) same block
+      (at.0, tt)
+  at_place (suc i) (q ∷ ps) (c ∷ bs) p b f at here is = at_place i ps bs p b f at.1 here is
+
+  at_behind : (n : ℕ) (ps : List Place) (bs : List BlockPart) (f : F) → AreAt shows kept ps bs f
+      → AreAt shows kept (drop n ps) (drop n bs) f
+  at_behind zero ps bs f at = at
+  at_behind (suc n) [] [] f at = tt
+  at_behind (suc n) [] (b ∷ bs) f at = absurd at
+  at_behind (suc n) (p ∷ ps) [] f at = absurd at
+  at_behind (suc n) (p ∷ ps) (b ∷ bs) f at = at_behind n ps bs f at.1
+
+  -- the blocks that are found at their places, and the others, which are written anew
+  pub made_like : (next : ℕ) (held : List Place) (parts : List BlockPart)
+      (found : List (Option Place)) (blocks news : List BlockPart)
+      → AreFound IsLike held parts found blocks → AreRewritten (unfound found blocks) news
+      → (made : List BlockPart) × AreLike blocks made
+      × ((f : F) → AreAt shows kept held parts f
+      → AreAt shows kept (places_from next (length (unfound found blocks))) news f
+      → AreAt shows kept (places_with next found (length blocks)) made f)
+  made_like next held parts [] blocks news at anew =
+      (news, each_like blocks news anew, λ f old new. new)
+  made_like next held parts (x ∷ found) [] news at anew = absurd at
+  made_like next held parts (None ∷ found) (b ∷ blocks) [] at anew = absurd anew
+  made_like next held parts (None ∷ found) (b ∷ blocks) (y ∷ news) at anew =
+      let rest = made_like (next + 1) held parts found blocks news at anew.1 in (
+        y ∷ rest.0,
+        (rewritten_like b y anew.0, rest.1),
+        λ f old new. (new.0, rest.2 f old new.1),
+      )
+  made_like next held parts (Some p ∷ found) (b ∷ blocks) news at anew =
+      let i = at.0 in
+      let rest = made_like next (drop (i + 1) held) (drop (i + 1) parts) found blocks news at.3
+      anew in (
+        at.2.0 ∷ rest.0,
+        (at.2.2, rest.1),
+        λ f old new. (
+          (at_place i held parts p at.2.0 f old at.1 at.2.1).0,
+          rest.2 f (at_behind (i + 1) held parts f old) new,
+        ),
+      )
 
   -- so many places as blocks
   as_many : (ps : List Place) (bs : List BlockPart) (f : F) → AreAt shows kept ps bs f
@@ -110,9 +131,9 @@ module _ {F : Type 0} (shows : F → List ℕ → Option (List ℕ) → Type 0)
       HoldsAt shows kept sound moment left_since first m len closed events held parts
 
   abbrev May : Origin → JournalFile F → ℕ → Bool → List Event → List Event → SnapshotParts
-      → List Place → List BlockPart → ℕ → Type 0
-  May first m len closed events after s held parts same =
-      MaySave shows kept sound moment left_since first m len closed events after s held parts same
+      → List Place → List BlockPart → List (Option Place) → Type 0
+  May first m len closed events after s held parts found =
+      MaySave shows kept sound moment left_since first m len closed events after s held parts found
 
   abbrev Stays : List (List ℕ) → F → F → Type 0
   Stays names old new = KeepsStore shows kept sound moment left_since names old new
@@ -126,33 +147,22 @@ module _ {F : Type 0} (shows : F → List ℕ → Option (List ℕ) → Type 0)
       (subst (λ (bs : List BlockPart). AreAt shows kept at.0.saved.places bs m.folder) at.2
       at.0.blocks)
 
-  -- there are as many of the snapshot's blocks
-  pub enough : (first : Origin) (m : JournalFile F) (len : ℕ) (closed : Bool)
-      (events after : List Event) (s : SnapshotParts) (held : List Place) (parts : List BlockPart)
-      (same : ℕ) → May first m len closed events after s held parts same → same ≤ length s.blocks
-  enough first m len closed events after s held parts same may =
-      let count = as_many shows kept held parts m.folder
-      (held_blocks first m len closed events held parts may.holds) in
-      let few : same ≤ length parts = omega (arith, count, may.few) in
-      shorter same parts s.blocks
-      (sym (length_like (take same s.blocks) (take same parts) may.front)) few
-
   -- the folder is sound while the journal is open
   pub is_sound : (first : Origin) (m : JournalFile F) (len : ℕ) (closed : Bool)
       (events after : List Event) (s : SnapshotParts) (held : List Place) (parts : List BlockPart)
-      (same : ℕ) → May first m len closed events after s held parts same → closed ≡ false
+      (found : List (Option Place)) → May first m len closed events after s held parts found → closed ≡ false
       → sound m.folder ≡ true
-  is_sound first m len closed events after s held parts same may opened =
+  is_sound first m len closed events after s held parts found may opened =
       (may.holds.0.journal.keeps opened).has.is_sound
 
   -- while blocks are written the head stays, and its blocks
   pub still_these : (first : Origin) (old new : JournalFile F) (len : ℕ) (closed : Bool)
       (events after : List Event) (s : SnapshotParts) (held : List Place) (parts : List BlockPart)
-      (same : ℕ) (may : May first old len closed events after s held parts same) → closed ≡ false
+      (found : List (Option Place)) (may : May first old len closed events after s held parts found) → closed ≡ false
       → new.names ≡ old.names → Stays (names_at held) old.folder new.folder
       → HoldsThese shows kept sound moment left_since first new len closed events
       may.holds.0.saved may.holds.0.parts may.holds.0.late
-  still_these first old new len closed events after s held parts same may opened named stays =
+  still_these first old new len closed events after s held parts found may opened named stays =
       let h = may.holds.0 in
       these_swept shows kept sound moment left_since only_now earlier first old new len closed
       events h.saved h.parts h.late (names_at held) (h, refl, refl, refl) opened named
@@ -160,20 +170,20 @@ module _ {F : Type 0} (shows : F → List ℕ → Option (List ℕ) → Type 0)
 
   pub still_held : (first : Origin) (old new : JournalFile F) (len : ℕ) (closed : Bool)
       (events after : List Event) (s : SnapshotParts) (held : List Place) (parts : List BlockPart)
-      (same : ℕ) → May first old len closed events after s held parts same → closed ≡ false
+      (found : List (Option Place)) → May first old len closed events after s held parts found → closed ≡ false
       → new.names ≡ old.names → Stays (names_at held) old.folder new.folder
       → At first new len closed events held parts
-  still_held first old new len closed events after s held parts same may opened named stays =
+  still_held first old new len closed events after s held parts found may opened named stays =
       holds_swept shows kept sound moment left_since only_now earlier first old new len closed
       events held parts (names_at held) may.holds opened named refl stays
 
   pub writing_leaves : (first : Origin) (old : JournalFile F) (new : F) (len : ℕ) (closed : Bool)
       (events after : List Event) (s : SnapshotParts) (held : List Place) (parts : List BlockPart)
-      (same : ℕ) (values : Values) (may : May first old len closed events after s held parts same)
+      (found : List (Option Place)) (values : Values) (may : May first old len closed events after s held parts found)
       → closed ≡ false → Stays (names_at held) old.folder new
       → LeavesOnly moment left_since old.folder new
       (IsOldOrSaved may.holds.0.saved may.holds.0.parts may.holds.0.late values s)
-  writing_leaves first old new len closed events after s held parts same values may opened stays =
+  writing_leaves first old new len closed events after s held parts found values may opened stays =
       let h = may.holds.0 in
       weaker moment left_since old.folder new (IsState h.saved h.parts h.late)
       (IsOldOrSaved h.saved h.parts h.late values s) (λ left state. inl state)
@@ -183,8 +193,8 @@ module _ {F : Type 0} (shows : F → List ℕ → Option (List ℕ) → Type 0)
   -- and then, while the journal begins with what is saved
   pub saving_leaves : (first : Origin) (old : JournalFile F) (mid new : F) (len : ℕ) (closed : Bool)
       (events after : List Event) (s : SnapshotParts) (held : List Place) (parts : List BlockPart)
-      (same : ℕ) (values meant : Values) (places : List Place) (made : List BlockPart)
-      (saved : Saved) (may : May first old len closed events after s held parts same)
+      (found : List (Option Place)) (values meant : Values) (places : List Place) (made : List BlockPart)
+      (saved : Saved) (may : May first old len closed events after s held parts found)
       → closed ≡ false → Stays (names_at held) old.folder mid
       → AreLike s.blocks made → MayStand (started saved made) → meant ≡ values
       → saved ≡ save meant s places
@@ -192,13 +202,13 @@ module _ {F : Type 0} (shows : F → List ℕ → Option (List ℕ) → Type 0)
       (IsEither may.holds.0.saved may.holds.0.parts may.holds.0.late saved made)
       → LeavesOnly moment left_since old.folder new
       (IsOldOrSaved may.holds.0.saved may.holds.0.parts may.holds.0.late values s)
-  saving_leaves first old mid new len closed events after s held parts same values meant places made
+  saving_leaves first old mid new len closed events after s held parts found values meant places made
       saved may opened stays like stands means is leaves =
       let h = may.holds.0 in
       let named : saved ≡ save values s places = is ∙ ap (λ (v : Values). save v s places) means in
       joined_calls moment left_since old.folder mid new
       (IsOldOrSaved h.saved h.parts h.late values s)
-      (writing_leaves first old mid len closed events after s held parts same values may opened
+      (writing_leaves first old mid len closed events after s held parts found values may opened
       stays)
       (weaker moment left_since mid new (IsEither h.saved h.parts h.late saved made)
       (IsOldOrSaved h.saved h.parts h.late values s)
@@ -233,45 +243,48 @@ module _ {F : Type 0} (shows : F → List ℕ → Option (List ℕ) → Type 0)
         values = refl;
       }) x.3)) is) leaves
 
+  -- the blocks that the new head names
+  pub made_of : (first : Origin) (old : JournalFile F) (len : ℕ) (closed : Bool)
+      (events after : List Event) (s : SnapshotParts) (held : List Place) (parts : List BlockPart)
+      (found : List (Option Place)) (next : ℕ) (news : List BlockPart)
+      → May first old len closed events after s held parts found
+      → AreRewritten (unfound found s.blocks) news
+      → (made : List BlockPart) × AreLike s.blocks made
+      × ((f : F) → AreAt shows kept held parts f
+      → AreAt shows kept (places_from next (length (unfound found s.blocks))) news f
+      → AreAt shows kept (places_with next found (length s.blocks)) made f)
+  made_of first old len closed events after s held parts found next news may anew =
+      made_like shows kept next held parts found s.blocks news may.like anew
+
   -- then the journal may begin with the snapshot
   pub may_roll : (first : Origin) (old new : JournalFile F) (len : ℕ) (closed : Bool)
       (events after : List Event) (s : SnapshotParts) (held : List Place) (parts : List BlockPart)
-      (same : ℕ) (places : List Place) (news : List BlockPart) (values : Values) (saved : Saved)
-      → May first old len closed events after s held parts same → closed ≡ false
-      → new.names ≡ old.names
-      → Stays (names_at held) old.folder new.folder → AreRewritten (drop same s.blocks) news
-      → AreAt shows kept places news new.folder → values ≡ first.values
-      → saved ≡ save values s (take same held ++ places)
+      (found : List (Option Place)) (next : ℕ) (news : List BlockPart) (values : Values)
+      (saved : Saved) (may : May first old len closed events after s held parts found)
+      → closed ≡ false → new.names ≡ old.names → Stays (names_at held) old.folder new.folder
+      → (anew : AreRewritten (unfound found s.blocks) news)
+      → AreAt shows kept (places_from next (length (unfound found s.blocks))) news new.folder
+      → values ≡ first.values
+      → saved ≡ save values s (places_with next found (length s.blocks))
       → ((made : List BlockPart) → AreLike s.blocks made → MayStand (started saved made))
       → MayRoll shows kept sound moment left_since first new len closed events after saved
-      (take same parts ++ news)
-  may_roll first old new len closed events after s held parts same places news values saved may
+      (made_of first old len closed events after s held parts found next news may anew).0
+  may_roll first old new len closed events after s held parts found next news values saved may
       opened named stays anew at means is stands =
-      let holds = still_held first old new len closed events after s held parts same may opened
+      let holds = still_held first old new len closed events after s held parts found may opened
       named stays in
+      let places = places_with next found (length s.blocks) in
+      let made = made_of first old len closed events after s held parts found next news may anew in
       subst (λ (x : Saved). MayRoll shows kept sound moment left_since first new len closed events
-      after x (take same parts ++ news)) (sym is)
+      after x made.0) (sym is)
       (record {
         holds = inl holds.0;
-        world = same_replay first.world after s (save values s (take same held ++ places))
-            (take same parts ++ news)
-            (have_same s.blocks (take same parts ++ news)
-            (made_like same s.blocks parts news may.front anew)) refl refl may.world;
+        world = same_replay first.world after s (save values s places) made.0
+            (have_same s.blocks made.0 made.1) refl refl may.world;
         values = means;
-        may = subst (λ (x : Saved). MayStand (started x (take same parts ++ news))) is
-            (stands (take same parts ++ news) (made_like same s.blocks parts news may.front anew));
-        blocks = at_joined shows kept (take same held) places (take same parts) news new.folder
-            (at_first shows kept same held parts new.folder
-            (held_blocks first new len closed events held parts holds)) at;
+        may = subst (λ (x : Saved). MayStand (started x made.0)) is (stands made.0 made.1);
+        blocks = made.2 new.folder (held_blocks first new len closed events held parts holds) at;
       })
-
-  -- the blocks that the new head names
-  pub like_made : (first : Origin) (old : JournalFile F) (len : ℕ) (closed : Bool)
-      (events after : List Event) (s : SnapshotParts) (held : List Place) (parts : List BlockPart)
-      (same : ℕ) (news : List BlockPart) → May first old len closed events after s held parts same
-      → AreRewritten (drop same s.blocks) news → AreLike s.blocks (take same parts ++ news)
-  like_made first old len closed events after s held parts same news may anew =
-      made_like same s.blocks parts news may.front anew
 
   -- there are as many places as blocks
   pub so_many : (first : Origin) (m : JournalFile F) (len : ℕ) (closed : Bool)

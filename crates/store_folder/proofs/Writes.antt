@@ -26,15 +26,15 @@ names_with files = map (λ (file : Named). file.0) files
 
 -- names among names
 
-or_second : (b c : Bool) → c ≡ true → (b || c) ≡ true
+pub or_second : (b c : Bool) → c ≡ true → (b || c) ≡ true
 or_second true c h = refl
 or_second false c h = h
 
-or_first : (b c : Bool) → b ≡ true → (b || c) ≡ true
+pub or_first : (b c : Bool) → b ≡ true → (b || c) ≡ true
 or_first true c h = refl
 or_first false c h = absurd cc
 
-among_last : (before after : List (List ℕ)) (name : List ℕ) → is_among after name ≡ true
+pub among_last : (before after : List (List ℕ)) (name : List ℕ) → is_among after name ≡ true
     → is_among (before ++ after) name ≡ true
 among_last before after name h =
     list_any-append (λ (other : List ℕ). bytes_eq other name) before after

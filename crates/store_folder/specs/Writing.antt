@@ -1,6 +1,6 @@
 -- Blocks that are written anew, and where.
-use Rattle.std.specs.Prelude.{◌≡◌, ℕ, ◌+◌, zero, suc, Bool, List, [], ◌∷◌, ◌++◌, Option, Some, map}
-use Rattle.std.specs.Prelude.{codes, string_bytes}
+use Rattle.std.specs.Prelude.{◌≡◌, ℕ, ◌+◌, zero, suc, Bool, List, [], ◌∷◌, ◌++◌, Option, None, Some}
+use Rattle.std.specs.Prelude.{codes, map, string_bytes}
 use Rattle.std.specs.List.{AllByRecursion}
 use Rattle.block_folder.specs.declared.values.Values.{Values}
 use Rattle.block_folder.specs.Meanings.{values_said}
@@ -54,6 +54,27 @@ AreLike (a ∷ olds) (b ∷ news) = IsLike a b × AreLike olds news
 abbrev pub places_from : ℕ → ℕ → List Place
 places_from n zero = []
 places_from n (suc m) = (n, 0) ∷ places_from (n + 1) m
+
+-- the place that is found for the block at this index: none for one behind the list
+abbrev pub found_at : List (Option Place) → ℕ → Option Place
+found_at [] i = None
+found_at (x ∷ found) zero = x
+found_at (x ∷ found) (suc i) = found_at found i
+
+-- those of these blocks for which no place is found
+abbrev pub unfound : {A : Type 0} → List (Option Place) → List A → List A
+unfound [] blocks = blocks
+unfound (x ∷ found) [] = []
+unfound (None ∷ found) (b ∷ blocks) = b ∷ unfound found blocks
+unfound (Some p ∷ found) (b ∷ blocks) = unfound found blocks
+
+-- the places of so many blocks: the one that is found, and for each other block, in order, a folder
+-- of the numbers from this one on
+abbrev pub places_with : ℕ → List (Option Place) → ℕ → List Place
+places_with n [] m = places_from n m
+places_with n (x ∷ found) zero = []
+places_with n (None ∷ found) (suc m) = (n, 0) ∷ places_with (n + 1) found m
+places_with n (Some p ∷ found) (suc m) = p ∷ places_with n found m
 
 -- the `meta.json` of the block at this place lies there for good, and says this meaning
 abbrev pub Says : {F : Type 0} → (F → List ℕ → Option (List ℕ) → Type 0)

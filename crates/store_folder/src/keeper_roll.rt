@@ -1,7 +1,7 @@
 //! A store that saves its snapshot in the place of the events that made it.
 
-ghost use Rattle.std.specs.Prelude.{◌≡◌, ◌≤◌, ◌⊎◌, ℕ, List, Ok, [], false, true, length, map, take};
-ghost use Rattle.std.specs.Prelude.{◌-◌, ◌++◌, Bool, Err, IfErr, IfOk, OnErr, OnOk};
+ghost use Rattle.std.specs.Prelude.{◌≡◌, ◌≤◌, ◌⊎◌, ℕ, List, Ok, [], false, true, length, map};
+ghost use Rattle.std.specs.Prelude.{Bool, Err, IfErr, IfOk, OnErr, OnOk, Option};
 ghost use Rattle.data_folder.specs.Folders.{LeavesOnly};
 ghost use Rattle.data_folder.specs.Sweeping.{KeepsForeign};
 ghost use Rattle.event_journal.specs.Holding.{contents_with};
@@ -9,16 +9,16 @@ ghost use Rattle.head.specs.Blocks.{part_in};
 ghost use Rattle.head.specs.Heads.{BlockPart, world_of};
 ghost use Rattle.head.specs.Resuming.{MayStand};
 ghost use Rattle.head.specs.Worlds.{Event as Change, replayed};
-ghost use Rattle.head_record.specs.Saved.{save};
+ghost use Rattle.head_record.specs.Saved.{Place, save};
 ghost use Rattle.head_record.specs.Spelling.{head_texts};
 ghost use Rattle.journal.specs.Records.{file_of};
 ghost use Rattle.store_folder.specs.Causes.{IsRollCause};
 ghost use Rattle.store_folder.specs.Holding.{HoldsLike, HoldsOrLost, HoldsOrLostBetween};
 ghost use Rattle.store_folder.specs.Rolls.{HasHeadAlone};
-ghost use Rattle.store_folder.specs.Saving.{AreBelow, IsAbove, IsOldOrSaved};
+ghost use Rattle.store_folder.specs.Saving.{AreBelow, AreFound, IsAbove, IsFoundFrom, IsOldOrSaved};
 ghost use Rattle.store_folder.specs.Starting.{StartFinds, StartFindsEither};
 ghost use Rattle.store_folder.specs.States.{started};
-ghost use Rattle.store_folder.specs.Writing.{AreLike, EachSays, places_from};
+ghost use Rattle.store_folder.specs.Writing.{AreLike, EachSays, places_from, places_with, unfound};
 
 use crate::error::{RollFault, WriteFault};
 use crate::keeping::StoreKeeper;
@@ -57,18 +57,44 @@ pub(crate) fn share_blocks(alloc: Global, blocks: &[Block]) -> Result<Vec<Block>
     Ok(shares)
 }
 
-/// How many of the first blocks are the same in both.
-fn same_blocks(blocks: &[Block], others: &[Block]) -> usize
-    ensures few { result ≤ length (map part_in others.now) }
-    ensures same { take result (map part_in blocks.now) ≡ take result (map part_in others.now) }
+/// The place of the first of the other blocks, from this index on, that is the same as a block, and
+/// the index behind it; else none, and this index.
+fn same_from(
+    block: &Block,
+    others: &[Block],
+    places: &[BlockPlace],
+    from: usize,
+) -> (Option<BlockPlace>, usize)
+    ensures { IsFoundFrom places.now others.now block.now from result.0 result.1 }
 {
-    let most = blocks.len().min(others.len());
-    for at in 0..most {
-        if !blocks[at].is_same(&others[at]) {
-            return at;
+    for at in from..others.len().min(places.len()) {
+        if block.is_same(&others[at]) {
+            return (Some(places[at]), at + 1);
         }
     }
-    most
+    (None, from)
+}
+
+/// The places of the blocks that are the same as others, which lie at these places. The others are
+/// looked through in their order, and none is found twice.
+fn find_places(
+    alloc: Global,
+    blocks: &[Block],
+    others: &[Block],
+    places: &[BlockPlace],
+) -> Result<Vec<Option<BlockPlace>>, AllocError>
+    ensures count { IfOk result (λ found. length found.items ≡ length blocks.now) }
+    ensures found { IfOk result (λ found. AreFound (λ block part. block ≡ part) places.now
+        (map part_in others.now) found.items (map part_in blocks.now)) }
+{
+    let mut found = Vec::new(alloc);
+    let mut from = 0;
+    for block in blocks {
+        let (place, next) = same_from(block, others, places, from);
+        found.push(place)?;
+        from = next;
+    }
+    Ok(found)
 }
 
 /// Why nothing is kept, if a journal is not begun anew for this cause.
@@ -110,10 +136,10 @@ pub(crate) fn save_error(fault: RollFault) -> KeepError
 }
 
 impl<N: Beginning, F: Folder + Drop> StoreKeeper<N, F> {
-    /// Saves the snapshot: the files of its blocks are written, as far as they are not the ones
-    /// that lie there, and the journal is begun anew with a head that names them and has what the
-    /// head of the snapshot has. Then what the blocks before left behind is removed. How many
-    /// blocks the head names.
+    /// Saves the snapshot: the files of its blocks are written, but for those blocks that are the
+    /// same as ones that lie there, and the journal is begun anew with a head that names them and
+    /// has what the head of the snapshot has. Then what the blocks before left behind is removed.
+    /// How many blocks the head names.
     ///
     /// The snapshot is one of the world of the events that are held, or of any others, which are
     /// kept by that in their place.
@@ -230,15 +256,18 @@ impl<N: Beginning, F: Folder + Drop> StoreKeeper<N, F> {
               len = self.old.store.events.journal.len;
               blocks = length snapshot.now.blocks;
             }) }
-        // What is written lies in folders of the least numbers that are above those before, and its
+        // A block that is found among those before keeps its place, wherever it stands. What is
+        // written lies in folders of the least numbers that are above those before, and its
         // `meta.json` says what the values mean.
-        ensures numbers { OnOk result ((same next : ℕ) × (1 ≤ next)
+        ensures numbers { OnOk result ((found : List (Option Place)) × (next : ℕ) × (1 ≤ next)
             × IsAbove next self.old.places.items
             × ((n : ℕ) → 1 ≤ n → AreBelow n self.old.places.items → next ≤ n)
-            × (self.new.places.items ≡ take same self.old.places.items
-            ++ places_from next (length snapshot.now.blocks - same))
+            × AreFound (λ block part. block ≡ part) self.old.places.items
+            (map part_in self.old.blocks.items) found snapshot.now.blocks
+            × (self.new.places.items
+            ≡ places_with next found (length snapshot.now.blocks))
             × EachSays F.shows F.kept N.first.values
-            (places_from next (length snapshot.now.blocks - same))
+            (places_from next (length (unfound found snapshot.now.blocks)))
             self.new.store.events.journal.medium.folder) }
         // What is none of the store's stays.
         ensures foreign { KeepsForeign F.shows F.kept self.old.store.events.journal.medium.folder
@@ -257,9 +286,11 @@ impl<N: Beginning, F: Folder + Drop> StoreKeeper<N, F> {
         let Ok(blocks) = share_blocks(alloc, snapshot.blocks()) else {
             return Err(RollFault::Memory);
         };
-        let same = same_blocks(snapshot.blocks(), &self.blocks);
+        let Ok(found) = find_places(alloc, snapshot.blocks(), &self.blocks, &self.places) else {
+            return Err(RollFault::Memory);
+        };
         let next = next_number(&self.places);
-        match self.store.save(alloc, snapshot, &self.places, same, next) {
+        match self.store.save(alloc, snapshot, &self.places, &found, next) {
             Ok(places) => {
                 let _ = self.store.sweep_blocks(alloc, &places);
                 self.places = places;

@@ -1,7 +1,7 @@
 //! A snapshot that is saved in the place of the events that made it.
 
-ghost use Rattle.std.specs.Prelude.{◌≡◌, ◌⊎◌, ◌≤◌, ◌-◌, ◌++◌, List, Err, false, true, drop, length};
-ghost use Rattle.std.specs.Prelude.{[], IfErr, IfOk, OnErr, OnOk, take};
+ghost use Rattle.std.specs.Prelude.{◌≡◌, ◌⊎◌, List, [], Err, false, true, length};
+ghost use Rattle.std.specs.Prelude.{IfErr, IfOk, OnErr, OnOk};
 ghost use Rattle.data_folder.specs.Folders.{LeavesOnly};
 ghost use Rattle.data_folder.specs.States.{AreThere, Named};
 ghost use Rattle.data_folder.specs.Sweeping.{AreAmong, KeepsForeign, KeepsStore};
@@ -20,6 +20,7 @@ ghost use Rattle.store_folder.specs.Starting.{StartFindsEither};
 ghost use Rattle.store_folder.specs.States.{started};
 ghost use Rattle.store_folder.specs.Sweeps.{names_at};
 ghost use Rattle.store_folder.specs.Writing.{AreLike, AreRewritten, EachSays, places_from};
+ghost use Rattle.store_folder.specs.Writing.{places_with, unfound};
 
 use crate::error::RollFault;
 use crate::store_journal::{Beginning, StoreJournal};
@@ -29,50 +30,35 @@ use block_folder::Values;
 use data_folder::{Folder, RollError};
 use head::Snapshot;
 use head_record::{BlockPlace, HeadRecord};
-use std::alloc::{AllocError, Global};
+use std::alloc::Global;
 
-/// Places, and others after them.
-fn places_of(
-    alloc: Global,
-    first: &[BlockPlace],
-    more: &[BlockPlace],
-) -> Result<Vec<BlockPlace>, AllocError>
-    ensures { IfOk result (λ places. places.items ≡ first.now ++ more.now) }
-{
-    let mut places = Vec::from_slice(alloc, first)?;
-    places.extend_from_slice(more)?;
-    Ok(places)
-}
-
-/// Writes the blocks of a snapshot but the first so many, in folders of the numbers from `next` on,
-/// and gives what is saved of it, with this meaning of its values. All that is no
-/// block's stays, as the journal, also one whose end is torn; and so do the files of blocks at the
-/// held places, of which the first so many are those of the snapshot's first blocks.
+/// Writes the blocks of a snapshot for which no place is found, in folders of the numbers from
+/// `next` on, and gives what is saved of it, with this meaning of its values: its head names all
+/// blocks, those that are found at their places. All that is no block's stays, as the journal, also
+/// one whose end is torn; and so do the files of blocks at the held places.
 pub fn write_saved<F: Folder>(
     alloc: Global,
     folder: &mut F,
     snapshot: &Snapshot,
     held: &[BlockPlace],
-    same: usize,
+    found: &[Option<BlockPlace>],
     next: u64,
     values: Values,
 ) -> Result<HeadRecord, RollFault>
-    requires sound { F.sound folder.old ≡ true }
-    requires held { same ≤ length held.now }
-    requires blocks { same ≤ length snapshot.now.blocks }
+    requires { F.sound folder.old ≡ true }
     ensures saved { IfOk result (λ head. head ≡ save values snapshot.now
-        (take same held.now ++ places_from next (length snapshot.now.blocks - same))) }
+        (places_with next found.now (length snapshot.now.blocks))) }
     ensures there { OnOk result ((parts : List BlockPart)
-        × AreRewritten (drop same snapshot.now.blocks) parts
-        × AreAt F.shows F.kept (places_from next (length snapshot.now.blocks - same)) parts
-        folder.new) }
+        × AreRewritten (unfound found.now snapshot.now.blocks) parts
+        × AreAt F.shows F.kept
+        (places_from next (length (unfound found.now snapshot.now.blocks))) parts folder.new) }
     // A start makes a snapshot of what is saved and of blocks like these, and refuses none: the
     // floor is a time, the blocks end by it, and the series of the head are sound and not too many.
     ensures stands { IfOk result (λ head. (made : List BlockPart)
         → AreLike snapshot.now.blocks made → MayStand (started head made)) }
     // The `meta.json` of each block that is written says what the values mean.
     ensures says { OnOk result (EachSays F.shows F.kept values
-        (places_from next (length snapshot.now.blocks - same)) folder.new) }
+        (places_from next (length (unfound found.now snapshot.now.blocks))) folder.new) }
     ensures cause { IfErr result (λ e. IsRollCause false (F.failed folder.new) e) }
     ensures sound { F.sound folder.new ≡ true }
     ensures stays { KeepsStore F.shows F.kept F.sound F.moment F.left_since (names_at held.now)
@@ -81,13 +67,10 @@ pub fn write_saved<F: Folder>(
     let Ok(mut kept) = file_names(alloc, held) else {
         return Err(RollFault::Memory);
     };
-    let blocks = snapshot.blocks().split_at(same).1;
-    let added = match write_blocks(alloc, folder, &mut kept, blocks, next, values) {
-        Ok(added) => added,
+    let blocks = snapshot.blocks();
+    let places = match write_blocks(alloc, folder, &mut kept, blocks, found, next, values) {
+        Ok(places) => places,
         Err(fault) => return Err(RollFault::Block(fault)),
-    };
-    let Ok(places) = places_of(alloc, held.split_at(same).0, &added) else {
-        return Err(RollFault::Memory);
     };
     let Ok(series) = snapshot.head().saved(alloc) else {
         return Err(RollFault::Memory);
@@ -98,8 +81,8 @@ pub fn write_saved<F: Folder>(
 impl<N: Beginning, F: Folder + Drop> StoreJournal<N, F> {
     /// Saves a snapshot, and begins the journal anew with it. It is one of the world of all events
     /// so far, or of any others, which are kept by that in their place. The blocks that the
-    /// journal's head names lie at the held places; the first `same` of them are the snapshot's,
-    /// and the snapshot's other blocks are written anew, in folders of the numbers from `next` on,
+    /// journal's head names lie at the held places. The snapshot's blocks that are found at some of
+    /// these keep them, and its others are written anew, in folders of the numbers from `next` on,
     /// of which none is in use. No event may be kept meanwhile. The places of the snapshot's
     /// blocks, which the head then names; what is at others is litter
     /// ([`StoreJournal::sweep_blocks`]).
@@ -111,19 +94,19 @@ impl<N: Beginning, F: Folder + Drop> StoreJournal<N, F> {
         alloc: Global,
         snapshot: &Snapshot,
         held: &[BlockPlace],
-        same: usize,
+        found: &[Option<BlockPlace>],
         next: u64,
     ) -> Result<Vec<BlockPlace>, RollFault>
         requires { self.old.events.journal.closed ≡ false → (events after : List Change)
             × (parts : List BlockPart) × MaySave F.shows F.kept F.sound F.moment F.left_since
             N.first self.old.events.journal.medium self.old.events.journal.len
-            self.old.events.journal.closed events after snapshot.now held.now parts same }
+            self.old.events.journal.closed events after snapshot.now held.now parts found.now }
         // Where it fails the events before are held, or the journal is lost on the way from them to
         // those after.
         ensures held { OnErr result ((events after : List Change) (parts : List BlockPart)
             → MaySave F.shows F.kept F.sound F.moment F.left_since N.first
             self.old.events.journal.medium self.old.events.journal.len
-            self.old.events.journal.closed events after snapshot.now held.now parts same
+            self.old.events.journal.closed events after snapshot.now held.now parts found.now
             → HoldsStoreBetween F.shows F.kept F.sound F.moment F.left_since N.first
             self.new.events.journal.medium self.new.events.journal.len
             self.new.events.journal.closed events after) }
@@ -133,20 +116,20 @@ impl<N: Beginning, F: Folder + Drop> StoreJournal<N, F> {
             (parts : List BlockPart)
             → MaySave F.shows F.kept F.sound F.moment F.left_since N.first
             self.old.events.journal.medium self.old.events.journal.len
-            self.old.events.journal.closed events after snapshot.now held.now parts same
+            self.old.events.journal.closed events after snapshot.now held.now parts found.now
             → (made : List BlockPart) × AreLike snapshot.now.blocks made
             × HoldsThese F.shows F.kept F.sound F.moment F.left_since N.first
             self.new.events.journal.medium self.new.events.journal.len
             self.new.events.journal.closed after
             (save N.first.values snapshot.now places.items) made []) }
-        // They are the first of those held, and folders of the numbers from the next one on.
+        // They are those that are found, and folders of the numbers from the next one on.
         ensures numbers { IfOk result (λ places. places.items
-            ≡ take same held.now ++ places_from next (length snapshot.now.blocks - same)) }
+            ≡ places_with next found.now (length snapshot.now.blocks)) }
         // Where it fails and goes on, the head is the one before, with the events after it.
         ensures same { OnErr result ((events after : List Change) (parts : List BlockPart)
             → (m : MaySave F.shows F.kept F.sound F.moment F.left_since N.first
             self.old.events.journal.medium self.old.events.journal.len
-            self.old.events.journal.closed events after snapshot.now held.now parts same)
+            self.old.events.journal.closed events after snapshot.now held.now parts found.now)
             → self.new.events.journal.closed ≡ false
             → HoldsThese F.shows F.kept F.sound F.moment F.left_since N.first
             self.new.events.journal.medium self.new.events.journal.len
@@ -157,7 +140,7 @@ impl<N: Beginning, F: Folder + Drop> StoreJournal<N, F> {
         ensures any_moment { (events after : List Change) (parts : List BlockPart)
             → MaySave F.shows F.kept F.sound F.moment F.left_since N.first
             self.old.events.journal.medium self.old.events.journal.len
-            self.old.events.journal.closed events after snapshot.now held.now parts same
+            self.old.events.journal.closed events after snapshot.now held.now parts found.now
             → self.old.events.journal.closed ≡ false
             → StartFindsEither F.moment F.left_since self.old.events.journal.medium.folder
             self.new.events.journal.medium.folder N.first events after }
@@ -165,7 +148,7 @@ impl<N: Beginning, F: Folder + Drop> StoreJournal<N, F> {
         ensures leaves { (events after : List Change) (parts : List BlockPart)
             → (m : MaySave F.shows F.kept F.sound F.moment F.left_since N.first
             self.old.events.journal.medium self.old.events.journal.len
-            self.old.events.journal.closed events after snapshot.now held.now parts same)
+            self.old.events.journal.closed events after snapshot.now held.now parts found.now)
             → self.old.events.journal.closed ≡ false
             → LeavesOnly F.moment F.left_since self.old.events.journal.medium.folder
             self.new.events.journal.medium.folder (IsOldOrSaved m.holds.0.saved m.holds.0.parts
@@ -201,7 +184,7 @@ impl<N: Beginning, F: Folder + Drop> StoreJournal<N, F> {
             → AreThere F.shows F.kept files self.new.events.journal.medium.folder }
         // The `meta.json` of each block that is written says what the values mean.
         ensures written { OnOk result (EachSays F.shows F.kept N.first.values
-            (places_from next (length snapshot.now.blocks - same))
+            (places_from next (length (unfound found.now snapshot.now.blocks)))
             self.new.events.journal.medium.folder) }
         // If that of each held block says so too, then so does that of each block that the head
         // names.
@@ -216,7 +199,7 @@ impl<N: Beginning, F: Folder + Drop> StoreJournal<N, F> {
         }
         let values = self.values();
         let folder = &mut self.events.journal.medium.folder;
-        let head = match write_saved(alloc, folder, snapshot, held, same, next, values) {
+        let head = match write_saved(alloc, folder, snapshot, held, found, next, values) {
             Ok(head) => head,
             Err(fault) => return Err(fault),
         };

@@ -10,7 +10,8 @@ ghost use Rattle.store_folder.specs.Causes.{IsWriteCause};
 ghost use Rattle.store_folder.specs.Holding.{AreAt};
 ghost use Rattle.store_folder.specs.Sweeps.{names_at, names_of};
 ghost use Rattle.store_folder.specs.Writing.{AreRewritten, EachSays, IsRewritten, Says, Wrote};
-ghost use Rattle.store_folder.specs.Writing.{files_in_memory, places_from};
+ghost use Rattle.store_folder.specs.Writing.{files_in_memory, found_at, places_from, places_with};
+ghost use Rattle.store_folder.specs.Writing.{unfound};
 
 use crate::blocks::name_in;
 use crate::error::WriteFault;
@@ -146,37 +147,59 @@ pub(crate) fn write_block<F: Folder>(
     write_files(alloc, folder, kept, number, &files)
 }
 
-/// Writes each of these blocks anew by its rows, in folders of the numbers from the first on, and
-/// keeps their files from then on. Each `meta.json` says what the values mean. Their places.
+/// The place that is found for the block at this index.
+fn found_at(found: &[Option<BlockPlace>], at: usize) -> Option<BlockPlace>
+    ensures { result ≡ found_at found.now at }
+{
+    if at >= found.len() {
+        return None;
+    }
+    found[at]
+}
+
+/// Writes each of these blocks for which no place is found, anew by its rows, in folders of the
+/// numbers from the first on, and keeps their files from then on. Each `meta.json` says what the
+/// values mean. The places of all of the blocks.
 pub(crate) fn write_blocks<F: Folder>(
     alloc: Global,
     folder: &mut F,
     kept: &mut Vec<String>,
     blocks: &[Block],
+    found: &[Option<BlockPlace>],
     first: u64,
     values: Values,
 ) -> Result<Vec<BlockPlace>, WriteFault>
     requires { F.sound folder.old ≡ true }
-    ensures there { IfOk result (λ places. (parts : List BlockPart)
-        × AreRewritten (map part_in blocks.now) parts
-        × AreAt F.shows F.kept places.items parts folder.new) }
-    ensures says { IfOk result (λ places.
-        EachSays F.shows F.kept values places.items folder.new) }
+    ensures there { OnOk result ((parts : List BlockPart)
+        × AreRewritten (unfound found.now (map part_in blocks.now)) parts
+        × AreAt F.shows F.kept
+        (places_from first (length (unfound found.now (map part_in blocks.now)))) parts
+        folder.new) }
+    ensures says { OnOk result (EachSays F.shows F.kept values
+        (places_from first (length (unfound found.now (map part_in blocks.now)))) folder.new) }
     ensures places { IfOk result (λ places.
-        places.items ≡ places_from first (length blocks.now)) }
-    ensures names { IfOk result (λ places. names_in kept.new.items
-        ≡ names_in kept.old.items ++ names_at places.items) }
+        places.items ≡ places_with first found.now (length blocks.now)) }
+    ensures names { OnOk result (names_in kept.new.items ≡ names_in kept.old.items
+        ++ names_at (places_from first (length (unfound found.now (map part_in blocks.now))))) }
     ensures cause { IfErr result (λ e. IsWriteCause (F.failed folder.new) e) }
     ensures sound { F.sound folder.new ≡ true }
     ensures stays { KeepsStore F.shows F.kept F.sound F.moment F.left_since
         (names_in kept.old.items) folder.old folder.new }
 {
     let mut places = Vec::new(alloc);
-    for block in blocks {
-        let Some(number) = first.checked_add(places.len() as u64) else {
+    let mut written = 0u64;
+    for at in 0..blocks.len() {
+        if let Some(place) = found_at(found, at) {
+            let Ok(()) = places.push(place) else {
+                return Err(WriteFault::Memory);
+            };
+            continue;
+        }
+        let Some(number) = first.checked_add(written) else {
             return Err(WriteFault::Numbers);
         };
-        write_block(alloc, folder, kept, number, block, values)?;
+        write_block(alloc, folder, kept, number, &blocks[at], values)?;
+        written += 1;
         let Ok(()) = places.push(BlockPlace::new(number, 0)) else {
             return Err(WriteFault::Memory);
         };

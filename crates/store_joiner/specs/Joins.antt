@@ -1,9 +1,9 @@
 -- A world in so many blocks, and where they lie.
-use Rattle.std.specs.Prelude.{◌≡◌, ◌⊎◌, ◌≤◌, ◌++◌, ℕ, List, length, take}
+use Rattle.std.specs.Prelude.{◌≡◌, ◌⊎◌, ◌≤◌, ℕ, List, Option, length}
 use Rattle.head.specs.Worlds.{World}
 use Rattle.head_record.specs.Saved.{Place}
-use Rattle.store_folder.specs.Saving.{AreBelow, IsAbove}
-use Rattle.store_folder.specs.Writing.{places_from}
+use Rattle.store_folder.specs.Saving.{AreBelow, AreOf, IsAbove}
+use Rattle.store_folder.specs.Writing.{places_from, places_with}
 
 -- the same samples, newest samples and floor, in so many blocks
 abbrev pub with_blocks : ℕ → World → World
@@ -19,11 +19,12 @@ abbrev pub AreAbove : List Place → List Place → Type 0
 AreAbove others places =
     (next : ℕ) × IsFree next others × (places ≡ places_from next (length places))
 
--- these places are the first few of the others, and folders of the least numbers above theirs
+-- these places are some of the others, in their order, and between them folders of the least
+-- numbers above those of the others
 abbrev pub AreRolled : List Place → List Place → Type 0
 AreRolled others places =
-    (same next more : ℕ) × IsFree next others
-    × (places ≡ take same others ++ places_from next more)
+    (found : List (Option Place)) × AreOf others found × (next count : ℕ) × IsFree next others
+    × (places ≡ places_with next found count)
 
 -- The blocks of a store lay at the other places, and there were so many of them once its events
 -- were saved; these places are in folders of the least numbers that are above theirs.

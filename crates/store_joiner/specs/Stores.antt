@@ -144,7 +144,7 @@ HasSaved shows kept saved parts f =
     HasHeadAlone shows kept saved f × AreAt shows kept saved.places parts f
 
 -- In the folder lies, for good, a journal that is exactly the file of a head, and so many blocks
--- that the head names: at the other places, or the first few of those and folders of the least
+-- that the head names: at the other places, or at some of those, and in folders of the least
 -- numbers that are above them all.
 pub record StaysNumbered {F : Type 0} (shows : F → List ℕ → Option (List ℕ) → Type 0)
     (kept : F → List ℕ → ℕ → Type 0) (others : List Place) (count : ℕ) (f : F) : Type 0 where

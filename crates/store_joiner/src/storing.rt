@@ -91,7 +91,7 @@ pub fn replace_store<N: Beginning, F: Folder + Drop>(
     let StoreJournal { events, .. } = store;
     let mut journal = events.journal;
     let folder = &mut journal.medium.folder;
-    let head = match write_saved(alloc, folder, next, held, 0, next_number(held), values) {
+    let head = match write_saved(alloc, folder, next, held, &[], next_number(held), values) {
         Ok(head) => head,
         Err(fault) => return Err((fault, journal.medium.folder)),
     };

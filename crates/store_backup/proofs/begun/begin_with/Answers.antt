@@ -1,4 +1,4 @@
-use Rattle.std.proofs.Common.{◌≡◌, ◌-◌, ℕ, List, [], ap, arith, length, refl, subst, sym}
+use Rattle.std.proofs.Common.{List, [], ap, length, refl, subst, sym}
 use Rattle.event_journal.specs.Holding.{contents_with}
 use Rattle.head.specs.Heads.{world_of}
 use Rattle.head_record.specs.Saved.{Place, Saved}
@@ -10,7 +10,6 @@ use Rattle.store_folder.proofs.Saves.{each_like}
 use Rattle.store_folder.proofs.Says.{files_apart, says_on}
 use Rattle.store_folder.specs.Holding.{AreAt}
 use Rattle.store_folder.specs.Writing.{places_from}
-use Rattle.store_joiner.specs.Stores.{SaysMeaning}
 use Rattle.store_backup.proofs.Targets.{begins_so, finds_so, next_of, only_written}
 use Rattle.store_backup.proofs.begun.begin_with.Goals as goal
 
@@ -38,7 +37,7 @@ returns-in-Ok-begin_journal-clause-finds g c =
     let there = c.in-Ok.ensures.there in
     let next =
     next_of f.shows f.kept f.sound f.moment f.left_since met.only_now met.earlier s c.args.values
-    head (places_from 1 (length s.blocks - 0)) there.0 mid c.in-Ok.ensures.saved
+    head (places_from 1 (length s.blocks)) there.0 mid c.in-Ok.ensures.saved
     c.in-Ok-head_journal.ensures.saved there.1 there.2 in
     finds_so f.shows f.kept f.sound f.moment f.left_since met.only_now met.earlier
     (record { world = world_of s; values = c.args.values }) mid c.in-Ok-begin_journal.begun head
@@ -57,7 +56,7 @@ returns-in-Ok-begin_journal-clause-begins g c =
     let there = c.in-Ok.ensures.there in
     let next =
     next_of f.shows f.kept f.sound f.moment f.left_since met.only_now met.earlier s c.args.values
-    head (places_from 1 (length s.blocks - 0)) there.0 mid c.in-Ok.ensures.saved
+    head (places_from 1 (length s.blocks)) there.0 mid c.in-Ok.ensures.saved
     c.in-Ok-head_journal.ensures.saved there.1 there.2 in
     begins_so f.shows f.kept f.sound f.moment f.left_since met.only_now met.earlier
     (record { world = world_of s; values = c.args.values }) c.args.folder mid
@@ -77,7 +76,7 @@ returns-clause-begins g c =
     let there = c.in-Ok.ensures.there in
     let next =
     next_of f.shows f.kept f.sound f.moment f.left_since met.only_now met.earlier s c.args.values
-    head (places_from 1 (length s.blocks - 0)) there.0 mid c.in-Ok.ensures.saved
+    head (places_from 1 (length s.blocks)) there.0 mid c.in-Ok.ensures.saved
     c.in-Ok-head_journal.ensures.saved there.1 there.2 in
     begins_so f.shows f.kept f.sound f.moment f.left_since met.only_now met.earlier
     (record { world = world_of s; values = c.args.values }) c.args.folder mid
@@ -95,16 +94,14 @@ returns-in-Ok-begin_journal-clause-says g c =
     let values = c.args.values in
     let s = c.args.snapshot.now in
     let head = c.in-Ok.head in
-    let written = places_from 1 (length s.blocks - 0) in
+    let written = places_from 1 (length s.blocks) in
     let contents = contents_with (head_texts head) [] in
     let mid = c.write_saved.new.folder in
     let new = c.in-Ok-begin_journal.begun in
     let there = c.in-Ok.ensures.there in
     let keeps = c.in-Ok-begin_journal.ensures.keeps contents
     (subst (IsJournalText contents) (sym c.deref.ensures.value) c.in-Ok-head_journal.ensures.text) in
-    let all : length s.blocks - 0 ≡ length s.blocks = omega arith in
-    subst (λ (n : ℕ). SaysMeaning f.shows f.kept values (places_from 1 n) new) all
-    (record {
+    record {
       saved = head;
       alone = head_alone f.shows f.kept f.sound head new _
           c.in-Ok-head_journal.ensures.saved keeps;
@@ -119,4 +116,4 @@ returns-in-Ok-begin_journal-clause-says g c =
           (blocks_rolled f.shows f.kept written there.0 mid new
           c.in-Ok-begin_journal.ensures.files there.2);
       stands = c.in-Ok.ensures.stands there.0 (each_like s.blocks there.0 there.1);
-    })
+    }

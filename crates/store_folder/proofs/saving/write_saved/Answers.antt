@@ -14,7 +14,7 @@ returns-in_default-clause-stays g c =
 pub returns-clause-stands : goal.returns-clause-stands
 returns-clause-stands g c made like =
     let s = c.args.snapshot.now in
-    let places = c.in-Ok-places_of.places.items in
+    let places = c.in-Ok-write_blocks.places.items in
     let is : c.new.result ≡ save c.args.values s places = search rules in
     saved_stands c.args.values s places c.in-Ok-saved.series.items c.new.result is
     (c.in-Ok-saved.ensures.all ∙ c.head.ensures.series) c.floor.ensures.sound

@@ -1,4 +1,4 @@
-use Rattle.std.proofs.Common.{◌-◌, List, ap, inl, length, map, subst, subst₂, sym}
+use Rattle.std.proofs.Common.{◌≡◌, List, ap, inl, length, map, subst, subst₂, sym}
 use Rattle.head.specs.Blocks.{part_in}
 use Rattle.store_folder.specs.declared.journals.FoundJournal.{FoundJournal}
 use Rattle.store_folder.specs.Starting.{GoesOn}
@@ -6,6 +6,7 @@ use Rattle.store_folder.proofs.Rolls.{finds_on}
 use Rattle.store_joiner.proofs.Stores.{has_open}
 use Rattle.data_folder.proofs.Foreign.{foreign_beside, foreign_then}
 use Rattle.store_folder.proofs.Says.{says_on, there_beside}
+use Rattle.store_folder.proofs.Found.{found_of}
 use Rattle.store_folder.proofs.Fronts.{open_like}
 use Rattle.store_folder.specs.Writing.{AreLike, EachSays}
 use Rattle.store_folder.specs.Rolls.{head_file}
@@ -173,8 +174,15 @@ returns-in-Ok-roll-clause-stands g c =
           (λ files among there. there_beside f.shows f.kept head.places files found.folder mid
           c.in-Ok.ensures.others among there) says)),
       (let n = c.in-Ok-roll.ensures.numbers in
-          subst (λ (ps : List Place). AreRolled ps rolled.places.items) c.in-Ok.ensures.places
-          (n.0, n.1, length kept.snapshot.blocks - n.0, (n.2, n.3, n.4), n.5)),
+          subst (λ (ps : List Place). AreRolled ps rolled.places.items) c.in-Ok.ensures.places (
+            n.0,
+            found_of (λ (block part : BlockPart). block ≡ part) kept.keeper.places.items
+                (map part_in kept.keeper.blocks.items) n.0 kept.snapshot.blocks n.5,
+            n.1,
+            length kept.snapshot.blocks,
+            (n.2, n.3, n.4),
+            n.6,
+          )),
     )
 
 pub returns-in-Err-clause-says_stays : goal.returns-in-Err-clause-says_stays

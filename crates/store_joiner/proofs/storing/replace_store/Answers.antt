@@ -1,5 +1,4 @@
-use Rattle.std.proofs.Common.{◌≡◌, ◌++◌, ◌-◌, arith, List, [], ap, length, refl, subst, sym}
-use Rattle.std.proofs.Common.{ℕ, take, false, ◌∙◌}
+use Rattle.std.proofs.Common.{◌≡◌, ◌++◌, List, [], ap, length, refl, subst, sym, ℕ, false, ◌∙◌}
 use Rattle.event_journal.specs.Holding.{contents_with}
 use Rattle.head.specs.Heads.{world_of}
 use Rattle.head_record.specs.Saved.{Place, Saved}
@@ -151,7 +150,7 @@ returns-in-Ok-roll-clause-any_moment g c =
     let next =
     next_head f.shows f.kept f.sound f.moment f.left_since met.only_now met.earlier first
     (record (old.medium) { folder = mid }) s c.values-values.result head
-    (take 0 c.args.held.now ++ places_from c.next_number.result (n - 0)) there.0 c.values-values.ensures
+    (places_from c.next_number.result n) there.0 c.values-values.ensures
     c.in-Ok.ensures.saved c.in-Ok-head_journal.ensures.saved there.1 there.2 in
     let whole =
     subst (IsJournalText (contents_with (head_texts head) [])) (sym c.deref.ensures.value)
@@ -191,7 +190,7 @@ returns-in-Ok-roll-clause-finds g c =
     let next =
     next_head f.shows f.kept f.sound f.moment f.left_since met.only_now met.earlier first
     (record (old.medium) { folder = mid }) s c.values-values.result head
-    (take 0 c.args.held.now ++ places_from c.next_number.result (n - 0)) there.0 c.values-values.ensures
+    (places_from c.next_number.result n) there.0 c.values-values.ensures
     c.in-Ok.ensures.saved c.in-Ok-head_journal.ensures.saved there.1 there.2 in
     let whole =
     subst (IsJournalText (contents_with (head_texts head) [])) (sym c.deref.ensures.value)
@@ -229,7 +228,7 @@ returns-clause-any_moment g c =
     let next =
     next_head f.shows f.kept f.sound f.moment f.left_since met.only_now met.earlier first
     (record (old.medium) { folder = mid }) s c.values-values.result head
-    (take 0 c.args.held.now ++ places_from c.next_number.result (n - 0)) there.0 c.values-values.ensures
+    (places_from c.next_number.result n) there.0 c.values-values.ensures
     c.in-Ok.ensures.saved c.in-Ok-head_journal.ensures.saved there.1 there.2 in
     joined f.moment f.left_since old.medium.folder mid new.medium.folder _
     (finds_first f.moment f.left_since old.medium.folder mid first (world_of s)
@@ -270,10 +269,9 @@ returns-clause-stays g c unless =
 pub returns-in-Ok-roll-clause-places : goal.returns-in-Ok-roll-clause-places
 returns-in-Ok-roll-clause-places g c =
     let n = length c.args.next.now.blocks in
-    let none : n - 0 ≡ n = omega arith in
     ap length (c.in-Ok-from_slice.ensures.items ∙ c.places.ensures)
     ∙ ap (λ (h : Saved). length h.places) c.in-Ok.ensures.saved
-    ∙ counted c.next_number.result (n - 0) ∙ none
+    ∙ counted c.next_number.result n
 
 -- what is none of the store's
 
@@ -331,7 +329,7 @@ returns-in-Ok-roll-clause-says g c =
     let f = g.F.Folder in
     let s = c.args.next.now in
     let values = g.N.Beginning.first.values in
-    let n = length c.args.next.now.blocks - 0 in
+    let n = length c.args.next.now.blocks in
     let written = places_from c.next_number.result n in
     let mid = c.write_saved.new.folder in
     let new = c.roll.new.journal.medium.folder in
@@ -498,7 +496,7 @@ returns-in-Ok-roll-clause-starts g c saved parts late t is may =
     let next =
     next_head f.shows f.kept f.sound f.moment f.left_since met.only_now met.earlier first
     (record (old.medium) { folder = mid }) s c.values-values.result head
-    (take 0 held ++ places_from c.next_number.result (n - 0)) there.0 c.values-values.ensures
+    (places_from c.next_number.result n) there.0 c.values-values.ensures
     c.in-Ok.ensures.saved c.in-Ok-head_journal.ensures.saved there.1 there.2 in
     let whole =
     subst (IsJournalText (contents_with (head_texts head) [])) (sym c.deref.ensures.value)
@@ -542,7 +540,7 @@ returns-clause-starts g c saved parts late t is may =
     let next =
     next_head f.shows f.kept f.sound f.moment f.left_since met.only_now met.earlier first
     (record (old.medium) { folder = mid }) s c.values-values.result head
-    (take 0 held ++ places_from c.next_number.result (n - 0)) there.0 c.values-values.ensures
+    (places_from c.next_number.result n) there.0 c.values-values.ensures
     c.in-Ok.ensures.saved c.in-Ok-head_journal.ensures.saved there.1 there.2 in
     let whole =
     subst (IsJournalText (contents_with (head_texts head) [])) (sym c.deref.ensures.value)
@@ -561,7 +559,7 @@ returns-clause-starts g c saved parts late t is may =
 
 pub returns-in-Ok-roll-clause-numbers : goal.returns-in-Ok-roll-clause-numbers
 returns-in-Ok-roll-clause-numbers g c =
-    let n = length c.args.next.now.blocks - 0 in
+    let n = length c.args.next.now.blocks in
     let first = c.next_number.result in (
       first,
       (c.next_number.ensures.some, c.next_number.ensures.above, c.next_number.ensures.least),

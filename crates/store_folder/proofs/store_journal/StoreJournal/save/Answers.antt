@@ -1,5 +1,4 @@
-use Rattle.std.proofs.Common.{◌-◌, ◌++◌, ap, inl, length, subst, sym, take, ◌∙◌, Bool, List, []}
-use Rattle.std.proofs.Common.{refl}
+use Rattle.std.proofs.Common.{ap, inl, length, refl, subst, sym, ◌∙◌, Bool, List, []}
 use Rattle.data_folder.proofs.Foreign.{foreign_beside, foreign_kept, foreign_rests, foreign_then}
 use Rattle.store_folder.specs.Sweeps.{names_at}
 use Rattle.block_folder.specs.declared.values.Values.{Values}
@@ -9,26 +8,24 @@ use Rattle.head_record.specs.Spelling.{head_texts}
 use Rattle.journal.specs.Records.{file_of}
 use Rattle.store_folder.specs.Causes.{IsRollCause}
 use Rattle.store_folder.specs.Holding.{HoldsThese}
-use Rattle.store_folder.specs.Writing.{EachSays, places_from}
-use Rattle.store_folder.proofs.Saves.{enough, like_made, may_roll, saved_finds, saving_leaves}
+use Rattle.store_folder.specs.Writing.{EachSays, IsLike, places_from, places_with, unfound}
+use Rattle.store_folder.proofs.Found.{found_of}
+use Rattle.store_folder.proofs.Saves.{is_sound, made_of, may_roll, saved_finds, saving_leaves}
 use Rattle.store_folder.proofs.Saves.{still_held, still_these, writing_leaves}
 use Rattle.store_folder.proofs.HeadsAlone.{same_alone}
 use Rattle.store_folder.proofs.Says.{says_on, says_saved, there_beside}
 use Rattle.store_folder.proofs.Standing.{same_stand}
 use Rattle.store_folder.proofs.store_journal.StoreJournal.save.Goals as goal
 
-pub write_saved-requires-clause-blocks : goal.write_saved-requires-clause-blocks
-write_saved-requires-clause-blocks g c =
+pub write_saved-requires : goal.write_saved-requires
+write_saved-requires g c =
     let f = g.F.Folder in
     let met = g.met.F.Folder in
     let old = c.args.self.now.events.journal in
-    let s = c.args.snapshot.now in
-    let held = c.args.held.now in
-    let same = c.args.same in
-    let first = g.N.Beginning.first in
     let given = c.requires c.if-self.false in
-    enough f.shows f.kept f.sound f.moment f.left_since met.only_now met.earlier first old.medium
-    old.len old.closed given.0 given.1 s held given.2 same given.3
+    is_sound f.shows f.kept f.sound f.moment f.left_since met.only_now met.earlier
+    g.N.Beginning.first old.medium old.len old.closed given.0 given.1 c.args.snapshot.now
+    c.args.held.now given.2 c.args.found.now given.3 c.if-self.false
 
 pub returns-in-Err-clause-same : goal.returns-in-Err-clause-same
 returns-in-Err-clause-same g c events after parts may goes_on =
@@ -37,11 +34,11 @@ returns-in-Err-clause-same g c events after parts may goes_on =
     let old = c.args.self.now.events.journal in
     let s = c.args.snapshot.now in
     let held = c.args.held.now in
-    let same = c.args.same in
+    let found = c.args.found.now in
     let first = g.N.Beginning.first in
     still_these f.shows f.kept f.sound f.moment f.left_since met.only_now met.earlier first old.medium
     (record (old.medium) { folder = c.write_saved.new.folder }) old.len old.closed events after s held
-    parts same may c.if-self.false refl
+    parts found may c.if-self.false refl
     c.write_saved.ensures.stays
 
 pub returns-in-Err-clause-leaves : goal.returns-in-Err-clause-leaves
@@ -51,10 +48,10 @@ returns-in-Err-clause-leaves g c events after parts may opened =
     let old = c.args.self.now.events.journal in
     let s = c.args.snapshot.now in
     let held = c.args.held.now in
-    let same = c.args.same in
+    let found = c.args.found.now in
     let first = g.N.Beginning.first in
     writing_leaves f.shows f.kept f.sound f.moment f.left_since met.only_now met.earlier first old.medium
-    c.write_saved.new.folder old.len old.closed events after s held parts same first.values may opened
+    c.write_saved.new.folder old.len old.closed events after s held parts found first.values may opened
     c.write_saved.ensures.stays
 
 pub returns-in-Err-clause-held : goal.returns-in-Err-clause-held
@@ -64,12 +61,12 @@ returns-in-Err-clause-held g c events after parts may =
     let old = c.args.self.now.events.journal in
     let s = c.args.snapshot.now in
     let held = c.args.held.now in
-    let same = c.args.same in
+    let found = c.args.found.now in
     let first = g.N.Beginning.first in
     let at =
     still_held f.shows f.kept f.sound f.moment f.left_since met.only_now met.earlier first old.medium
     (record (old.medium) { folder = c.write_saved.new.folder }) old.len old.closed events after s held
-    parts same may c.if-self.false refl
+    parts found may c.if-self.false refl
     c.write_saved.ensures.stays in
     inl at.0
 
@@ -90,11 +87,11 @@ returns-in_default-clause-same g c events after parts may goes_on =
     let old = c.args.self.now.events.journal in
     let s = c.args.snapshot.now in
     let held = c.args.held.now in
-    let same = c.args.same in
+    let found = c.args.found.now in
     let first = g.N.Beginning.first in
     still_these f.shows f.kept f.sound f.moment f.left_since met.only_now met.earlier first old.medium
     (record (old.medium) { folder = c.write_saved.new.folder }) old.len old.closed events after s held
-    parts same may c.if-self.false refl
+    parts found may c.if-self.false refl
     c.write_saved.ensures.stays
 
 pub returns-in_default-clause-leaves : goal.returns-in_default-clause-leaves
@@ -104,10 +101,10 @@ returns-in_default-clause-leaves g c events after parts may opened =
     let old = c.args.self.now.events.journal in
     let s = c.args.snapshot.now in
     let held = c.args.held.now in
-    let same = c.args.same in
+    let found = c.args.found.now in
     let first = g.N.Beginning.first in
     writing_leaves f.shows f.kept f.sound f.moment f.left_since met.only_now met.earlier first old.medium
-    c.write_saved.new.folder old.len old.closed events after s held parts same first.values may opened
+    c.write_saved.new.folder old.len old.closed events after s held parts found first.values may opened
     c.write_saved.ensures.stays
 
 pub returns-in_default-clause-held : goal.returns-in_default-clause-held
@@ -117,12 +114,12 @@ returns-in_default-clause-held g c events after parts may =
     let old = c.args.self.now.events.journal in
     let s = c.args.snapshot.now in
     let held = c.args.held.now in
-    let same = c.args.same in
+    let found = c.args.found.now in
     let first = g.N.Beginning.first in
     let at =
     still_held f.shows f.kept f.sound f.moment f.left_since met.only_now met.earlier first old.medium
     (record (old.medium) { folder = c.write_saved.new.folder }) old.len old.closed events after s held
-    parts same may c.if-self.false refl
+    parts found may c.if-self.false refl
     c.write_saved.ensures.stays in
     inl at.0
 
@@ -143,20 +140,22 @@ roll-requires g c =
     let old = c.args.self.now.events.journal in
     let s = c.args.snapshot.now in
     let held = c.args.held.now in
-    let same = c.args.same in
+    let found = c.args.found.now in
     let first = g.N.Beginning.first in
     let given = c.requires c.if-self.false in
     let there = c.in-Ok.ensures.there in
-    let made = take same given.2 ++ there.0 in
+    let made = made_of f.shows f.kept f.sound f.moment f.left_since met.only_now met.earlier first
+    old.medium old.len old.closed given.0 given.1 s held given.2 found c.args.next there.0 given.3
+    there.1 in
     let rolls =
     may_roll f.shows f.kept f.sound f.moment f.left_since met.only_now met.earlier first old.medium
     (record (old.medium) { folder = c.write_saved.new.folder }) old.len old.closed given.0 given.1 s
-    held given.2 same
-    (places_from c.args.next (length s.blocks - same)) there.0 c.values-values.result
+    held given.2 found
+    c.args.next there.0 c.values-values.result
     c.in-Ok.head given.3 c.if-self.false refl c.write_saved.ensures.stays there.1 there.2
     c.values-values.ensures
     c.in-Ok.ensures.saved c.in-Ok.ensures.stands in
-    (given.0, given.1, made, rolls)
+    (given.0, given.1, made.0, rolls)
 
 pub returns-in-Ok-roll-clause-places : goal.returns-in-Ok-roll-clause-places
 returns-in-Ok-roll-clause-places g c events after parts may =
@@ -165,15 +164,17 @@ returns-in-Ok-roll-clause-places g c events after parts may =
     let old = c.args.self.now.events.journal in
     let s = c.args.snapshot.now in
     let held = c.args.held.now in
-    let same = c.args.same in
+    let found = c.args.found.now in
     let first = g.N.Beginning.first in
     let there = c.in-Ok.ensures.there in
-    let made = take same parts ++ there.0 in
+    let made = made_of f.shows f.kept f.sound f.moment f.left_since met.only_now met.earlier first
+    old.medium old.len old.closed events after s held parts found c.args.next there.0 may
+    there.1 in
     let rolls =
     may_roll f.shows f.kept f.sound f.moment f.left_since met.only_now met.earlier first old.medium
     (record (old.medium) { folder = c.write_saved.new.folder }) old.len old.closed events after s held
-    parts same
-    (places_from c.args.next (length s.blocks - same)) there.0 c.values-values.result
+    parts found
+    c.args.next there.0 c.values-values.result
     c.in-Ok.head may c.if-self.false refl c.write_saved.ensures.stays there.1 there.2
     c.values-values.ensures
     c.in-Ok.ensures.saved c.in-Ok.ensures.stands in
@@ -184,11 +185,11 @@ returns-in-Ok-roll-clause-places g c events after parts may =
     ∙ (ap (save c.values-values.result s)
     (sym (named ∙ ap (λ (h : Saved). h.places) c.in-Ok.ensures.saved))
     ∙ ap (λ (v : Values). save v s c.in-Ok-from_slice.places.items) c.values-values.ensures) in (
-      made,
-      like_made f.shows f.kept f.sound f.moment f.left_since met.only_now met.earlier first old.medium old.len old.closed events after s held parts same there.0 may there.1,
+      made.0,
+      made.1,
       subst (λ (x : Saved). HoldsThese f.shows f.kept f.sound f.moment f.left_since first
-          now.medium now.len now.closed after x made []) is
-          (c.in-Ok-roll.ensures.alone events after made rolls),
+          now.medium now.len now.closed after x made.0 []) is
+          (c.in-Ok-roll.ensures.alone events after made.0 rolls),
     )
 
 pub returns-clause-held : goal.returns-clause-held
@@ -198,19 +199,21 @@ returns-clause-held g c events after parts may =
     let old = c.args.self.now.events.journal in
     let s = c.args.snapshot.now in
     let held = c.args.held.now in
-    let same = c.args.same in
+    let found = c.args.found.now in
     let first = g.N.Beginning.first in
     let there = c.in-Ok.ensures.there in
-    let made = take same parts ++ there.0 in
+    let made = made_of f.shows f.kept f.sound f.moment f.left_since met.only_now met.earlier first
+    old.medium old.len old.closed events after s held parts found c.args.next there.0 may
+    there.1 in
     let rolls =
     may_roll f.shows f.kept f.sound f.moment f.left_since met.only_now met.earlier first old.medium
     (record (old.medium) { folder = c.write_saved.new.folder }) old.len old.closed events after s held
-    parts same
-    (places_from c.args.next (length s.blocks - same)) there.0 c.values-values.result
+    parts found
+    c.args.next there.0 c.values-values.result
     c.in-Ok.head may c.if-self.false refl c.write_saved.ensures.stays there.1 there.2
     c.values-values.ensures
     c.in-Ok.ensures.saved c.in-Ok.ensures.stands in
-    c.in-Err-roll.ensures.held events after made rolls
+    c.in-Err-roll.ensures.held events after made.0 rolls
 
 pub returns-clause-same : goal.returns-clause-same
 returns-clause-same g c events after parts may goes_on =
@@ -219,13 +222,13 @@ returns-clause-same g c events after parts may goes_on =
     let old = c.args.self.now.events.journal in
     let s = c.args.snapshot.now in
     let held = c.args.held.now in
-    let same = c.args.same in
+    let found = c.args.found.now in
     let first = g.N.Beginning.first in
     let h = may.holds.0 in
     c.in-Err-roll.ensures.same events h.saved h.parts h.late
     (still_these f.shows f.kept f.sound f.moment f.left_since met.only_now met.earlier first old.medium
     (record (old.medium) { folder = c.write_saved.new.folder }) old.len old.closed events after s held
-    parts same may c.if-self.false refl
+    parts found may c.if-self.false refl
     c.write_saved.ensures.stays) goes_on
 
 pub returns-in-Ok-roll-clause-leaves : goal.returns-in-Ok-roll-clause-leaves
@@ -235,31 +238,30 @@ returns-in-Ok-roll-clause-leaves g c events after parts may opened =
     let old = c.args.self.now.events.journal in
     let s = c.args.snapshot.now in
     let held = c.args.held.now in
-    let same = c.args.same in
+    let found = c.args.found.now in
     let first = g.N.Beginning.first in
     let there = c.in-Ok.ensures.there in
-    let made = take same parts ++ there.0 in
-    let places = places_from c.args.next (length s.blocks - same) in
+    let made = made_of f.shows f.kept f.sound f.moment f.left_since met.only_now met.earlier first
+    old.medium old.len old.closed events after s held parts found c.args.next there.0 may
+    there.1 in
+    let places = places_with c.args.next found (length s.blocks) in
     let rolls =
     may_roll f.shows f.kept f.sound f.moment f.left_since met.only_now met.earlier first old.medium
     (record (old.medium) { folder = c.write_saved.new.folder }) old.len old.closed events after s held
-    parts same places there.0 c.values-values.result c.in-Ok.head may c.if-self.false refl
+    parts found c.args.next there.0 c.values-values.result c.in-Ok.head may c.if-self.false refl
     c.write_saved.ensures.stays there.1 there.2 c.values-values.ensures c.in-Ok.ensures.saved
     c.in-Ok.ensures.stands in
     let h = may.holds.0 in
     saving_leaves f.shows f.kept f.sound f.moment f.left_since met.only_now met.earlier first old.medium
     c.write_saved.new.folder c.roll.new.self.events.journal.medium.folder old.len old.closed events after s
-    held parts same first.values c.values-values.result (take same held ++ places) made c.in-Ok.head may
+    held parts found first.values c.values-values.result places made.0 c.in-Ok.head may
     opened c.write_saved.ensures.stays
-    (like_made f.shows f.kept f.sound f.moment f.left_since met.only_now met.earlier first old.medium
-    old.len old.closed events after s held parts same there.0 may there.1)
-    (c.in-Ok.ensures.stands made (like_made f.shows f.kept f.sound f.moment f.left_since met.only_now
-    met.earlier first old.medium old.len old.closed events after s held parts same there.0 may there.1))
+    made.1 (c.in-Ok.ensures.stands made.0 made.1)
     c.values-values.ensures c.in-Ok.ensures.saved
-    (c.in-Ok-roll.ensures.leaves events after h.saved h.parts made h.late
+    (c.in-Ok-roll.ensures.leaves events after h.saved h.parts made.0 h.late
     (still_these f.shows f.kept f.sound f.moment f.left_since met.only_now met.earlier first old.medium
     (record (old.medium) { folder = c.write_saved.new.folder }) old.len old.closed events after s held
-    parts same may c.if-self.false refl
+    parts found may c.if-self.false refl
     c.write_saved.ensures.stays)
     rolls c.if-self.false)
 
@@ -280,31 +282,30 @@ returns-clause-leaves g c events after parts may opened =
     let old = c.args.self.now.events.journal in
     let s = c.args.snapshot.now in
     let held = c.args.held.now in
-    let same = c.args.same in
+    let found = c.args.found.now in
     let first = g.N.Beginning.first in
     let there = c.in-Ok.ensures.there in
-    let made = take same parts ++ there.0 in
-    let places = places_from c.args.next (length s.blocks - same) in
+    let made = made_of f.shows f.kept f.sound f.moment f.left_since met.only_now met.earlier first
+    old.medium old.len old.closed events after s held parts found c.args.next there.0 may
+    there.1 in
+    let places = places_with c.args.next found (length s.blocks) in
     let rolls =
     may_roll f.shows f.kept f.sound f.moment f.left_since met.only_now met.earlier first old.medium
     (record (old.medium) { folder = c.write_saved.new.folder }) old.len old.closed events after s held
-    parts same places there.0 c.values-values.result c.in-Ok.head may c.if-self.false refl
+    parts found c.args.next there.0 c.values-values.result c.in-Ok.head may c.if-self.false refl
     c.write_saved.ensures.stays there.1 there.2 c.values-values.ensures c.in-Ok.ensures.saved
     c.in-Ok.ensures.stands in
     let h = may.holds.0 in
     saving_leaves f.shows f.kept f.sound f.moment f.left_since met.only_now met.earlier first old.medium
     c.write_saved.new.folder c.roll.new.self.events.journal.medium.folder old.len old.closed events after s
-    held parts same first.values c.values-values.result (take same held ++ places) made c.in-Ok.head may
+    held parts found first.values c.values-values.result places made.0 c.in-Ok.head may
     opened c.write_saved.ensures.stays
-    (like_made f.shows f.kept f.sound f.moment f.left_since met.only_now met.earlier first old.medium
-    old.len old.closed events after s held parts same there.0 may there.1)
-    (c.in-Ok.ensures.stands made (like_made f.shows f.kept f.sound f.moment f.left_since met.only_now
-    met.earlier first old.medium old.len old.closed events after s held parts same there.0 may there.1))
+    made.1 (c.in-Ok.ensures.stands made.0 made.1)
     c.values-values.ensures c.in-Ok.ensures.saved
-    (c.in-Err-roll.ensures.leaves events after h.saved h.parts made h.late
+    (c.in-Err-roll.ensures.leaves events after h.saved h.parts made.0 h.late
     (still_these f.shows f.kept f.sound f.moment f.left_since met.only_now met.earlier first old.medium
     (record (old.medium) { folder = c.write_saved.new.folder }) old.len old.closed events after s held
-    parts same may c.if-self.false refl
+    parts found may c.if-self.false refl
     c.write_saved.ensures.stays)
     rolls c.if-self.false)
 
@@ -430,12 +431,15 @@ returns-in-Ok-roll-clause-says g c says =
     let mid = c.write_saved.new.folder in
     let new = c.roll.new.self.events.journal.medium.folder in
     let values = g.N.Beginning.first.values in
-    let same = c.args.same in
+    let found = c.args.found.now in
     let held = c.args.held.now in
-    let count = length c.args.snapshot.now.blocks - same in
-    let places = take same held ++ places_from c.args.next count in
-    let written = says_saved f.shows f.kept values c.values-values.result same c.args.next count held
-    old mid c.values-values.ensures (λ files among there. c.write_saved.ensures.stays.files files among there)
+    let blocks = c.args.snapshot.now.blocks in
+    let places = places_with c.args.next found (length blocks) in
+    let given = c.requires c.if-self.false in
+    let written = says_saved f.shows f.kept values c.values-values.result c.args.next held found
+    blocks old mid c.values-values.ensures
+    (found_of IsLike held given.2 found blocks given.3.like)
+    (λ files among there. c.write_saved.ensures.stays.files files among there)
     says c.in-Ok.ensures.says in
     let named = c.in-Ok-from_slice.ensures.items ∙ c.places.ensures
     ∙ ap (λ (h : Saved). h.places) c.in-Ok.ensures.saved in
@@ -449,7 +453,8 @@ returns-in-Ok-roll-clause-written g c =
     let f = g.F.Folder in
     let mid = c.write_saved.new.folder in
     let new = c.roll.new.self.events.journal.medium.folder in
-    let places = places_from c.args.next (length c.args.snapshot.now.blocks - c.args.same) in
+    let places =
+    places_from c.args.next (length (unfound c.args.found.now c.args.snapshot.now.blocks)) in
     says_on f.shows f.kept g.N.Beginning.first.values places mid new
     (λ files among there. there_beside f.shows f.kept places files mid new c.roll.ensures.others among there)
     (subst (λ (v : Values). EachSays f.shows f.kept v places mid) c.values-values.ensures
