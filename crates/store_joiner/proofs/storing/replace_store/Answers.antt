@@ -24,8 +24,8 @@ use Rattle.store_joiner.proofs.Says.{head_says}
 use Rattle.store_joiner.proofs.Starting.{starts_on}
 use Rattle.store_joiner.proofs.storing.replace_store.Goals as goal
 
-pub write_saved-requires-clause-sound : goal.write_saved-requires-clause-sound
-write_saved-requires-clause-sound g c =
+pub write_saved-requires : goal.write_saved-requires
+write_saved-requires g c =
     (c.requires.held.1.0.journal.keeps c.requires.open).has.is_sound
 
 -- where the blocks are not written
