@@ -89,6 +89,10 @@ scaling: ## asks four queriers over the quarters of a block, and compares their 
 durable: ## kills a server that keeps its store a hundred times, damages its journals, and has its disk fail (needs python3 and a C compiler)
 	@RT="$(RT)" tests/durable/run.py
 
+.PHONY: year
+year: ## the long parts of these: a year of cuts in minutes, joins that are killed at each call, full disks, replies meanwhile (needs python3, a C compiler and root)
+	@RT="$(RT)" tests/durable/run.py joining-live meanwhile full year
+
 .PHONY: live
 live: ## has a Prometheus and vmagent send to the server, and a Prometheus ask it; and sends it bodies made by hand (needs prometheus, vmagent and python3)
 	@RT="$(RT)" tests/live/run.py

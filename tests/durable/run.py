@@ -2,7 +2,7 @@
 """run [PART]..: runs `querier serve --data` and compares what it says with what was sent.
 
 It kills the server, damages its journals, has its device fail and its folder be what it should not. The
-parts, which are all run if none is named:
+parts, of which the last four are run only if they are named, and the others if none is:
   folders  two servers over one folder, other versions, what is left over; and that no file is written without
            --data
   events   events of each kind at their bounds, 63 blocks, and patterns: the bytes of the journal, and a start
@@ -27,12 +27,21 @@ parts, which are all run if none is named:
   rounds   ROUNDS (100) crashes beside four clients: what was acknowledged is there, what was under way is
            there whole or not at all, and nothing else. In some rounds the power is cut too: what was not
            synced is lost.
+  joining-live
+           a server that cuts, joins and lets samples leave is killed at each of its calls meanwhile, and each of
+           them fails; then its folder has no litter
+  meanwhile
+           replies and audits while blocks are joined; the longest write and read are told, beside those without
+           joins
+  full     a full disk, and one with little room while the oldest leave; a store of 1 GiB with --keep-gb, which
+           takes 6 GB of disk and memory and is left with FULL_GB=0
+  year     YEAR_DAYS (367) days of cuts each two hours: blocks, memory, disk and what left late are told
 
 SEED is the number from which all is drawn; it is told, and drawn anew if there is none. QUERIER, and
-BLOCKTOOL and AUDITOR for the parts joining, adding and rounds, name programs that are built already (or
-PREFIX, where make install put them); else they are built where they stand. It needs a C compiler (CC) for
-failing_files.c; root for a disk that is full and for some folders, else these are told and left. Exit status
-0 if all is as wanted.
+BLOCKTOOL and AUDITOR for the parts joining, adding, rounds and meanwhile, name programs that are built
+already (or PREFIX, where make install put them); else they are built where they stand. It needs a C compiler
+(CC) for failing_files.c; root for a disk that is full and for some folders, else these are told and left.
+Exit status 0 if all is as wanted.
 """
 import os
 import pathlib
@@ -54,17 +63,23 @@ from damage import damage  # noqa: E402
 from events import events  # noqa: E402
 from faults import faults  # noqa: E402
 from folders import folders  # noqa: E402
+from full import full  # noqa: E402
 from house import Looks  # noqa: E402
 from joining import joining  # noqa: E402
+from joining_live import joining_live  # noqa: E402
 from lib import TOP, end_all, find_program  # noqa: E402
+from meanwhile import meanwhile  # noqa: E402
 from rounds import rounds  # noqa: E402
 from running import running  # noqa: E402
 from upkeep import upkeep  # noqa: E402
+from year import year  # noqa: E402
 
 PARTS = [
     "folders", "events", "cuts", "blocks", "running", "damage", "faults", "joining", "adding", "backup",
     "upkeep", "rounds",
 ]
+# those that are run only if they are named
+LONG = ["joining-live", "meanwhile", "full", "year"]
 
 
 def failing_files(work):
@@ -81,8 +96,9 @@ def parts_of(names, preload):
     """Each part as a function of its looks and its folder."""
     querier, block = find_program("querier"), f"{TOP}/examples/good"
     others = auditor = None
-    if {"joining", "adding", "rounds"} & set(names):
+    if {"joining", "adding", "rounds", "meanwhile"} & set(names):
         auditor = find_program("auditor")
+    if {"joining", "adding"} & set(names):
         others = find_program("blocktool"), auditor
     count = int(os.environ.get("ROUNDS") or 100)
     seed = os.environ.get("SEED") or str(random.SystemRandom().randrange(10**6))
@@ -100,6 +116,10 @@ def parts_of(names, preload):
         "backup": lambda looks, work: backup(looks, querier, preload, work, count),
         "upkeep": lambda looks, work: upkeep(looks, querier, work, seed),
         "rounds": lambda looks, work: rounds(looks, (querier, auditor), preload, work, count, seed),
+        "joining-live": lambda looks, work: joining_live(looks, querier, preload, work),
+        "meanwhile": lambda looks, work: meanwhile(looks, querier, auditor, work, seed),
+        "full": lambda looks, work: full(looks, querier, work),
+        "year": lambda looks, work: year(looks, querier, work, seed),
     }
 
 
@@ -114,8 +134,8 @@ def run(part, name, work):
 
 def main(names):
     for name in names:
-        if name not in PARTS:
-            sys.exit(f"tests/durable: there is no part {name}; the parts are {', '.join(PARTS)}")
+        if name not in PARTS + LONG:
+            sys.exit(f"tests/durable: there is no part {name}; the parts are {', '.join(PARTS + LONG)}")
     names = names or PARTS
     # a run that is cut off kills its servers too
     signal.signal(signal.SIGTERM, lambda *_: sys.exit(143))

@@ -1,0 +1,320 @@
+"""Stores that have no more room. With --keep-gb the oldest samples leave, and the newer ones stay; on a full disk
+what is not kept is refused, nothing that was acknowledged is lost, and once there is room blocks are joined again."""
+import json
+import os
+import subprocess
+import time
+
+from faults import mounted
+from house import (
+    HEADER, NOT_KEPT, NOTHING, OK, Batch, Head, Server, contents_of, differences, labels_text, read, record, set_of,
+)
+from lib import free_port
+from read_block import TABLE, checksum, uvarint, varint
+from upkeep import Map, metrics, since
+from year import megabytes, on_disk, process_memory
+
+EVERY = 1000
+GB = 2**30
+
+
+def labels(n):
+    return {"__name__": "full", "n": str(n), "suite": "durable"}
+
+
+class Store:
+    """A store in a folder, its server, and a map of what was acknowledged."""
+
+    def __init__(self, looks, querier, folder, *words, every=EVERY):
+        self.looks, self.querier, self.folder, self.map, self.told = looks, querier, folder, Map(), []
+        self.words = ["--data", folder, "--cut-every", str(every), "--cut-after", "0", "--workers", "2", *words]
+        self.start()
+
+    def start(self):
+        self.status = free_port()
+        self.server = Server(self.querier, *self.words, "--status-port", str(self.status))
+        return self.looks.that("it starts", self.server.wait(1500), self.server.told, tell=False)
+
+    def end(self):
+        self.server.end()
+        self.told += self.server.told_err
+
+    def standing(self):
+        found = metrics(self.status)
+        return int(found["fuzzledge_head_floor"]), int(found["fuzzledge_blocks"])
+
+    def lines(self, *starts):
+        return [line for line in self.told + self.server.told_err if line.startswith(starts)]
+
+    def settle(self, seconds=60):
+        last, end = None, time.monotonic() + seconds
+        while time.monotonic() < end:
+            now = self.standing(), len(self.server.told_err)
+            if now == last:
+                return
+            last = now
+            time.sleep(0.6)
+
+    def tell(self, event):
+        got = self.server.tell(event)
+        if got == OK:
+            self.map.apply(event)
+        return got
+
+    def cut(self, at, count, series=4):
+        """Some batches up to a time, which makes a cut there due, and waits for it a little; whether all of them
+        were kept."""
+        step = EVERY // count
+        for n in range(series):
+            times = range(at - EVERY, at, step)
+            if self.tell(Batch([(labels(n), [(t, (t + n) * 2**20) for t in times])])) != OK:
+                return False
+        if self.tell(Batch([(labels(series), [(at, 1)])])) != OK:
+            return False
+        end = time.monotonic() + 20
+        while self.standing()[0] < at and time.monotonic() < end and not self.lines("cannot cut"):
+            time.sleep(0.02)
+        return True
+
+    def agrees(self, what, oldest=0, tell=True):
+        """It says what the map says, of which what is older than a time may have left."""
+        rows = self.server.select()[1]
+        wanted = since(self.map.rows, oldest)
+        self.looks.that(f"{what}: what it says", since(rows, oldest) == wanted,
+                        differences(wanted, since(rows, oldest)), tell=tell)
+        strange = [(one, t) for one, samples in rows.items() for t, v in samples.items()
+                   if self.map.rows.get(one, {}).get(t) != v]
+        self.looks.at(f"{what}: what nobody sent", [], strange[:3], tell=False)
+        return rows
+
+
+def litter(folder):
+    """The folders of blocks that the journal's head does not name, and whether a journal was left half."""
+    head, _ = Head.read(contents_of(read(f"{folder}/journal"))[0])
+    return sorted(set(os.listdir(f"{folder}/blocks")) ^ {str(number) for number in head.numbers}), os.path.exists(
+        f"{folder}/journal.next")
+
+
+def room(disk, size):
+    """Gives a mounted disk so many bytes."""
+    subprocess.run(["mount", "-o", f"remount,size={size}", disk], check=True)
+
+
+def full_disk(looks, querier, work):
+    """A disk of 3 MiB that is filled, and then has more room."""
+    with mounted(f"{work}/disk", 3 << 20) as disk:
+        if disk is None:
+            looks.say("no tmpfs may be mounted here: a disk that is full is left")
+            return
+        store, at, most = Store(looks, querier, f"{disk}/data", "--journal-mb", "1"), 0, 0
+        kept = True
+        while kept and at < 400 * EVERY:
+            at += EVERY
+            kept = store.cut(at, 500)
+            most = max(most, store.standing()[1])
+        looks.that("a full disk: it is full", not kept, at)
+        got = [store.tell(Batch([(labels(8), [(at + k, k) for k in range(4000)])])) for _ in range(5)]
+        looks.that("a full disk: batches are refused", NOT_KEPT in got and {str(OK), str(NOT_KEPT)} >= set(map(str, got)),
+                   got)
+        store.agrees("a full disk")
+        looks.at("a full disk: E6", [], [line for line in store.lines("cannot cut") if line.endswith("E6")])
+        looks.that("a full disk: few blocks", most <= 56, most)
+        looks.say(f"a disk of 3 MiB is full after {at // EVERY} cuts of 2,000 samples, with at most {most} blocks; it "
+                  f"says {sorted(set(line.split(':')[0] for line in store.lines('cannot', 'did not')))[:4]}")
+        room(disk, 16 << 20)
+        # with room again
+        took = None
+        for _ in range(100):
+            at += EVERY
+            if store.cut(at, 500):
+                took = at
+                break
+            time.sleep(0.1)
+        if took is None:
+            looks.say("it takes nothing with room again, until a new start")
+            store.end()
+            store.start()
+        for _ in range(12):
+            at += EVERY
+            looks.that("room again: a cut more", store.cut(at, 500), store.server.told_err[-3:], tell=False)
+        store.settle()
+        store.agrees("room again")
+        looks.that("room again: few blocks", store.standing()[1] <= 30, store.standing())
+        looks.at("room again: what its folder has", ([], False), litter(store.folder))
+        store.end()
+        store.start()
+        store.agrees("room again: a new start")
+        store.end()
+
+
+def leaving_room(looks, querier, work):
+    """How much room it takes while the oldest leave: it is told. On a disk that has less, nothing that is kept is
+    lost, and it goes on once there is room."""
+    keep = 48 * EVERY
+    store = Store(looks, querier, f"{work}/room", "--keep", f"{keep // 1000}s")
+    most = settled = 0
+    for at in range(EVERY, 150 * EVERY, EVERY):
+        store.cut(at, 500)
+        files = on_disk(store.folder)[1]
+        most = max(most, files)
+        if at > 2 * keep:
+            settled = max(settled, on_disk(store.folder)[0])
+    store.settle()
+    store.agrees("leaving", store.standing()[0] - keep)
+    head, _ = Head.read(contents_of(read(f"{store.folder}/journal"))[0])
+    largest = max(sum(os.path.getsize(os.path.join(at, name)) for at, _, names in os.walk(
+        f"{store.folder}/blocks/{number}") for name in names) for number in head.numbers)
+    now = on_disk(store.folder)[0]
+    store.end()
+    looks.say(f"leaving: blocks of {megabytes(now)}, the largest {megabytes(largest)}; at any moment that was looked "
+              f"at {megabytes(most)} of files")
+    # the same on a disk that has room for twice the largest block more
+    size = (now + 2 * largest + (1 << 19)) // 4096 * 4096
+    with mounted(f"{work}/small", size) as disk:
+        if disk is None:
+            looks.say("no tmpfs may be mounted here: a disk that is small is left")
+            return
+        store = Store(looks, querier, f"{disk}/data", "--keep", f"{keep // 1000}s", "--journal-mb", "1")
+        refused = at = 0
+        for at in range(EVERY, 150 * EVERY, EVERY):
+            refused = 0 if store.cut(at, 500) else refused + 1
+            if refused > 3:
+                break
+        floor, blocks = store.standing()
+        looks.say(f"on a disk of {megabytes(size)}: {at // EVERY} cuts of 149, {blocks} blocks, files of "
+                  f"{megabytes(on_disk(store.folder)[1])}; it says {dict.fromkeys(store.lines('cannot', 'did not'))}")
+        store.agrees("a small disk", floor - keep)
+        looks.at("a small disk: E6", [], [line for line in store.lines("cannot cut") if line.endswith("E6")])
+        room(disk, 4 * size)
+        store.end()
+        store.start()
+        for at in range(at + EVERY, at + 20 * EVERY, EVERY):
+            looks.that("a small disk with room again: a cut more", store.cut(at, 500), store.server.told_err[-3:],
+                       tell=False)
+        store.settle()
+        store.agrees("a small disk with room again", store.standing()[0] - keep)
+        looks.that("a small disk with room again: few blocks", store.standing()[1] <= 40, store.standing())
+        store.end()
+
+
+class Tail:
+    """Bytes that many contents end with: the checksum of a content without a look at each of them."""
+
+    def __init__(self, tail):
+        self.tail, state = tail, 0
+        for byte in tail:
+            state = state >> 8 ^ TABLE[(state ^ byte) & 255]
+        self.alone = state
+        # a checksum is linear: what each bit of the state before has become behind so many bytes
+        self.bits = []
+        for bit in range(32):
+            state = 1 << bit
+            for _ in tail:
+                state = state >> 8 ^ TABLE[state & 255]
+            self.bits.append(state)
+
+    def record(self, front):
+        """`record(front + tail)`."""
+        state, behind = 0xFFFFFFFF, self.alone
+        for byte in front:
+            state = state >> 8 ^ TABLE[(state ^ byte) & 255]
+        for bit, change in enumerate(self.bits):
+            behind ^= change if state >> bit & 1 else 0
+        length = (len(front) + len(self.tail)).to_bytes(4, "big")
+        return b"".join(
+            (length, checksum(length), front, self.tail, (behind ^ 0xFFFFFFFF).to_bytes(4, "big")))
+
+
+# of the large store the end of each block, and how many series have a sample a millisecond there: no neighbours
+# fit into one block, and all are some ten megabytes below 1 GiB, as it is reckoned
+LARGE = [(2, 1), (4, 17), (6, 17), (9, 16), (12, 15)]
+MILLION = 1_000_000
+
+
+def write_large(folder):
+    """The journal of a store with these blocks; how many samples each has."""
+    each, counts, known = 4000, [], set()
+    tail = Tail((varint(1) + varint(1)) * (each - 1))
+    assert tail.record(b"front") == record(b"front" + tail.tail)
+    os.mkdir(folder)
+    with open(f"{folder}/journal", "wb") as file:
+        file.write(HEADER + b"".join(map(record, NOTHING)))
+        for end, series in LARGE:
+            for number in range(series):
+                for first in range((end - 1) * MILLION, end * MILLION, each):
+                    name = b"" if number in known else labels_text(set_of(labels(number)))
+                    known.add(number)
+                    file.write(tail.record(
+                        b"\x04" + uvarint(1) + uvarint(number) + name + uvarint(each) + varint(first) + varint(1)))
+            file.write(record(b"\x03" + varint(end * MILLION)))
+            # no series has a sample at or behind the cut, so their numbers stay
+            counts.append(series * MILLION)
+    return counts
+
+
+def keep_gb(looks, querier, work):
+    """A store of some 1,064 MB, as it is reckoned, is kept to 1 GiB: with a cut more the oldest block leaves, and
+    no other."""
+    folder = f"{work}/large"
+    began = time.monotonic()
+    counts = write_large(folder)
+    store = Store(looks, querier, folder, "--keep-gb", "1", every=MILLION)
+    looks.say(f"keep-gb: a journal of {sum(counts)} samples, and a start over it, in {time.monotonic() - began:.0f} s")
+    store.settle(600)
+
+    def blocks():
+        head, _ = Head.read(contents_of(read(f"{folder}/journal"))[0])
+        metas = [json.loads(read(f"{folder}/blocks/{number}/meta.json")) for number in head.numbers]
+        return [(meta["maxTime"], meta["stats"]["numSamples"]) for meta in metas]
+
+    def told(what):
+        now, most = process_memory(store.server.process.pid)
+        of_blocks, everything = on_disk(folder)
+        looks.say(f"keep-gb, {what}: files of blocks {of_blocks} bytes, of {sum(n for _, n in blocks())} samples; "
+                  f"{everything} bytes in all; memory {megabytes(now)}, at most {megabytes(most)}")
+        return of_blocks
+
+    looks.at("keep-gb: the blocks of what fits", [(end * MILLION, n) for (end, _), n in zip(LARGE, counts)], blocks())
+    told("before")
+    # a cut more with 1,200,000 samples, so that there are more than 1 GiB
+    at, refused = 12 * MILLION, []
+    for first in range(0, MILLION, 4000 * 10):
+        for n in range(12):
+            event = Batch([(labels(n), [(at + first + 10 * k, 1) for k in range(4000)])])
+            got = store.server.tell(event)
+            if got != OK:
+                refused.append(got)
+    looks.at("keep-gb: what is refused", [], refused[:3])
+    looks.at("keep-gb: the sample that brings a cut", OK, store.server.tell(Batch([(labels(0), [(at + MILLION, 1)])])))
+    end = time.monotonic() + 1500
+    while time.monotonic() < end and not store.lines("removed ", "cannot", "did not"):
+        time.sleep(0.5)
+    store.settle(600)
+    looks.at("keep-gb: what leaves", ["dropped samples before 2000000: 1 block", "removed 1 empty block"],
+             store.lines("dropped", "removed", "cannot", "did not"))
+    looks.at("keep-gb: its blocks then", len(LARGE), store.standing()[1])
+    looks.at("keep-gb: those in the folder", [(end * MILLION, n) for (end, _), n in zip(LARGE[1:], counts[1:])],
+             blocks()[:4])
+    of_blocks = told("then")
+    looks.that("keep-gb: what is reckoned is below 1 GiB", 16 * sum(n for _, n in blocks()) <= GB)
+    # the files have a head of some bytes for each chunk of 120 samples, and the index has its place
+    looks.that("keep-gb: the files are few more", of_blocks <= GB * 1.05, of_blocks)
+    for n, first, wanted in [(0, MILLION, 0), (0, 4 * MILLION - 1000, 1000), (16, 6 * MILLION - 1000, 1000)]:
+        reply = store.server.exchange(
+            "GET", f"/select?selector=full%7Bn%3D%22{n}%22%7D&from={first}&to={first + 999}")[1]
+        looks.at(f"keep-gb: series {n} from {first}", wanted, sum(len(row["samples"]) for row in reply["rows"]))
+    store.end()
+    store.start()
+    store.settle(600)
+    looks.at("keep-gb: nothing leaves at a new start", [], [it for it in store.server.told_err if "dropped" in it])
+    looks.at("keep-gb: blocks after a new start", len(LARGE), store.standing()[1])
+    store.end()
+
+
+def full(looks, querier, work):
+    full_disk(looks, querier, work)
+    leaving_room(looks, querier, work)
+    if os.environ.get("FULL_GB") == "0":
+        looks.say("FULL_GB=0: the store of more than 1 GB is left")
+    else:
+        keep_gb(looks, querier, work)
