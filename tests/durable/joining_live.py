@@ -2,9 +2,11 @@
 them fails: a new one says what was acknowledged, of what was under way all or nothing, and nothing else; once it
 has begun the journal anew, its folder has the blocks of the head and no litter."""
 import concurrent.futures
+import contextlib
 import os
 import shutil
 import signal
+import subprocess
 import time
 
 from house import (
@@ -18,6 +20,8 @@ KEEP = 24 * EVERY
 WORDS = ("--cut-every", str(EVERY), "--cut-after", "0", "--keep", f"{KEEP // 1000}s")
 # how many servers run side by side: they mostly wait for the pauses of the one who joins
 SIDE_BY_SIDE = 4
+# where blocks may end if a cut was refused
+ENDS = (0, 1000, 2000, 3000, 4000, 6000)
 # the calls that fail, and how many of each there are at least
 KINDS = {"WRITE": 30, "SYNC": 30, "CUT": 0, "MAKE": 20, "RENAME": 3, "REMOVE": 15}
 
@@ -40,17 +44,17 @@ def session():
     """Events, and behind each what the server does then by itself: the floor, how many parts there are and the
     first words of a line, how many of which there are by then."""
     return [
-        # the third cut: three blocks become one
-        (spread(2000, 3500), 2, ("joined ", 1)),
-        # a deletion in it, and one in the head
-        (Deletion([equals("n", "1")], 500, 1500), 2, None),
-        (spread(3500, 4200), 3, None),
+        # the third cut: two blocks become one; the first begins before all times, and so in no window
+        (spread(2000, 3500), 3, ("joined ", 1)),
+        # a deletion in both
+        (Deletion([equals("n", "1")], 500, 1500), 3, None),
+        (spread(3500, 4200), 4, None),
         # a deletion in a block that is not saved, and in the head
-        (Deletion([equals("n", "2")], 3400, 4100), 3, None),
-        # two blocks of the next window, of which one was struck: so the first is written anew too
-        (spread(4300, 6200), 3, ("joined ", 2)),
-        (Deletion([equals("n", "3")], 0, 10**6), 3, None),
-        # 21 cuts at once; the first block has ended for so long that it leaves
+        (Deletion([equals("n", "2")], 3400, 4100), 4, None),
+        # two blocks of the next window, of which one was struck, as was the first: all are written anew
+        (spread(4300, 6200), 4, ("joined ", 2)),
+        (Deletion([equals("n", "3")], 0, 10**6), 4, None),
+        # 21 cuts at once; two blocks have ended for so long that they leave
         (spread(6300, 27101, 800), 3, ("removed ", 1)),
         (Batch([row(4, (27300, 1), (27400, 2))]), 3, None),
     ]
@@ -116,11 +120,14 @@ def until(server, holds, has_faults=False, seconds=30):
             if holds(server):
                 return True
         except Lost:
+            # it was killed just now
+            with contextlib.suppress(subprocess.TimeoutExpired):
+                server.process.wait(10)
             return False
         if has_faults and is_troubled(server):
             end = min(end, time.monotonic() + 0.5)
             has_faults = False
-        time.sleep(0.03)
+        time.sleep(0.1)
     return False
 
 
@@ -154,7 +161,7 @@ def lived(server, rows, told, has_faults=False):
             refused.append(event)
         else:
             told.that(f"the reply to {event.line()[:60]}", False, got)
-        came = until(server, has_come(parts, line), has_faults)
+        came = until(server, has_come(parts, line), has_faults, 0.5 if refused else 30)
         if server.process.poll() is not None:
             return refused, None
         troubled = has_faults and (refused or is_troubled(server))
@@ -162,13 +169,13 @@ def lived(server, rows, told, has_faults=False):
     return refused, None
 
 
-def worlds(rows, flying):
+def worlds(rows, flying, ends=(0, 3000)):
     """The maps that a new start may say: with what was under way or without it, and with what has been kept for
-    long enough or without it."""
+    long enough, up to the end of a block, or without it."""
     maps = [rows]
     for event in flying:
         maps.append(maps[-1].with_event(event))
-    return [found for one in maps for found in (since(one.rows, 0), since(one.rows, 3000))]
+    return [since(one.rows, end) for one in maps for end in ends]
 
 
 def litter(folder):
@@ -185,17 +192,19 @@ def litter(folder):
     return found ^ wanted, set(os.listdir(f"{folder}/blocks")) ^ numbers
 
 
-def later(server, told, what, rows):
-    """Two cuts more after a start, which a join brings together: so the journal is begun anew."""
-    joins = sum(line.startswith("joined ") for line in server.told_err)
-    for event, at in [
-        (spread(30000, 30600), 30000), (spread(31100, 31700), 31000), (spread(33000, 33100), 33000),
+def later(server, folder, told, what, rows):
+    """Cuts more after a start, of which a join brings two together: so the journal is begun anew."""
+    for first, last, at in [
+        (30000, 30600, 30000), (31100, 31700, 31000), (33000, 33100, 33000), (34100, 34200, 34000),
+        (36000, 36100, 36000),
     ]:
+        event = spread(first, last)
         got = server.tell(event)
         told.that(f"{what}: {event.line()[:40]} after it", got == OK, got)
         rows = rows.with_event(event)
         told.that(f"{what}: the cut at {at} after it", until(server, is_cut(at)), server.told)
-    came = until(server, lambda it: sum(line.startswith("joined ") for line in it.told_err) > joins)
+    # a block that has none before it begins before all times, and lies in no window; the last two do
+    came = until(server, lambda _: Head.read(contents_of(read(f"{folder}/journal"))[0])[0].floor == 36000)
     told.that(f"{what}: a join after it", came, server.told)
     count = -1
     while count != len(server.told_err):
@@ -211,9 +220,9 @@ def again(them, told, what, folder, wanted):
         rows = server.select()[1]
         if told.that(f"{what}: what it says", rows in wanted, differences(wanted[0], rows)):
             # what has been kept for long enough leaves now, if it did not yet
-            more = later(server, told, what, Map(rows))
+            more = later(server, folder, told, what, Map(rows))
             rows = server.select()[1]
-            same = [since(more.rows, first) for first in (0, 1000, 2000, 3000, 4000, 6000, 27000)]
+            same = [since(more.rows, end) for end in (*ENDS, 27000)]
             told.that(f"{what}: what it says later", rows in same, differences(same[0], rows))
             parts = len(server.select()[0])
             told.that(f"{what}: few blocks", parts <= 6, parts)
@@ -241,7 +250,7 @@ def one_kill(them, base, rows, n):
     if server.wait():
         _, flying = lived(server, rows, told)
     if server.process.poll() is None and flying is None:
-        # the caretaker may yet be at work
+        # it may yet be at work
         time.sleep(0.3)
     if server.process.poll() is None and flying is None:
         server.end()
@@ -299,7 +308,7 @@ def one_fault(them, base, rows, kind, n, many):
         told.that(f"{what}: it runs on", flying is None and server.process.poll() is None, server.told)
         if server.process.poll() is None:
             found = server.select()[1]
-            told.that(f"{what}: what it says", found in worlds(rows, []), differences(rows.rows, found))
+            told.that(f"{what}: what it says", found in worlds(rows, [], ENDS), differences(rows.rows, found))
     else:
         told.that(f"{what}: the status of a start", server.ended() == 3, server.told)
     server.end()
@@ -309,7 +318,7 @@ def one_fault(them, base, rows, kind, n, many):
         told.that(f"{what}, but there is none: nothing is refused", not refused and not is_troubled(server))
     told.rolling = any(line.startswith("cannot join ") for line in server.told_err)
     # a change that was written and not synced may be found
-    again(them, told, what, folder, worlds(rows, refused))
+    again(them, told, what, folder, worlds(rows, refused, ENDS))
     os.remove(kept)
     shutil.rmtree(folder)
     return told
@@ -343,7 +352,8 @@ def sees(them, looks, base, rows):
         server.end()
         wanted.apply(event)
         again(them, told, what, folder, worlds(wanted, []))
-        looks.that(f"beside a map with {what} it fails", [it for it in told.found if not it[1]], told.found)
+        looks.at(f"beside a map with {what} it fails", [f"{what}: what it says"],
+                 [name for name, holds, _ in told.found if not holds])
         shutil.rmtree(folder)
 
 

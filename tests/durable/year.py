@@ -99,7 +99,8 @@ def process_memory(pid):
     """The memory of a process now and at most, in bytes."""
     with open(f"/proc/{pid}/status") as file:
         lines = dict(line.split(":", 1) for line in file if line.startswith(("VmRSS", "VmHWM")))
-    return tuple(int(lines[name].split()[0]) * 1024 for name in ("VmRSS", "VmHWM"))
+    # of one that was killed just now there is none
+    return tuple(int(lines.get(name, "0").split()[0]) * 1024 for name in ("VmRSS", "VmHWM"))
 
 
 def on_disk(folder):
@@ -170,8 +171,6 @@ class Year:
         return now, most
 
     def end(self):
-        if self.server.process.poll() is None:
-            self.note_memory()
         self.server.end()
         self.told += self.server.told_err
 
@@ -230,7 +229,7 @@ class Year:
             if time.monotonic() > end:
                 self.waited += 1
                 return
-            time.sleep(0.02)
+            time.sleep(0.1)
 
     def feed(self):
         """The samples of an hour more."""
@@ -242,6 +241,7 @@ class Year:
 
     def killed(self):
         """Feeds it until it is killed, after a moment; then starts it. What was under way is there, or is not."""
+        self.note_memory()
         killer = threading.Timer(self.random.random() * 1.2, self.server.process.kill)
         killer.start()
         try:
@@ -329,13 +329,11 @@ class Year:
         return found, floor
 
     def memory_bound(self, samples, of_one, files):
-        """What docs/OPERATING.md says: 10 bytes a sample and 56 a chunk, of which the least have a dozen samples;
-        the files while they are opened; 70 bytes a sample of the largest join; replies, times 1.4, for each worker.
-        And what the program has over an empty store."""
-        return int(
-            self.empty + samples * (10 + 56 / 12) + files + 70 * of_one + 1.4 * WORKERS * self.most_reply
-            + 16 * 2**20
-        )
+        """Twice what docs/OPERATING.md says, and 64 MB: what the program has over an empty store; 10 bytes a sample,
+        and 56 a chunk, of which the least have a dozen samples; the files while they are opened; 70 bytes a sample
+        of the largest join; replies, times 1.4, for each worker."""
+        told = self.empty + samples * (10 + 56 / 12) + files + 70 * of_one + 1.4 * WORKERS * self.most_reply
+        return int(2 * told) + 64 * 2**20
 
     def lines(self, start):
         return [line for line in self.told + self.server.told_err if line.startswith(start)]
@@ -394,6 +392,7 @@ def year(looks, querier, work, seed):
     looks.that("samples left", store.lines("dropped samples ") and store.lines("removed "))
     most = watch.end()
     joins, removed = len(store.lines("joined ")), len(store.lines("removed "))
+    store.note_memory()
     store.end()
     store.start()
     store.check("after a new start")
