@@ -3,11 +3,11 @@
 
     tests/scripts.py [NAME ..]
 
-With names only these run. It builds those of `querier`, `auditor`, `explain` and `blocktool` that they need
-once (RT), or takes those that QUERIER, AUDITOR, EXPLAIN and BLOCKTOOL name (or PREFIX, where make install put
-them), and hands them to the scripts. JOBS scripts run side by side (half of the processors if it is not set):
-each has its own folder and ports. Those that look at time or memory, or have the prover at work, run alone
-after the others.
+With names only these run. The longest parts of tests/durable are run by `make year` alone. It builds those of
+`querier`, `auditor`, `explain` and `blocktool` that they need once (RT), or takes those that QUERIER, AUDITOR,
+EXPLAIN and BLOCKTOOL name (or PREFIX, where make install put them), and hands them to the scripts. JOBS scripts
+run side by side (half of the processors if it is not set): each has its own folder and ports. Those that look at
+time or memory, or have the prover at work, run alone after the others.
 
 Each script is told when it ends; at the end are those that passed, those that failed and those that were left
 out, and why. What a script prints is left in a folder, which is told if one failed. Exit status 0 if none
