@@ -73,7 +73,7 @@ class Store:
             return False
         end = time.monotonic() + 20
         while self.standing()[0] < at and time.monotonic() < end and not self.lines("cannot cut"):
-            time.sleep(0.02)
+            time.sleep(0.1)
         return True
 
     def agrees(self, what, oldest=0, tell=True):
@@ -101,8 +101,8 @@ def room(disk, size):
 
 
 def full_disk(looks, querier, work):
-    """A disk of 3 MiB that is filled, and then has more room."""
-    with mounted(f"{work}/disk", 3 << 20) as disk:
+    """A disk of 1.5 MiB that is filled, and then has more room."""
+    with mounted(f"{work}/disk", 3 << 19) as disk:
         if disk is None:
             looks.say("no tmpfs may be mounted here: a disk that is full is left")
             return
@@ -119,7 +119,7 @@ def full_disk(looks, querier, work):
         store.agrees("a full disk")
         looks.at("a full disk: E6", [], [line for line in store.lines("cannot cut") if line.endswith("E6")])
         looks.that("a full disk: few blocks", most <= 56, most)
-        looks.say(f"a disk of 3 MiB is full after {at // EVERY} cuts of 2,000 samples, with at most {most} blocks; it "
+        looks.say(f"a disk of 1.5 MiB is full after {at // EVERY} cuts of 2,000 samples, with at most {most} blocks; it "
                   f"says {sorted(set(line.split(':')[0] for line in store.lines('cannot', 'did not')))[:4]}")
         room(disk, 16 << 20)
         # with room again

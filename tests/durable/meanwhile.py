@@ -3,6 +3,7 @@ long the longest write and the longest read took, which is told beside the same 
 import bisect
 import http.client
 import json
+import os
 import random
 import re
 import threading
@@ -15,7 +16,10 @@ from upkeep import metrics
 
 EVERY = 1000
 # as many cuts as leave a store that joins nothing below 63 blocks; series, and samples of each in a cut
-CUTS, SERIES, SAMPLES = 54, 32, 500
+CUTS, SERIES = 54, 32
+SAMPLES = int(os.environ.get("MEANWHILE_SAMPLES") or 500)
+# with more blocks than this the next cut waits, while single samples are written
+MANY = 10
 # batches of so many series
 TOGETHER = 8
 
@@ -90,23 +94,28 @@ class Clients:
                     (labels(n), [(t, t * SERIES + n) for t in span]) for n in range(first, first + TOGETHER)
                 ]))
                 self.log.clock = cut * EVERY
-                if self.random.random() < 0.15:
+                if self.random.random() < 0.08:
                     at, n = self.random.randrange(cut * EVERY), str(self.random.randrange(SERIES))
                     self.tell(Deletion([equals("n", n)], at, at + self.random.randrange(3 * EVERY)))
-            self.tell(self.mark(cut))
+            self.tell(self.mark(cut * EVERY))
             if self.joins:
-                end = time.monotonic() + 60
-                while int(metrics(self.status)["fuzzledge_head_floor"]) < cut * EVERY:
-                    if time.monotonic() > end:
-                        self.wrong.append(f"no cut at {cut * EVERY}")
-                        return
-                    time.sleep(0.02)
+                self.wait_for(cut * EVERY)
             else:
                 self.tell(Cut(cut * EVERY))
 
-    def mark(self, cut):
-        """A sample at the time of a cut, which makes it due."""
-        return Batch([(labels(SERIES), [(cut * EVERY, cut)])])
+    def mark(self, at):
+        """A sample at the time of a cut, which makes it due, or a little later."""
+        return Batch([(labels(SERIES), [(at, at)])])
+
+    def wait_for(self, cut):
+        """Waits until it is cut and has few blocks, and writes a sample now and then."""
+        for later in range(1, EVERY):
+            now = metrics(self.status)
+            if int(now["fuzzledge_head_floor"]) >= cut and int(now["fuzzledge_blocks"]) <= MANY:
+                return
+            self.tell(self.mark(cut + later))
+            time.sleep(0.1)
+        self.wrong.append(f"no cut at {cut}, or many blocks: {now['fuzzledge_blocks']}")
 
     def ask(self, draw):
         """Asks until it is over; each reply is that of some moment between the question and the reply."""
