@@ -12,7 +12,7 @@ from house import (
 from lib import free_port
 from read_block import TABLE, checksum, uvarint, varint
 from upkeep import Map, metrics, since
-from year import megabytes, on_disk, process_memory
+from year import Watch, megabytes, on_disk, process_memory
 
 EVERY = 1000
 GB = 2**30
@@ -88,6 +88,16 @@ class Store:
         return rows
 
 
+def sees(store, rows):
+    """Beside a map with a sample more what it says is not as wanted."""
+    one, samples = next((one, samples) for one, samples in sorted(store.map.rows.items()) if samples)
+    at = max(samples) + 1
+    samples[at] = 1
+    store.looks.that("a map with a sample more differs", rows != since(store.map.rows, 0))
+    del samples[at]
+    store.looks.that("and without it does not", rows == since(store.map.rows, 0))
+
+
 def litter(folder):
     """The folders of blocks that the journal's head does not name, and whether a journal was left half."""
     head, _ = Head.read(contents_of(read(f"{folder}/journal"))[0])
@@ -116,7 +126,7 @@ def full_disk(looks, querier, work):
         got = [store.tell(Batch([(labels(8), [(at + k, k) for k in range(4000)])])) for _ in range(5)]
         looks.that("a full disk: batches are refused", NOT_KEPT in got and {str(OK), str(NOT_KEPT)} >= set(map(str, got)),
                    got)
-        store.agrees("a full disk")
+        sees(store, store.agrees("a full disk"))
         looks.at("a full disk: E6", [], [line for line in store.lines("cannot cut") if line.endswith("E6")])
         looks.that("a full disk: few blocks", most <= 56, most)
         looks.say(f"a disk of 1.5 MiB is full after {at // EVERY} cuts of 2,000 samples, with at most {most} blocks; it "
@@ -137,6 +147,13 @@ def full_disk(looks, querier, work):
         for _ in range(12):
             at += EVERY
             looks.that("room again: a cut more", store.cut(at, 500), store.server.told_err[-3:], tell=False)
+        # what was refused is tried again after the next cut, and after a pause that is as long as it took, often
+        for _ in range(60):
+            if store.standing()[1] <= 30:
+                break
+            at += EVERY
+            looks.that("room again: a cut more", store.cut(at, 500), store.server.told_err[-3:], tell=False)
+            time.sleep(1)
         store.settle()
         store.agrees("room again")
         looks.that("room again: few blocks", store.standing()[1] <= 30, store.standing())
@@ -150,15 +167,12 @@ def full_disk(looks, querier, work):
 def leaving_room(looks, querier, work):
     """How much room it takes while the oldest leave: it is told. On a disk that has less, nothing that is kept is
     lost, and it goes on once there is room."""
-    keep = 48 * EVERY
+    keep = 24 * EVERY
     store = Store(looks, querier, f"{work}/room", "--keep", f"{keep // 1000}s")
-    most = settled = 0
-    for at in range(EVERY, 150 * EVERY, EVERY):
+    watch = Watch(store.folder)
+    for at in range(EVERY, 72 * EVERY, EVERY):
         store.cut(at, 500)
-        files = on_disk(store.folder)[1]
-        most = max(most, files)
-        if at > 2 * keep:
-            settled = max(settled, on_disk(store.folder)[0])
+    most = watch.end()
     store.settle()
     store.agrees("leaving", store.standing()[0] - keep)
     head, _ = Head.read(contents_of(read(f"{store.folder}/journal"))[0])
@@ -176,12 +190,12 @@ def leaving_room(looks, querier, work):
             return
         store = Store(looks, querier, f"{disk}/data", "--keep", f"{keep // 1000}s", "--journal-mb", "1")
         refused = at = 0
-        for at in range(EVERY, 150 * EVERY, EVERY):
+        for at in range(EVERY, 72 * EVERY, EVERY):
             refused = 0 if store.cut(at, 500) else refused + 1
             if refused > 3:
                 break
         floor, blocks = store.standing()
-        looks.say(f"on a disk of {megabytes(size)}: {at // EVERY} cuts of 149, {blocks} blocks, files of "
+        looks.say(f"on a disk of {megabytes(size)}: {at // EVERY} cuts of 71, {blocks} blocks, files of "
                   f"{megabytes(on_disk(store.folder)[1])}; it says {dict.fromkeys(store.lines('cannot', 'did not'))}")
         store.agrees("a small disk", floor - keep)
         looks.at("a small disk: E6", [], [line for line in store.lines("cannot cut") if line.endswith("E6")])
