@@ -1,5 +1,6 @@
-"""Stores that have no more room. With --keep-gb the oldest samples leave, and the newer ones stay; on a full disk
-what is not kept is refused, nothing that was acknowledged is lost, and once there is room blocks are joined again."""
+"""Stores that have no more room. With --keep-gb the oldest samples leave, and the newer ones stay; on a full
+disk what is not kept is refused, nothing that was acknowledged is lost, and once there is room blocks are
+joined again."""
 import json
 import os
 import subprocess
@@ -7,7 +8,8 @@ import time
 
 from faults import mounted
 from house import (
-    HEADER, NOT_KEPT, NOTHING, OK, Batch, Head, Server, contents_of, differences, labels_text, read, record, set_of,
+    HEADER, NOT_KEPT, NOTHING, OK, Batch, Head, Server, contents_of, differences, labels_text, read, record,
+    set_of,
 )
 from lib import free_port
 from read_block import TABLE, checksum, uvarint, varint
@@ -27,7 +29,9 @@ class Store:
 
     def __init__(self, looks, querier, folder, *words, every=EVERY):
         self.looks, self.querier, self.folder, self.map, self.told = looks, querier, folder, Map(), []
-        self.words = ["--data", folder, "--cut-every", str(every), "--cut-after", "0", "--workers", "2", *words]
+        self.words = [
+            "--data", folder, "--cut-every", str(every), "--cut-after", "0", "--workers", "2", *words,
+        ]
         self.start()
 
     def start(self):
@@ -62,8 +66,8 @@ class Store:
         return got
 
     def cut(self, at, count, series=4):
-        """Some batches up to a time, which makes a cut there due, and waits for it a little; whether all of them
-        were kept."""
+        """Some batches up to a time, which makes a cut there due, and waits for it a little; whether all of
+        them were kept."""
         step = EVERY // count
         for n in range(series):
             times = range(at - EVERY, at, step)
@@ -101,8 +105,8 @@ def sees(store, rows):
 def litter(folder):
     """The folders of blocks that the journal's head does not name, and whether a journal was left half."""
     head, _ = Head.read(contents_of(read(f"{folder}/journal"))[0])
-    return sorted(set(os.listdir(f"{folder}/blocks")) ^ {str(number) for number in head.numbers}), os.path.exists(
-        f"{folder}/journal.next")
+    others = set(os.listdir(f"{folder}/blocks")) ^ {str(number) for number in head.numbers}
+    return sorted(others), os.path.exists(f"{folder}/journal.next")
 
 
 def room(disk, size):
@@ -124,13 +128,15 @@ def full_disk(looks, querier, work):
             most = max(most, store.standing()[1])
         looks.that("a full disk: it is full", not kept, at)
         got = [store.tell(Batch([(labels(8), [(at + k, k) for k in range(4000)])])) for _ in range(5)]
-        looks.that("a full disk: batches are refused", NOT_KEPT in got and {str(OK), str(NOT_KEPT)} >= set(map(str, got)),
-                   got)
+        is_so = NOT_KEPT in got and all(one in (OK, NOT_KEPT) for one in got)
+        looks.that("a full disk: batches are refused", is_so, got)
         sees(store, store.agrees("a full disk"))
         looks.at("a full disk: E6", [], [line for line in store.lines("cannot cut") if line.endswith("E6")])
         looks.that("a full disk: few blocks", most <= 56, most)
-        looks.say(f"a disk of 1.5 MiB is full after {at // EVERY} cuts of 2,000 samples, with at most {most} blocks; it "
-                  f"says {sorted(set(line.split(':')[0] for line in store.lines('cannot', 'did not')))[:4]}")
+        looks.say(
+            f"a disk of 1.5 MiB is full after {at // EVERY} cuts of 2,000 samples, with at most {most} blocks; "
+            f"it says {sorted(set(line.split(':')[0] for line in store.lines('cannot', 'did not')))[:4]}"
+        )
         room(disk, 16 << 20)
         # with room again
         took = None
@@ -147,7 +153,7 @@ def full_disk(looks, querier, work):
         for _ in range(12):
             at += EVERY
             looks.that("room again: a cut more", store.cut(at, 500), store.server.told_err[-3:], tell=False)
-        # what was refused is tried again after the next cut, and after a pause that is as long as it took, often
+        # what was refused is tried again after the next cut, and a pause of twenty times as long as it took
         for _ in range(60):
             if store.standing()[1] <= 30:
                 break
@@ -165,8 +171,8 @@ def full_disk(looks, querier, work):
 
 
 def leaving_room(looks, querier, work):
-    """How much room it takes while the oldest leave: it is told. On a disk that has less, nothing that is kept is
-    lost, and it goes on once there is room."""
+    """How much room it takes while the oldest leave: it is told. On a disk that has less, nothing that is
+    kept is lost, and it goes on once there is room."""
     keep = 24 * EVERY
     store = Store(looks, querier, f"{work}/room", "--keep", f"{keep // 1000}s")
     watch = Watch(store.folder)
@@ -180,8 +186,10 @@ def leaving_room(looks, querier, work):
         f"{store.folder}/blocks/{number}") for name in names) for number in head.numbers)
     now = on_disk(store.folder)[0]
     store.end()
-    looks.say(f"leaving: blocks of {megabytes(now)}, the largest {megabytes(largest)}; at any moment that was looked "
-              f"at {megabytes(most)} of files")
+    looks.say(
+        f"leaving: blocks of {megabytes(now)}, the largest {megabytes(largest)}; at any moment that was looked "
+        f"at {megabytes(most)} of files"
+    )
     # the same on a disk that has room for twice the largest block more
     size = (now + 2 * largest + (1 << 19)) // 4096 * 4096
     with mounted(f"{work}/small", size) as disk:
@@ -195,16 +203,18 @@ def leaving_room(looks, querier, work):
             if refused > 3:
                 break
         floor, blocks = store.standing()
-        looks.say(f"on a disk of {megabytes(size)}: {at // EVERY} cuts of 71, {blocks} blocks, files of "
-                  f"{megabytes(on_disk(store.folder)[1])}; it says {dict.fromkeys(store.lines('cannot', 'did not'))}")
+        looks.say(
+            f"on a disk of {megabytes(size)}: {at // EVERY} cuts of 71, {blocks} blocks, files of "
+            f"{megabytes(on_disk(store.folder)[1])}; it says {sorted(set(store.lines('cannot', 'did not')))}"
+        )
         store.agrees("a small disk", floor - keep)
         looks.at("a small disk: E6", [], [line for line in store.lines("cannot cut") if line.endswith("E6")])
         room(disk, 4 * size)
         store.end()
         store.start()
         for at in range(at + EVERY, at + 20 * EVERY, EVERY):
-            looks.that("a small disk with room again: a cut more", store.cut(at, 500), store.server.told_err[-3:],
-                       tell=False)
+            told = store.server.told_err
+            looks.that("a small disk with room again: a cut more", store.cut(at, 500), told[-3:], tell=False)
         store.settle()
         store.agrees("a small disk with room again", store.standing()[0] - keep)
         looks.that("a small disk with room again: few blocks", store.standing()[1] <= 40, store.standing())
@@ -239,8 +249,8 @@ class Tail:
             (length, checksum(length), front, self.tail, (behind ^ 0xFFFFFFFF).to_bytes(4, "big")))
 
 
-# of the large store the end of each block, and how many series have a sample a millisecond there: no neighbours
-# fit into one block, and all are some ten megabytes below 1 GiB, as it is reckoned
+# of the large store the end of each block, and how many series have a sample a millisecond there: no
+# neighbours fit into one block, and all are some ten megabytes below 1 GiB, as it is reckoned
 LARGE = [(2, 1), (4, 17), (6, 17), (9, 16), (12, 15)]
 MILLION = 1_000_000
 
@@ -258,8 +268,8 @@ def write_large(folder):
                 for first in range((end - 1) * MILLION, end * MILLION, each):
                     name = b"" if number in known else labels_text(set_of(labels(number)))
                     known.add(number)
-                    file.write(tail.record(
-                        b"\x04" + uvarint(1) + uvarint(number) + name + uvarint(each) + varint(first) + varint(1)))
+                    front = b"\x04" + uvarint(1) + uvarint(number) + name
+                    file.write(tail.record(front + uvarint(each) + varint(first) + varint(1)))
             file.write(record(b"\x03" + varint(end * MILLION)))
             # no series has a sample at or behind the cut, so their numbers stay
             counts.append(series * MILLION)
@@ -267,13 +277,14 @@ def write_large(folder):
 
 
 def keep_gb(looks, querier, work):
-    """A store of some 1,064 MB, as it is reckoned, is kept to 1 GiB: with a cut more the oldest block leaves, and
-    no other."""
+    """A store of some 1,056 MB, as it is reckoned, is kept to 1 GiB: with a cut more the oldest block leaves,
+    and no other."""
     folder = f"{work}/large"
     began = time.monotonic()
     counts = write_large(folder)
     store = Store(looks, querier, folder, "--keep-gb", "1", every=MILLION)
-    looks.say(f"keep-gb: a journal of {sum(counts)} samples, and a start over it, in {time.monotonic() - began:.0f} s")
+    took = time.monotonic() - began
+    looks.say(f"keep-gb: a journal of {sum(counts)} samples, and a start over it, in {took:.0f} s")
     store.settle(600)
 
     def blocks():
@@ -284,11 +295,14 @@ def keep_gb(looks, querier, work):
     def told(what):
         now, most = process_memory(store.server.process.pid)
         of_blocks, everything = on_disk(folder)
-        looks.say(f"keep-gb, {what}: files of blocks {of_blocks} bytes, of {sum(n for _, n in blocks())} samples; "
-                  f"{everything} bytes in all; memory {megabytes(now)}, at most {megabytes(most)}")
+        looks.say(
+            f"keep-gb, {what}: files of blocks {of_blocks} bytes, of {sum(n for _, n in blocks())} samples; "
+            f"{everything} bytes in all; memory {megabytes(now)}, at most {megabytes(most)}"
+        )
         return of_blocks
 
-    looks.at("keep-gb: the blocks of what fits", [(end * MILLION, n) for (end, _), n in zip(LARGE, counts)], blocks())
+    wanted = [(end * MILLION, n) for (end, _), n in zip(LARGE, counts)]
+    looks.at("keep-gb: the blocks of what fits", wanted, blocks())
     told("before")
     # a cut more with 1,200,000 samples, so that there are more than 1 GiB
     at, refused = 12 * MILLION, []
@@ -299,7 +313,8 @@ def keep_gb(looks, querier, work):
             if got != OK:
                 refused.append(got)
     looks.at("keep-gb: what is refused", [], refused[:3])
-    looks.at("keep-gb: the sample that brings a cut", OK, store.server.tell(Batch([(labels(0), [(at + MILLION, 1)])])))
+    last = Batch([(labels(0), [(at + MILLION, 1)])])
+    looks.at("keep-gb: the sample that brings a cut", OK, store.server.tell(last))
     end = time.monotonic() + 1500
     while time.monotonic() < end and not store.lines("removed ", "cannot", "did not"):
         time.sleep(0.5)
@@ -307,20 +322,21 @@ def keep_gb(looks, querier, work):
     looks.at("keep-gb: what leaves", ["dropped samples before 2000000: 1 block", "removed 1 empty block"],
              store.lines("dropped", "removed", "cannot", "did not"))
     looks.at("keep-gb: its blocks then", len(LARGE), store.standing()[1])
-    looks.at("keep-gb: those in the folder", [(end * MILLION, n) for (end, _), n in zip(LARGE[1:], counts[1:])],
-             blocks()[:4])
+    looks.at("keep-gb: those in the folder", wanted[1:], blocks()[:4])
     of_blocks = told("then")
     looks.that("keep-gb: what is reckoned is below 1 GiB", 16 * sum(n for _, n in blocks()) <= GB)
     # the files have a head of some bytes for each chunk of 120 samples, and the index has its place
     looks.that("keep-gb: the files are few more", of_blocks <= GB * 1.05, of_blocks)
-    for n, first, wanted in [(0, MILLION, 0), (0, 4 * MILLION - 1000, 1000), (16, 6 * MILLION - 1000, 1000)]:
+    for n, first, count in [(0, MILLION, 0), (0, 4 * MILLION - 1000, 1000), (16, 6 * MILLION - 1000, 1000)]:
         reply = store.server.exchange(
             "GET", f"/select?selector=full%7Bn%3D%22{n}%22%7D&from={first}&to={first + 999}")[1]
-        looks.at(f"keep-gb: series {n} from {first}", wanted, sum(len(row["samples"]) for row in reply["rows"]))
+        got = sum(len(row["samples"]) for row in reply["rows"])
+        looks.at(f"keep-gb: series {n} from {first}", count, got)
     store.end()
     store.start()
     store.settle(600)
-    looks.at("keep-gb: nothing leaves at a new start", [], [it for it in store.server.told_err if "dropped" in it])
+    left = [line for line in store.server.told_err if "dropped" in line]
+    looks.at("keep-gb: nothing leaves at a new start", [], left)
     looks.at("keep-gb: blocks after a new start", len(LARGE), store.standing()[1])
     store.end()
 

@@ -1,6 +1,6 @@
-"""A server that cuts, joins and lets samples leave by itself is killed at each of its calls meanwhile, and each of
-them fails: a new one says what was acknowledged, of what was under way all or nothing, and nothing else; once it
-has begun the journal anew, its folder has the blocks of the head and no litter."""
+"""A server that cuts, joins and lets samples leave by itself is killed at each of its calls meanwhile, and
+each of them fails: a new one says what was acknowledged, of what was under way all or nothing, and nothing
+else; once it has begun the journal anew, its folder has the blocks of the head and no litter."""
 import concurrent.futures
 import contextlib
 import os
@@ -10,8 +10,8 @@ import subprocess
 import time
 
 from house import (
-    OK, Batch, Cut, Deletion, Folders, Head, Lost, NOT_KEPT, Server, contents_of, differences, equals, lines_of,
-    read,
+    NOT_KEPT, OK, Batch, Cut, Deletion, Folders, Head, Lost, Server, contents_of, differences, equals,
+    lines_of, read,
 )
 from upkeep import EVERY, Map, since
 
@@ -41,8 +41,8 @@ def before():
 
 
 def session():
-    """Events, and behind each what the server does then by itself: the floor, how many parts there are and the
-    first words of a line, how many of which there are by then."""
+    """Events, and behind each what the server has done then by itself: how many parts there are, and the first
+    word of a line with how many of these there are."""
     return [
         # the third cut: two blocks become one; the first begins before all times, and so in no window
         (spread(2000, 3500), 3, ("joined ", 1)),
@@ -113,7 +113,8 @@ def is_troubled(server):
 
 
 def until(server, holds, has_faults=False, seconds=30):
-    """Waits until something holds of a server; whether it does. Once it has told of a fault, it has half a second."""
+    """Waits until something holds of a server; whether it does. Once it has told of a fault, it has half a
+    second."""
     end = time.monotonic() + seconds
     while time.monotonic() < end and server.process.poll() is None:
         try:
@@ -147,8 +148,8 @@ def is_cut(at):
 
 
 def lived(server, rows, told, has_faults=False):
-    """Tells a server of the session, and waits for what it does by itself. The events that it did not keep and
-    the one that was under way."""
+    """Tells a server of the session, and waits for what it does by itself. The events that it did not keep,
+    and the one that was under way."""
     refused = []
     for event, parts, line in session():
         try:
@@ -170,8 +171,8 @@ def lived(server, rows, told, has_faults=False):
 
 
 def worlds(rows, flying, ends=(0, 3000)):
-    """The maps that a new start may say: with what was under way or without it, and with what has been kept for
-    long enough, up to the end of a block, or without it."""
+    """The maps that a new start may say: with what was under way or without it, and with what has been kept
+    for long enough, up to the end of a block, or without it."""
     maps = [rows]
     for event in flying:
         maps.append(maps[-1].with_event(event))
@@ -235,7 +236,7 @@ def again(them, told, what, folder, wanted):
 
 
 def is_of_join(trace):
-    """Whether the last call before a kill was one of those that write blocks or begin a journal, or of removing
+    """Whether the last call before a kill was one of those that write blocks, begin a journal or remove
     blocks."""
     lines = [line for line in lines_of(trace) if line != "reply"]
     return bool(lines) and lines[-1].split()[1].startswith(("journal.next", "blocks"))
@@ -289,9 +290,12 @@ def in_turn(them, one, looks, numbers):
 def killed(them, looks, base, rows):
     done = in_turn(them, lambda n: one_kill(them, base, rows, n), looks, range(1, 2000))
     joins = sum(told.rolling for told in done)
-    looks.that("it was killed in joins and out of them", joins > 60 and len(done) - joins > 15, (len(done), joins))
-    looks.say(f"{len(done)} servers were killed, {joins} of them while they wrote or removed blocks, or began the "
-              "journal anew")
+    both = joins > 60 and len(done) - joins > 15
+    looks.that("it was killed in joins and out of them", both, (len(done), joins))
+    looks.say(
+        f"{len(done)} servers were killed, {joins} of them while they wrote or removed blocks, or began the "
+        "journal anew"
+    )
 
 
 def one_fault(them, base, rows, kind, n, many):
@@ -326,10 +330,15 @@ def one_fault(them, base, rows, kind, n, many):
 
 def failing(them, looks, base, rows):
     for kind, least in KINDS.items():
-        done = in_turn(them, lambda n, kind=kind: one_fault(them, base, rows, kind, n, 1), looks, range(1, 2000))
+        def one(n, kind=kind):
+            return one_fault(them, base, rows, kind, n, 1)
+
+        done = in_turn(them, one, looks, range(1, 2000))
         refused = sum(told.rolling for told in done)
         looks.that(f"each {kind.lower()} failed in turn", len(done) >= least, len(done))
-        looks.say(f"each {kind.lower()} failed in turn: {len(done)} servers, {refused} of them could not join")
+        looks.say(
+            f"each {kind.lower()} failed in turn: {len(done)} servers, {refused} of them could not join"
+        )
         if kind in ("WRITE", "SYNC", "MAKE"):
             some = range(1, len(done) + 1, 4)
             with concurrent.futures.ThreadPoolExecutor(SIDE_BY_SIDE) as pool:
@@ -342,7 +351,8 @@ def failing(them, looks, base, rows):
 def sees(them, looks, base, rows):
     """Beside a map that has a sample more, or one less, a run is not as wanted."""
     for what, event in [
-        ("a sample more", Batch([row(1, (27450, 7))])), ("one less", Deletion([equals("n", "4")], 27400, 27400)),
+        ("a sample more", Batch([row(1, (27450, 7))])),
+        ("one less", Deletion([equals("n", "4")], 27400, 27400)),
     ]:
         told, wanted = Told(), Map({one: dict(samples) for one, samples in rows.rows.items()})
         folder = them.copied(base, f"sees-{what[:3]}")

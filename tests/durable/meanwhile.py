@@ -1,5 +1,6 @@
-"""What clients see while blocks are joined: each reply is right beside a plain map, an auditor accepts it, and how
-long the longest write and the longest read took, which is told beside the same without joins and not judged."""
+"""What clients see while blocks are joined: each reply is right beside a plain map, an auditor accepts it, and
+how long the longest write and the longest read took, which is told beside the same without joins and not
+judged."""
 import bisect
 import http.client
 import json
@@ -73,7 +74,8 @@ class Clients:
         self.status, self.writes, self.reads, self.wrong = free_port(), [], [], []
         self.audits = {"valid": 0, "rolled since": 0, "ask again": 0}
         words = ["--cut-every", str(EVERY), "--cut-after", "0"] if joins else []
-        self.server = Server(querier, "--data", folder, "--workers", "6", "--status-port", str(self.status), *words)
+        words += ["--workers", "6", "--status-port", str(self.status)]
+        self.server = Server(querier, "--data", folder, *words)
         looks.that("it starts", self.server.wait(), self.server.told, tell=False)
 
     def tell(self, event):
@@ -86,7 +88,8 @@ class Clients:
             self.wrong.append(f"{event.line()}: {got}")
 
     def write(self):
-        """CUTS cuts, each as soon as the one before is made; and deletions of what may be joined just then."""
+        """CUTS cuts, each as soon as the one before is made; and deletions of what may be joined just
+        then."""
         for cut in range(1, CUTS + 1):
             for first in range(0, SERIES, TOGETHER):
                 span = range(cut * EVERY - EVERY, cut * EVERY, EVERY // SAMPLES)
@@ -119,7 +122,7 @@ class Clients:
 
     def ask(self, draw):
         """Asks until it is over; each reply is that of some moment between the question and the reply."""
-        while not self.over.is_set():
+        while not self.over.wait(0.03):
             n, clock = draw.randrange(SERIES + 1), max(1, self.log.clock)
             first, last = sorted((draw.randrange(clock), draw.randrange(clock)))
             if draw.random() < 0.7:
@@ -139,12 +142,14 @@ class Clients:
             got = rows_in(reply["rows"]).get(set_of(labels(n)), {})
             if not any(self.log.at(count, n, first, last) == got for count in range(done, sent + 1)):
                 now = self.log.at(done, n, first, last)
-                self.wrong.append(f"{n} from {first} to {last} after {done} to {sent} events: {len(got)} samples, "
-                                  f"not {len(now)}: {sorted(set(got.items()) ^ set(now.items()))[:3]}")
+                self.wrong.append(
+                    f"{n} from {first} to {last} after {done} to {sent} events: {len(got)} samples, not "
+                    f"{len(now)}: {sorted(set(got.items()) ^ set(now.items()))[:3]}"
+                )
 
     def audit(self, draw):
         """Has an auditor judge replies, each behind a mark."""
-        while not self.over.is_set():
+        while not self.over.wait(0.2):
             status, out, err = run([self.auditor, "--store", self.folder, "--mark"])
             if status == 3 and " changes" in err:
                 continue
@@ -161,9 +166,7 @@ class Clients:
             if draw.random() < 0.1:
                 self.lie(body, selector, first, mark)
                 continue
-            status, out, err = piped(
-                [self.auditor, "--store", self.folder, "--since", mark, "--selector", selector, f"--from={first}",
-                 f"--to={first + EVERY}"], body)
+            status, out, err = self.judged(body, selector, first, mark)
             if status == 0:
                 self.audits["valid"] += 1
             elif status == 3 and err.startswith("rolled since "):
@@ -171,7 +174,14 @@ class Clients:
             elif status == 3 and (err.rstrip().endswith("ask again") or " changes" in err):
                 self.audits["ask again"] += 1
             else:
-                self.wrong.append(f"an audit of {selector} from {first} since {mark}: {status} {out[-300:]} {err}")
+                self.wrong.append(
+                    f"an audit of {selector} from {first} since {mark}: {status} {out[-300:]} {err}"
+                )
+
+    def judged(self, body, selector, first, mark):
+        """What an auditor says of a reply."""
+        words = ["--selector", selector, f"--from={first}", f"--to={first + EVERY}"]
+        return piped([self.auditor, "--store", self.folder, "--since", mark, *words], body)
 
     def lie(self, body, selector, first, mark):
         """A reply of which a sample is changed is not accepted."""
@@ -179,9 +189,8 @@ class Clients:
         if not reply["rows"]:
             return
         reply["rows"][0]["samples"][0][1] += 1
-        status, _, err = piped(
-            [self.auditor, "--store", self.folder, "--since", mark, "--selector", selector, f"--from={first}",
-             f"--to={first + EVERY}"], json.dumps(reply, separators=(",", ":")).encode())
+        text = json.dumps(reply, separators=(",", ":")).encode()
+        status, _, err = self.judged(text, selector, first, mark)
         self.audits["lies refused"] = self.audits.get("lies refused", 0) + (status != 0)
         if not status:
             self.wrong.append(f"an audit accepts a lie: {err}")
@@ -218,12 +227,14 @@ def once(looks, querier, auditor, folder, seed, joins):
     looks.that(f"{what}: replies were judged", len(them.reads) > 50, len(them.reads))
     parts, rows = them.server.select()
     wanted = {set_of(labels(n)): them.log.at(them.log.sent, n, LEAST, MOST) for n in range(SERIES + 1)}
-    looks.that(f"{what}: what it says in the end", rows == {one: found for one, found in wanted.items() if found})
+    wanted = {one: found for one, found in wanted.items() if found}
+    looks.that(f"{what}: what it says in the end", rows == wanted)
     lines = [line for line in them.server.told_err if line.startswith("joined ")]
     if joins:
         looks.that(f"{what}: blocks were joined", len(lines) > CUTS // 4, len(lines))
         looks.that(f"{what}: few blocks", len(parts) <= 30, len(parts))
-        looks.at(f"{what}: nothing is refused", [], [it for it in them.server.told_err if it.startswith("cannot")])
+        cannot = [line for line in them.server.told_err if line.startswith("cannot")]
+        looks.at(f"{what}: nothing is refused", [], cannot)
     else:
         looks.at(f"{what}: no blocks were joined", [], lines)
     looks.say(f"{what}: {CUTS} cuts of {SERIES * SAMPLES} samples in {took:.0f} s, {len(lines)} joins, "

@@ -28,13 +28,13 @@ parts, of which the last four are run only if they are named, and the others if 
            there whole or not at all, and nothing else. In some rounds the power is cut too: what was not
            synced is lost.
   joining-live
-           a server that cuts, joins and lets samples leave is killed at each of its calls meanwhile, and each of
-           them fails; then its folder has no litter
+           a server that cuts, joins and lets samples leave is killed at each of its calls meanwhile, and each
+           of them fails; then its folder has no litter
   meanwhile
-           replies and audits while blocks are joined; the longest write and read are told, beside those without
-           joins
-  full     a full disk, and one with little room while the oldest leave; a store of 1 GiB with --keep-gb, which
-           takes 6 GB of disk and memory and is left with FULL_GB=0
+           replies and audits while blocks are joined, in cuts of 32 times MEANWHILE_SAMPLES (500); the longest
+           write and read are told, beside those without joins
+  full     a full disk, and one with little room while the oldest leave; a store of 1 GiB with --keep-gb,
+           which takes 3 GB of disk and is left with FULL_GB=0
   year     YEAR_DAYS (367) days of cuts each two hours: blocks, memory, disk and what left late are told
 
 SEED is the number from which all is drawn; it is told, and drawn anew if there is none. QUERIER, and

