@@ -41,8 +41,8 @@ def before():
 
 
 def session():
-    """Events, and behind each what the server has done then by itself: how many parts there are, and the first
-    word of a line with how many of these there are."""
+    """Events, and behind each what the server has done then by itself: how many parts there are, and the
+    first word of a line with how many of these there are."""
     return [
         # the third cut: two blocks become one; the first begins before all times, and so in no window
         (spread(2000, 3500), 3, ("joined ", 1)),

