@@ -12,7 +12,7 @@ import subprocess
 import urllib.parse
 
 from blocks import Blocks, row, session
-from faults import NOBODY, mounted
+from faults import mounted
 from house import (
     LEAST, MOST, OK, Batch, Cut, Deletion, Head, World, contents_of, equals, journal, lines_of, piped, read,
     record, recovered, refused, rows_in, run, tree,
@@ -740,110 +740,13 @@ def others(them, looks):
     server.end()
 
 
-SYSTEMCTL = """#!/bin/sh
-# stands in for systemctl: notes what it is told, and fails at REFUSED
-echo "$*" >>"$NOTES"
-[ "$1" != "${REFUSED:-}" ]
-"""
-
-
-def script(them, looks, work, path):
-    """The script that stops a service, joins, and starts it again."""
-    programs, notes = f"{work}/programs", f"{work}/notes"
-    os.mkdir(programs)
-    os.chmod(programs, 0o755)
-    with open(f"{programs}/systemctl", "w") as file:
-        file.write(SYSTEMCTL)
-    os.chmod(f"{programs}/systemctl", 0o755)
-    os.symlink(them.blocktool, f"{programs}/blocktool")
-    env = {"PATH": f"{programs}:{os.environ['PATH']}", "NOTES": notes}
-
-    def told(*words, **more):
-        with open(notes, "w"):
-            pass
-        status, out, err = run([path, *words], {**env, **more})
-        return status, out, err, read(notes).decode().splitlines()
-
-    base, world = them.lived(session(), later())
-    count = len(world.blocks)
-    folder = them.copied(base)
-    status, out, err, calls = told("one.service", folder)
-    looks.at(
-        "the script: what it does", (0, ["stop one.service", "start one.service"], ""), (status, calls, err)
-    )
-    looks.that(
-        "the script: what it says",
-        f"{count} blocks joined into 1" in out and folder in out and "one.service" in out,
-        out,
-    )
-    them.same("the script", folder, world).end()
-    folder = them.copied(base)
-    with open(f"{folder}/journal", "wb") as file:
-        file.write(b"FZLK")
-    status, out, err, calls = told("one.service", folder)
-    looks.at("the script: a join that is refused", (1, ["stop one.service", "start one.service"], True),
-             (status, calls, "refused J1: " in err))
-    status, out, err, calls = told("one.service", f"{work}/none")
-    looks.that(
-        "the script: no folder",
-        status == 3 and not calls and f"{work}/none" in err,
-        (status, out, err, calls),
-    )
-    folder = them.copied(base)
-    held = tree(folder)
-    status, out, err, calls = told("one.service", folder, REFUSED="stop")
-    looks.at(
-        "the script: a service that is not stopped",
-        (True, ["stop one.service"], True),
-        (status > 0, calls, tree(folder) == held),
-    )
-    status, out, err, calls = told("one.service", folder, REFUSED="start")
-    looks.at(
-        "the script: a service that does not start",
-        (True, ["stop one.service", "start one.service"]),
-        (status > 0, calls),
-    )
-    status, out, err, calls = told("one.service", folder, "more")
-    looks.at("the script: a word too many", (2, []), (status, calls))
-    as_nobody = [
-        "setpriv", f"--reuid={NOBODY}", f"--regid={NOBODY}", "--clear-groups", them.blocktool, "--version",
-    ]
-    if os.getuid() or not shutil.which("setpriv") or run(as_nobody)[0]:
-        looks.say("this is not root, or nobody cannot run the program: a folder of another user is left")
-        return
-    # a folder of another user, below one that only root may pass, as /var/lib/private is
-    above = f"{work}/private"
-    os.mkdir(above, 0o700)
-    folder = f"{above}/store"
-    shutil.copytree(base, folder)
-    for at, folders, files in os.walk(folder):
-        for name in [".", *folders, *files]:
-            os.chown(os.path.join(at, name), NOBODY, NOBODY)
-    with contextlib.suppress(OSError):
-        os.symlink("private/store", f"{work}/store")
-    status, out, err, calls = told("one.service", f"{work}/store")
-    looks.at(
-        "the script: a folder of another user",
-        (0, "", ["stop one.service", "start one.service"]),
-        (status, err, calls),
-    )
-    owners = {
-        os.stat(os.path.join(at, name)).st_uid
-        for at, folders, files in os.walk(folder)
-        for name in [".", *folders, *files]
-    }
-    looks.at("the script: whose files there are then", {NOBODY}, owners)
-    looks.at("the script: the blocks of another user's folder", 1, len(them.numbers(folder)))
-
-
-def joining(looks, querier, others_of, preload, work, path):
+def joining(looks, querier, others_of, preload, work):
     them = Joins(looks, querier, others_of, preload, work)
     lives(them, looks)
     many(them, looks)
     others(them, looks)
     not_joined(them, looks)
     full(them, looks, work)
-    script(them, looks, work, path)
     large(them, looks)
     if preload:
         order(them, looks, them.lived(session(), [])[0])

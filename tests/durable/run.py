@@ -17,7 +17,7 @@ parts, of which the last four are run only if they are named, and the others if 
            was sent
   faults   each write and each sync that fails in turn, a full disk, folders that are read-only
   joining  `blocktool join`: a store says the same as before in fewer blocks; the join is killed at each of
-           its calls, and each of them fails; what is not joined stays as it is; packaging/join-store
+           its calls, and each of them fails; what is not joined stays as it is
   adding   `blocktool add`: a store has the samples of blocks beneath its own; killed and failing calls as
            above; what is refused
   backup   `querier backup`: beside a server that writes and rolls, each copy is the store at some moment; the
@@ -102,7 +102,6 @@ def parts_of(names, preload):
         others = find_program("blocktool"), auditor
     count = int(os.environ.get("ROUNDS") or 100)
     seed = os.environ.get("SEED") or str(random.SystemRandom().randrange(10**6))
-    script = f"{TOP}/packaging/join-store"
     return {
         "folders": lambda looks, work: folders(looks, querier, preload, work, [block]),
         "events": lambda looks, work: events(looks, querier, work),
@@ -111,7 +110,7 @@ def parts_of(names, preload):
         "running": lambda looks, work: running(looks, querier, preload, work, count, seed),
         "damage": lambda looks, work: damage(looks, querier, work, seed),
         "faults": lambda looks, work: faults(looks, querier, preload, work),
-        "joining": lambda looks, work: joining(looks, querier, others, preload, work, script),
+        "joining": lambda looks, work: joining(looks, querier, others, preload, work),
         "adding": lambda looks, work: adding(looks, querier, others, preload, work),
         "backup": lambda looks, work: backup(looks, querier, preload, work, count),
         "upkeep": lambda looks, work: upkeep(looks, querier, work, seed),
