@@ -20,6 +20,8 @@ KEEP = 24 * EVERY
 WORDS = ("--cut-every", str(EVERY), "--cut-after", "0", "--keep", f"{KEEP // 1000}s")
 # how many servers run side by side: they mostly wait for the pauses of the one who joins
 SIDE_BY_SIDE = 4
+# of how many calls one is the last or fails
+STEP = int(os.environ.get("CALLS_STEP") or 1)
 # where blocks may end if a cut was refused
 ENDS = (0, 1000, 2000, 3000, 4000, 6000)
 # the calls that fail, and how many of each there are at least
@@ -288,9 +290,9 @@ def in_turn(them, one, looks, numbers):
 
 
 def killed(them, looks, base, rows):
-    done = in_turn(them, lambda n: one_kill(them, base, rows, n), looks, range(1, 2000))
+    done = in_turn(them, lambda n: one_kill(them, base, rows, n), looks, range(1, 2000, STEP))
     joins = sum(told.rolling for told in done)
-    both = joins > 60 and len(done) - joins > 15
+    both = joins > 60 // STEP and len(done) - joins > 15 // STEP
     looks.that("it was killed in joins and out of them", both, (len(done), joins))
     looks.say(
         f"{len(done)} servers were killed, {joins} of them while they wrote or removed blocks, or began the "
@@ -333,14 +335,14 @@ def failing(them, looks, base, rows):
         def one(n, kind=kind):
             return one_fault(them, base, rows, kind, n, 1)
 
-        done = in_turn(them, one, looks, range(1, 2000))
+        done = in_turn(them, one, looks, range(1, 2000, STEP))
         refused = sum(told.rolling for told in done)
-        looks.that(f"each {kind.lower()} failed in turn", len(done) >= least, len(done))
+        looks.that(f"each {kind.lower()} failed in turn", len(done) >= least // STEP, len(done))
         looks.say(
             f"each {kind.lower()} failed in turn: {len(done)} servers, {refused} of them could not join"
         )
         if kind in ("WRITE", "SYNC", "MAKE"):
-            some = range(1, len(done) + 1, 4)
+            some = range(1, STEP * len(done) + 1, 4 * STEP)
             with concurrent.futures.ThreadPoolExecutor(SIDE_BY_SIDE) as pool:
                 every = list(pool.map(lambda n, kind=kind: one_fault(them, base, rows, kind, n, 0), some))
             for told in every:

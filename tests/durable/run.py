@@ -23,17 +23,18 @@ parts, of which the last four are run only if they are named, and the others if 
   backup   `querier backup`: beside a server that writes and rolls, each copy is the store at some moment; the
            copy is killed at each of its calls, and each of them fails; what is refused
   upkeep   a server that joins the blocks of its cuts, and with --keep lets old samples leave: it has few blocks,
-           and says what a plain map says, also after it was killed at random moments
+           and says what a plain map says, also after it was killed at random moments; other blocks stay
+           as they lie
   rounds   ROUNDS (100) crashes beside four clients: what was acknowledged is there, what was under way is
            there whole or not at all, and nothing else. In some rounds the power is cut too: what was not
            synced is lost.
   joining-live
            a server that cuts, joins and lets samples leave is killed at each of its calls meanwhile, and each
-           of them fails; then its folder has no litter
+           of them fails; then its folder has no litter. With CALLS_STEP=N each nth
   meanwhile
            replies and audits while blocks are joined, in cuts of 32 times MEANWHILE_SAMPLES (500); the longest
            write and read are told, beside those without joins
-  full     a full disk, and one with little room while the oldest leave; a store of 1 GiB with --keep-gb,
+  full     a full disk, and one with little room while the oldest leave; a store of 1 GB with --keep-gb,
            which takes 3 GB of disk and is left with FULL_GB=0
   year     YEAR_DAYS (367) days of cuts each two hours: blocks, memory, disk and what left late are told
 

@@ -1,5 +1,7 @@
 """A server that joins the blocks of its cuts and lets old samples leave: it has few blocks and says what a plain
-map says, also after it was killed at any moment; and the words that are refused."""
+map says, also after it was killed at any moment; blocks that are not joined stay as they lie; and the words that
+are refused."""
+import json
 import os
 import random
 import threading
@@ -66,7 +68,7 @@ class Store:
 
     def __init__(self, looks, querier, folder, seed, keep=None):
         self.looks, self.querier, self.folder, self.keep = looks, querier, folder, keep
-        self.random, self.map = random.Random(seed), Map()
+        self.random, self.map, self.deletes = random.Random(seed), Map(), True
         self.clock, self.count, self.told, self.server = 0, 0, [], None
         self.start()
 
@@ -85,7 +87,7 @@ class Store:
 
     def event(self):
         """Mostly samples, each later than all before; and now and then a deletion of what a series had lately."""
-        if self.clock > 5000 and self.random.random() < 0.02:
+        if self.deletes and self.clock > 5000 and self.random.random() < 0.02:
             first = self.clock - self.random.randrange(8 * EVERY)
             return Deletion([equals("n", str(self.random.randrange(SERIES)))], first, first + EVERY)
         rows = []
@@ -238,6 +240,45 @@ def leaving(looks, querier, folder, seed):
     store.end()
 
 
+def lying(folder):
+    """The blocks of the head, by their ranges and samples: the number of each, and of its files the inode and
+    when they were written."""
+    for _ in range(100):
+        found = {}
+        try:
+            for path in blocks_of(folder):
+                meta = json.loads(read(f"{path}/meta.json"))
+                stats = [os.stat(f"{path}/{name}") for name in
+                         ("meta.json", "index", "chunks/000001", "tombstones")]
+                place = (meta["minTime"], meta["maxTime"], meta["stats"]["numSamples"])
+                found[place] = (path, [(one.st_ino, one.st_mtime_ns) for one in stats])
+            return found
+        except FileNotFoundError:
+            # the journal was begun anew meanwhile
+            time.sleep(0.01)
+    raise AssertionError("no head of which all blocks are there")
+
+
+def untouched(looks, querier, folder, seed):
+    """While blocks behind and before it are joined and leave, a block lies as it was written."""
+    store = Store(looks, querier, folder, seed, 30 * EVERY)
+    store.deletes = False
+    before, same, changed = {}, 0, []
+    for _ in range(40):
+        store.feed(store.clock + 2 * EVERY)
+        now = lying(folder) if os.path.exists(f"{folder}/blocks") else {}
+        both = before.keys() & now.keys()
+        same += len(both)
+        changed += [(place, before[place][0], now[place][0]) for place in both if before[place] != now[place]]
+        before = now
+    looks.at("untouched: blocks that were written anew", [], changed[:3])
+    looks.that("untouched: blocks that stayed", same > 40, same)
+    done = len(store.lines("joined ")), len(store.lines("removed "))
+    looks.that("untouched: others were joined, and left", min(done) > 2, done)
+    store.agrees("untouched")
+    store.end()
+
+
 def words(looks, querier, folder):
     """The words of the options."""
     kept = ["--data", folder, "--cut-every", "1000"]
@@ -263,3 +304,4 @@ def upkeep(looks, querier, work, seed):
     words(looks, querier, f"{work}/words")
     joins(looks, querier, f"{work}/joins", f"{seed} joins")
     leaving(looks, querier, f"{work}/leaving", f"{seed} leaving")
+    untouched(looks, querier, f"{work}/untouched", f"{seed} untouched")
