@@ -1,4 +1,4 @@
-use Rattle.std.proofs.Common.{inl}
+use Rattle.std.proofs.Common.{inl, ◌∙◌}
 use Rattle.std.proofs.lemmas.Result.{err_from_is_err_and}
 use Rattle.commands.specs.declared.fault.Fault.TheVariants.{Memory}
 use Rattle.commands.proofs.LineEnds.{unused}
@@ -26,3 +26,7 @@ returns-in_err-workers-clause-err g c =
     err_from_is_err_and c.from_residual-in_err-workers.result
     c.from_residual-in_err-workers.ensures.1 in
     rw (p.1, p.2) (inl (tt, unused Memory (g.W.Write.contents c.args.out.now)))
+
+pub returns-clause-workers : goal.returns-clause-workers
+returns-clause-workers g c =
+    rw (c.joining-workers.ensures ∙ c.in_ok-workers.ensures) at c.serve_workers.ensures.workers
