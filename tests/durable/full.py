@@ -1,6 +1,7 @@
 """Stores that have no more room. With --keep-gb the oldest samples leave, and the newer ones stay; on a full
 disk what is not kept is refused, nothing that was acknowledged is lost, and once there is room blocks are
 joined again."""
+import contextlib
 import json
 import os
 import subprocess
@@ -170,6 +171,45 @@ def full_disk(looks, querier, work):
         store.end()
 
 
+def no_room(looks, querier, work):
+    """A disk has room for cuts and not for joins, until there are 63 blocks; then it has room."""
+    with mounted(f"{work}/none", 4 << 20) as disk:
+        if disk is None:
+            looks.say("no tmpfs may be mounted here: 63 blocks without room are left")
+            return
+        store, ballast, at = Store(looks, querier, f"{disk}/data"), f"{disk}/ballast", 0
+        with contextlib.suppress(OSError), open(ballast, "wb", 0) as file:
+            while True:
+                file.write(bytes(4096))
+        os.truncate(ballast, os.path.getsize(ballast) - 3 * 4096)
+        while at < 80 * EVERY and not store.lines("cannot cut"):
+            at += EVERY
+            looks.at("no room: a sample", OK, store.tell(Batch([(labels(0), [(at, at)])])), tell=False)
+            end = time.monotonic() + 20
+            while store.standing()[0] < at and time.monotonic() < end and not store.lines("cannot cut"):
+                time.sleep(0.1)
+        looks.at("no room: the blocks", 63, store.standing()[1])
+        looks.that("no room: joins are refused", store.lines("cannot join"))
+        looks.that("no room: so are cuts", store.lines("cannot cut")[-1:] == [f"cannot cut at {at}: E6"])
+        store.agrees("no room")
+        # once more, with the blocks as they stand
+        time.sleep(5)
+        os.remove(ballast)
+        end = time.monotonic() + 180
+        while store.standing()[1] > 30 and time.monotonic() < end:
+            at += EVERY
+            looks.at("room: a sample", OK, store.tell(Batch([(labels(0), [(at, at)])])), tell=False)
+            time.sleep(5)
+        looks.that("room: blocks are joined again", store.standing()[1] <= 30, store.standing())
+        store.agrees("no room, and then room")
+        store.end()
+        store.start()
+        store.agrees("no room, and then room: a new start")
+        store.settle()
+        looks.that("room: a new start: few blocks", store.standing()[1] <= 30, store.standing())
+        store.end()
+
+
 def leaving_room(looks, querier, work):
     """A disk that has room for twice the largest block and a journal more than the store is enough while the
     oldest leave and others are joined."""
@@ -336,6 +376,7 @@ def keep_gb(looks, querier, work):
 
 def full(looks, querier, work):
     full_disk(looks, querier, work)
+    no_room(looks, querier, work)
     leaving_room(looks, querier, work)
     if os.environ.get("FULL_GB") == "0":
         looks.say("FULL_GB=0: the store of more than 1 GB is left")

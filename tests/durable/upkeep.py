@@ -288,6 +288,9 @@ def words(looks, querier, folder):
     for word in ["0", "-1", "x", "", "1048577", "1.5", "20d"]:
         status, out, told = run([querier, "serve", "--port", "0", *kept, f"--keep-gb={word}"])
         looks.at(f"--keep-gb={word}", (2, "", True), (status, out, "--keep-gb <GB>" in told), tell=False)
+    for word in ["0", "-1", "x", "", "67108865", "1.5"]:
+        status, out, told = run([querier, "serve", "--port", "0", *kept, f"--join-samples={word}"])
+        looks.at(f"--join-samples={word}", (2, "", True), (status, out, "--join-samples <N>" in told), tell=False)
     for some in [(), ("--data", folder), ("--cut-every", "1000")]:
         for option in ["--keep=90d", "--keep-gb=20"]:
             status, out, told = run([querier, "serve", "--port", "0", *some, option])
