@@ -195,7 +195,8 @@ def no_room(looks, querier, work):
         # once more, with the blocks as they stand
         time.sleep(5)
         os.remove(ballast)
-        end = time.monotonic() + 180
+        # a refused join is tried again after five minutes
+        end = time.monotonic() + 480
         while store.standing()[1] > 30 and time.monotonic() < end:
             at += EVERY
             looks.at("room: a sample", OK, store.tell(Batch([(labels(0), [(at, at)])])), tell=False)

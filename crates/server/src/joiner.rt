@@ -1,7 +1,7 @@
 //! Joins that a server makes by itself, and samples that leave it.
 
 use crate::clock::now_in;
-use crate::cutter::{code_of, pauses_after};
+use crate::cutter::{PAUSE, code_of, pauses_after};
 use crate::join_right::JoinRight;
 use crate::place::Place;
 use crate::shapes::{count_ended, shape_of, shapes_of};
@@ -17,6 +17,9 @@ use std::alloc::{AllocError, Global};
 use std::sync::{Arc, Wait};
 use std::time::{Clock, Instant};
 
+/// After so many looks, five minutes, it does not rest on: what hindered a join may be gone.
+const LONGEST_REST: u64 = 300_000 / PAUSE;
+
 /// How the blocks of a store stand. It changes with each cut, and with each join.
 #[derive(Clone, Copy, Debug, PartialEq, Eq, Drop)]
 struct Standing {
@@ -31,7 +34,7 @@ enum Outcome {
     Done,
     /// It is tried again, after a pause.
     Later,
-    /// It is not tried again before the blocks stand otherwise.
+    /// It is not tried again before the blocks stand otherwise, or a long rest is over.
     GivenUp,
 }
 
@@ -71,6 +74,8 @@ pub(crate) struct Joiner<J: OpenNaming> {
     cut: u64,
     /// How the blocks stood when nothing was left to do.
     rested: Option<Standing>,
+    /// For how many looks it rests while they stand so.
+    rest: u64,
     /// With how many blocks the round of joins began, or 0 if none is on.
     begun: usize,
     /// Blocks that were too much for one. None of them is joined as long as it stays as it is.
@@ -229,6 +234,7 @@ impl<J: JoiningNaming> Joiner<J> {
             upkeep,
             cut,
             rested: None,
+            rest: 0,
             begun: 0,
             unjoined: Vec::new(alloc),
         }
@@ -366,9 +372,9 @@ impl<J: OpenNaming> Joiner<J> {
         }
     }
 
-    /// Looks what is to be done for the blocks of a store, and does the next of it. It rests as
-    /// long as the blocks stand as they did when nothing was left to do: so what a client deletes
-    /// is looked at after the next cut.
+    /// Looks what is to be done for the blocks of a store, and does the next of it. While the blocks
+    /// stand as they did when nothing was left to do, or a join was refused, it rests for some
+    /// minutes: so what a client deletes is looked at after these, or after the next cut.
     pub(crate) fn look<C: Wait + Drop, K: Keeper + Drop>(
         &mut self,
         rt: &(impl Wait + Clock + Eprint),
@@ -381,7 +387,8 @@ impl<J: OpenNaming> Joiner<J> {
             return Look::Rest(1);
         };
         let standing = standing_of(&snapshot);
-        if self.rested == Some(standing) {
+        if self.rested == Some(standing) && self.rest > 0 {
+            self.rest -= 1;
             return Look::Rest(1);
         }
         let outcome = self.tend(rt, alloc, committer, place, snapshot);
@@ -390,6 +397,7 @@ impl<J: OpenNaming> Joiner<J> {
         }
         if outcome == Outcome::GivenUp {
             self.rested = Some(standing);
+            self.rest = LONGEST_REST;
         }
         self.begun = 0;
         Look::Rest(pauses_after(rt, start))
