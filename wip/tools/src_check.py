@@ -1,6 +1,6 @@
 #!/usr/bin/env python3
 """In a crate's folder: rattle check of it; kept libraries are laid and taken as they are, the
-others as source. Flags go to rattle. One of three places, and only while memory is free."""
+others as source. Flags go to rattle. One of two places, and only while memory is free."""
 import sys, os, fcntl, time, subprocess
 sys.path.insert(0, "/opt/rattle/bin")
 import rtlib
@@ -11,7 +11,7 @@ def free_mb():
 held = None
 said = False
 while held is None:
-    for n in (1, 2, 3):
+    for n in (1, 2):
         f = open(f"/tmp/src-place-{n}", "w")
         try:
             fcntl.flock(f, fcntl.LOCK_EX | fcntl.LOCK_NB)
