@@ -372,7 +372,7 @@ impl<J: OpenNaming> Joiner<J> {
         }
     }
 
-    /// Looks what is to be done for the blocks of a store, and does the next of it. While the blocks
+    /// Looks what is to be done for the blocks of a store, and does the next of it. While they
     /// stand as they did when nothing was left to do, or a join was refused, it rests for some
     /// minutes: so what a client deletes is looked at after these, or after the next cut.
     pub(crate) fn look<C: Wait + Drop, K: Keeper + Drop>(
