@@ -231,7 +231,7 @@ def described(texts, command):
 USAGES = {
     "querier select": ["README.md"],
     "querier check": ["README.md"],
-    "querier serve": ["README.md", "HTTP.md"],
+    "querier serve": ["README.md"],
     "querier backup": ["OPERATING.md"],
     "auditor": ["AUDITING.md"],
     "auditor --store": [],

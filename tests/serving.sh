@@ -2,9 +2,9 @@
 # serving: runs `querier serve` as a user does, and asks it with curl: the session of the README, a body that
 # is too long, bytes that nobody reads, clients that go away, clients that say nothing and clients that take
 # nothing, a port that is taken, too many open files, workers that end, a token that is asked for, a server
-# without POST, a thread that cannot be made, a listener that goes away. It needs curl, awk and python3.
-# QUERIER names a program that is built already; else it is built where it stands. Exit status 0 if each reply
-# is the one wanted.
+# without POST, replies that have a bound, a thread that cannot be made, a listener that goes away. It needs
+# curl, awk and python3. QUERIER names a program that is built already; else it is built where it stands. Exit
+# status 0 if each reply is the one wanted.
 set -eu
 . "$(dirname "$0")/lib.sh"
 needs curl awk python3
@@ -48,14 +48,16 @@ sleep 0.2
 wants "beside clients that say nothing" '{"refused":"H3"}' "$(curl -s -m 10 "$at/none")"
 
 # a reply of megabytes, more than the system keeps for a client that takes none of them
-for n in $(seq 40); do
-  awk -v n="$n" 'BEGIN {
-    printf "[{\"labels\":{\"__name__\":\"bulk\"},\"samples\":["
-    for (k = 0; k < 4096; k++) printf "%s[18%010d,9223372036854775807]", k ? "," : "", n * 4096 + k
-    printf "]}]" }' | curl -s -H Expect: --data-binary @- "$at/write"
-  echo
-done | sort | uniq -c | sed 's/^ *//' >"$work/written"
-wants "batches of 4,096 samples" '40 {"ok":true}' "$(cat "$work/written")"
+write_bulk() {
+  for n in $(seq "$1"); do
+    awk -v n="$n" 'BEGIN {
+      printf "[{\"labels\":{\"__name__\":\"bulk\"},\"samples\":["
+      for (k = 0; k < 4096; k++) printf "%s[18%010d,9223372036854775807]", k ? "," : "", n * 4096 + k
+      printf "]}]" }' | curl -s -H Expect: --data-binary @- "$at/write"
+    echo
+  done | sort | uniq -c | sed 's/^ *//'
+}
+wants "batches of 4,096 samples" '40 {"ok":true}' "$(write_bulk 40)"
 ask_bulk='GET /select?selector=bulk&from=0&to=4611686018427387903 HTTP/1.1'
 for _ in 1 2; do (exec 6<>"/dev/tcp/127.0.0.1/$port"; printf '%s\r\n\r\n' "$ask_bulk" >&6; sleep 8) & done
 sleep 1
@@ -116,6 +118,22 @@ wants "a batch where there is no POST" '{"refused":"H3"}' "$(post write "$up")"
 wants "a query after it" "$none" "$(curl -s "$at/select?selector=up&from=0&to=9")"
 stop "$server"
 
+# a server whose replies have a bound: by 56 bytes a sample all is too long, and two of the others together
+serve bounded --workers 3 --idle-seconds 20 --reply-memory 10
+wants "batches for replies with a bound" '48 {"ok":true}' "$(write_bulk 48)"
+whole="$at/select?selector=bulk&from=0&to=4611686018427387903"
+part='/select?selector=bulk&from=0&to=180000167935'
+wants "a reply that is longer than the bound" '{"refused":"H13"}' "$(curl -s -m 20 "$whole")"
+wants "its status" 503 "$(status "$whole")"
+wants "a reply that is not" 200 "$(status "$at$part")"
+(exec 6<>"/dev/tcp/127.0.0.1/$port"; printf 'GET %s HTTP/1.1\r\n\r\n' "$part" >&6; sleep 6) &
+sleep 0.5
+head='{"intervals":[{"from":1,"until":4294967296,"verdict":0}],"part":"head","rows":[],"separators":[1]}'
+wants "a short reply beside a client that takes none of a long one" "{\"parts\":[$head],\"rows\":[]}" \
+  "$(curl -s -m 20 "$at/select?selector=up&from=0&to=9")"
+wants "a long reply that waits until that one is over" 200 "$(status -m 30 "$at$part")"
+stop "$server"
+
 # a server that has no room for the stacks of 64 threads: what it tells of faults
 narrow() { (ulimit -v 200000; exec "$QUERIER" serve --port 0 --workers 64) >"$work/narrow"; }
 wants "a thread that cannot be made" "3 cannot make a thread" "$(ended narrow)"
@@ -138,4 +156,4 @@ print(server.ended(20), server.told)
 END
 wants "a listener that is gone" "3 there is no listener any more" \
   "$(PYTHONPATH=$top/tests python3 "$work/gone.py" "$QUERIER")"
-concludes 37 "replies and lines"
+concludes 44 "replies and lines"

@@ -6,7 +6,8 @@
 //! puts a query to a store that others change meanwhile. Its answer is that of the next snapshot of
 //! a pass, after all events that the pass had seen or whose receipts it had learnt. [`body`] is the
 //! text of an answer, as compact JSON, byte for byte. [`answer_text`] keeps it so that rows that it
-//! has twice are in memory once.
+//! has twice are in memory once. [`room_to_ask`] tells about how much memory an answer takes, before
+//! it is made.
 //!
 //! Of a `snapshot` whose head has one sample, 1 at time 10, of the series `up`:
 //!
@@ -29,6 +30,7 @@ mod number;
 mod part_pieces;
 mod parts;
 mod pieces;
+mod room;
 mod rows;
 mod samples;
 mod strings;
@@ -41,4 +43,5 @@ pub use block_search::AnsweredPart;
 pub use body_text::{Rooms, answer_text, append_text, body, length_of};
 pub use error::AskError;
 pub use headline::{ask, ask_by};
+pub use room::{room_of_answer, room_to_ask};
 pub use text_pieces::AnswerText;

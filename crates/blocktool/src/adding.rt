@@ -14,6 +14,7 @@ use data_folder::HostFolder;
 use head::{MAX_BLOCKS, ResumeError, Snapshot};
 use std::alloc::{AllocError, Global};
 use std::io::Write;
+use std::thread::Threads;
 use store_joiner::{ChangeFault, add_to_store};
 
 /// The blocks in directories, in their order, and what their values mean. All must have values of
@@ -92,7 +93,8 @@ fn line_of(alloc: Global, data: &str, added: usize, total: usize) -> Result<Stri
 /// sample of one series at one time, the store's is kept. Their values must mean what its own mean.
 /// A store that begins this way has whole numbers. What is in the journal is saved first. A crash
 /// at any moment leaves the store as it was, or with all of them.
-pub(crate) fn add<W: Write, E: Write>(
+pub(crate) fn add<T: Threads + Sync, W: Write, E: Write>(
+    threads: &T,
     alloc: Global,
     host: &HostRuntime,
     data: &str,
@@ -106,7 +108,7 @@ pub(crate) fn add<W: Write, E: Write>(
     let (opening, values) = (open_all(alloc, blocks)?, values.unwrap_or(Values::Whole));
     teller.is_at("adding the blocks")?;
     let folder = HostFolder::new(host, alloc, data);
-    let total = match add_to_store(alloc, folder, &opening, values) {
+    let total = match add_to_store(threads, alloc, folder, &opening, values) {
         Ok((total, _)) => total,
         Err((fault, _)) => return Err(not_added(alloc, data, directories, fault, &opening)),
     };

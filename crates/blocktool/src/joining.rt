@@ -7,6 +7,7 @@ use crate::target::send;
 use data_folder::HostFolder;
 use std::alloc::{AllocError, Global};
 use std::io::Write;
+use std::thread::Threads;
 use store_joiner::{BlockCounts, join_store};
 
 /// As `kept: 63 blocks joined into 1`, or `kept: 1 block, none joined`.
@@ -22,7 +23,8 @@ fn line_of(alloc: Global, data: &str, counts: BlockCounts) -> Result<String, All
 
 /// Joins the blocks of a store that no server keeps: those that lie in `DIR/blocks`. What is in the
 /// journal is saved first. A crash at any moment leaves the store as it was, or joined.
-pub(crate) fn join<W: Write, E: Write>(
+pub(crate) fn join<T: Threads + Sync, W: Write, E: Write>(
+    threads: &T,
     alloc: Global,
     host: &HostRuntime,
     data: &str,
@@ -31,7 +33,7 @@ pub(crate) fn join<W: Write, E: Write>(
 ) -> Result<(), Fault> {
     let lock = lock_store(alloc, host, data)?;
     teller.is_at("joining the blocks")?;
-    let counts = match join_store(alloc, HostFolder::new(host, alloc, data)) {
+    let counts = match join_store(threads, alloc, HostFolder::new(host, alloc, data)) {
         Ok((counts, _)) => counts,
         Err((fault, _)) => return Err(not_changed(alloc, data, fault)),
     };

@@ -57,6 +57,7 @@ fn main(rt: HostRuntime) -> io::Result<ExitCode> {
     let mut out = io::writer(&stdout);
     let mut err = io::writer(&stderr);
     let ending = run(
+        &rt,
         alloc,
         &rt,
         words.as_slice(),

@@ -14,8 +14,10 @@ use crate::to_openmetrics::to_openmetrics;
 use clap::error::ErrorKind;
 use std::alloc::Global;
 use std::io::{self, Read, Write};
+use std::thread::Threads;
 
-fn execute<I: Read, W: Write, E: Write>(
+fn execute<T: Threads + Sync, I: Read, W: Write, E: Write>(
+    threads: &T,
     alloc: Global,
     rt: &HostRuntime,
     words: &[String],
@@ -31,9 +33,17 @@ fn execute<I: Read, W: Write, E: Write>(
             rewrite(alloc, rt, into, values, directories.as_slice(), out, teller)
         }
         Ok(Line::Add(data, directories)) => {
-            add(alloc, rt, data, directories.as_slice(), out, teller)
+            add(
+                threads,
+                alloc,
+                rt,
+                data,
+                directories.as_slice(),
+                out,
+                teller,
+            )
         }
-        Ok(Line::Join(data)) => join(alloc, rt, data, out, teller),
+        Ok(Line::Join(data)) => join(threads, alloc, rt, data, out, teller),
         Ok(Line::List(directories)) => list(alloc, rt, directories.as_slice(), out),
         Ok(Line::FromOpenMetrics(options, text_in)) => {
             from_openmetrics(alloc, rt, &options, text_in, input, out, teller)
@@ -66,8 +76,10 @@ pub struct Ending {
 /// status is 0 if all was done, 1 for a refusal, 2 for a fault of the words, 3 for what cannot be
 /// read or written, and 4 for want of memory. A line on the second writer says why. The second
 /// writer also gets what is passed over and, if it is a terminal, what the program is at. The
-/// reader is standard input, which is read only if the words name no file of text.
-pub fn run<I: Read, W: Write, E: Write>(
+/// reader is standard input, which is read only if the words name no file of text. `threads` starts
+/// those that open the blocks of a store.
+pub fn run<T: Threads + Sync, I: Read, W: Write, E: Write>(
+    threads: &T,
     alloc: Global,
     rt: &HostRuntime,
     words: &[String],
@@ -77,7 +89,7 @@ pub fn run<I: Read, W: Write, E: Write>(
     is_terminal: bool,
 ) -> Ending {
     let mut teller = Teller { err, is_terminal };
-    match execute(alloc, rt, words, input, out, &mut teller) {
+    match execute(threads, alloc, rt, words, input, out, &mut teller) {
         Ok(()) => Ending {
             status: 0,
             told: Ok(()),

@@ -16,6 +16,7 @@ use std::marker::Brand;
 use std::str;
 use std::sync::Wait;
 use std::thread::Threads;
+use std::time::Clock;
 
 /// The pieces that connections give and take: whole, of seven bytes, and of one.
 const PIECES: [usize; 3] = [usize::MAX, 7, 1];
@@ -34,7 +35,7 @@ struct Opened<J: Naming, C: Wait + Drop> {
 
 /// How a connection is served, and what is written.
 fn serve<J: OpenNaming, C: Wait + Drop>(
-    rt: &(impl Wait + Threads + Sync),
+    rt: &(impl Wait + Threads + Clock + Sync),
     alloc: Global,
     store: &mut Opened<J, C>,
     input: &[u8],
@@ -104,7 +105,7 @@ fn count_of(step: &Step<'_>, at_most: usize) -> usize {
 
 /// Makes the connections of a step, up to the first that goes otherwise.
 fn make<J: OpenNaming, C: Wait + Drop>(
-    rt: &(impl Wait + Threads + Sync),
+    rt: &(impl Wait + Threads + Clock + Sync),
     alloc: Global,
     store: &mut Opened<J, C>,
     report: &mut Report,
@@ -129,7 +130,7 @@ fn make<J: OpenNaming, C: Wait + Drop>(
 }
 
 /// Opens a store and makes the connections of each step.
-fn hold<J: Naming, R: Wait + Threads + Sync>(
+fn hold<J: Naming, R: Wait + Threads + Clock + Sync>(
     rt: &R,
     alloc: Global,
     store: Store,
@@ -163,7 +164,7 @@ pub struct Session<'a> {
 }
 
 /// Opens the blocks of a session, and makes its connections in pieces of one size.
-fn hold_over<R: Wait + Threads + Sync>(
+fn hold_over<R: Wait + Threads + Clock + Sync>(
     rt: &R,
     alloc: Global,
     directories: &Directories,
@@ -185,7 +186,7 @@ fn hold_over<R: Wait + Threads + Sync>(
 }
 
 /// Tries a session in pieces of each size.
-pub fn try_session<R: Wait + Threads + Sync>(
+pub fn try_session<R: Wait + Threads + Clock + Sync>(
     rt: &R,
     alloc: Global,
     directories: &Directories,

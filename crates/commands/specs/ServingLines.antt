@@ -53,13 +53,13 @@ counts_app =
 
 -- serve --port P [--workers W] [--requests N] [--idle-seconds S] [--prometheus-port P]
 -- [--prometheus-workers W] [--status-port P] [--cut-every MS] [--cut-after MS] [--journal-mb MB]
--- [--keep D] [--keep-gb GB] [--join-samples N] [--read-only] [--guard FILE] [--data DIR] [--quiet]
--- [DIR]...
+-- [--keep D] [--keep-gb GB] [--join-samples N] [--reply-memory MB] [--read-only] [--guard FILE]
+-- [--data DIR] [--quiet] [DIR]...
 abbrev pub serve_app : App
 serve_app =
-    with_rule (with_rule (with_rule (with_rule (with_rule (with_rule (with_rule (with_rule
+    with_rule (with_rule (with_rule (with_rule (with_rule (with_rule (with_rule (with_rule (with_rule
     counts_app (text_rule (codes "keep"))) (count_rule (codes "keep-gb") 1 1048576))
-    (count_rule (codes "join-samples") 1 67108864))
+    (count_rule (codes "join-samples") 1 67108864)) (count_rule (codes "reply-memory") 1 1048576))
     (flag_rule (codes "read-only"))) (text_rule (codes "guard"))) (text_rule (codes "data")))
     (flag_rule (codes "quiet"))) directories_rule
 
@@ -101,6 +101,7 @@ pub record IsServingIn (rows : List Row) (serving : Serving) : Type 0 where
   pub keep : option_map (λ span. span.now) serving.keep ≡ first_of (codes "keep") rows
   pub keep_gb : IsCountIn (one_of (codes "keep-gb") rows) 0 serving.keep_gb
   pub join_samples : IsCountIn (one_of (codes "join-samples") rows) 33554432 serving.join_samples
+  pub reply_memory : IsCountIn (one_of (codes "reply-memory") rows) 0 serving.reply_memory
 
 -- the directories that arguments name, and whether they are read quietly
 pub record IsReadingIn (rows : List Row) (reading : Reading) : Type 0 where

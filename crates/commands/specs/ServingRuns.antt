@@ -1,6 +1,6 @@
 -- What is told of a store that is served, and why none is.
 use Rattle.std.specs.Prelude.{◌≡◌, ◌⊎◌, ℕ, ◌≤◌, ◌<◌, ◌+◌, ◌==◌, List, ◌++◌, Option, None, Some}
-use Rattle.std.specs.Prelude.{length, codes, decimal, if◌then◌else◌}
+use Rattle.std.specs.Prelude.{length, codes, decimal, if◌then◌else◌, min, ◌*◌}
 use Rattle.std.specs.Borrow.{Bor}
 use Rattle.std.specs.Io.KnownBytes.{Appends}
 use Rattle.head.specs.Heads.{BlockPart}
@@ -60,6 +60,10 @@ TellsOf (Some folder) reads serving directories old new = IsKeeping reads servin
 -- what was told of the store that the options ask for
 abbrev pub IsServing : Host → Serving → List (List ℕ) → Option (List ℕ) → Option (List ℕ) → Type 0
 IsServing reads serving directories old new = TellsOf serving.folder reads serving directories old new
+
+-- the bytes of so many MB of replies, as far as they can be counted; any number of 0
+abbrev pub reply_bytes_of : ℕ → Option ℕ
+reply_bytes_of mb = if mb == 0 then None else Some (min (mb * 1000000) 18446744073709551615)
 
 -- how many workers serve the port of Prometheus
 abbrev pub remote_workers_of : Serving → ℕ

@@ -19,6 +19,7 @@ use data_folder::HostFolder;
 use std::alloc::{AllocError, Global};
 use std::fs;
 use std::io::{ErrorKind, Write};
+use std::thread::Threads;
 use store_backup::{Copied, CopyFault, copy_between};
 use store_folder::{RollFault, StartCause, StartError};
 
@@ -99,7 +100,13 @@ fn views_of<'a>(
 }
 
 /// Copies a store of the host to a folder, which is made if there is none, and locked meanwhile.
-fn copy(alloc: Global, host: &HostRuntime, from: &str, out: &str) -> Result<Copied, Fault>
+fn copy<R: Threads + Sync>(
+    rt: &R,
+    alloc: Global,
+    host: &HostRuntime,
+    from: &str,
+    out: &str,
+) -> Result<Copied, Fault>
     ensures ok { IfOk result TellsSome }
     ensures err { IfErr result (IsCopyFault from.now out.now) }
 {
@@ -114,7 +121,7 @@ fn copy(alloc: Global, host: &HostRuntime, from: &str, out: &str) -> Result<Copi
         views_of(alloc, host, from),
     ];
     let target = HostFolder::new(host, alloc, out);
-    let copied = match copy_between(alloc, &mut views, target) {
+    let copied = match copy_between(rt, alloc, &mut views, target) {
         Ok((copied, _)) => copied,
         Err((fault, _)) => return Err(not_copied(alloc, from, out, fault)),
     };
@@ -125,7 +132,8 @@ fn copy(alloc: Global, host: &HostRuntime, from: &str, out: &str) -> Result<Copi
 /// Copies the store that is kept in a folder to another folder, and reports how many blocks and
 /// events the copy has. The other folder must not be there, or must be empty. A server may keep the
 /// store meanwhile.
-pub(crate) fn backup<F: ReadFiles, W: Write>(
+pub(crate) fn backup<R: Threads + Sync, F: ReadFiles, W: Write>(
+    rt: &R,
     alloc: Global,
     files: &F,
     from: &str,
@@ -139,7 +147,7 @@ pub(crate) fn backup<F: ReadFiles, W: Write>(
     let Some(host) = files.host() else {
         return Err(cannot_write(alloc, folder));
     };
-    let copied = copy(alloc, host, from, folder)?;
+    let copied = copy(rt, alloc, host, from, folder)?;
     let line = line_of(alloc, folder, copied)?;
     send(out, line.as_bytes())?;
     Ok(())

@@ -23,7 +23,7 @@ ghost use Rattle.commands.specs.Lines.{texts_of};
 use crate::help::{
     BACKUPS, CHECKS, COPY, CUT_AFTER, CUT_EVERY, DATA, EXAMPLE, FROM, GUARD, IDLE, JOIN_SAMPLES,
     JOURNAL_MB, JOURNALS, KEEP, KEEP_GB, PATH, PORT, PROMETHEUS_PORT, PROMETHEUS_WORKERS, QUIET,
-    READ_ONLY, REQUESTS, SERVES, SOURCE, STATUS_PORT, STATUSES, TO, VERSION, WORKERS,
+    READ_ONLY, REPLY_MEMORY, REQUESTS, SERVES, SOURCE, STATUS_PORT, STATUSES, TO, VERSION, WORKERS,
 };
 use clap::builder::ValueParser;
 use clap::error::ErrorKind;
@@ -51,6 +51,8 @@ pub struct Serving<'a> {
     pub requests: u64,
     /// For how many seconds a client may be silent, or 0 for ever.
     pub idle_seconds: u64,
+    /// How many MB the replies under way may take together, or 0 for any number.
+    pub reply_memory: u64,
     /// The port of 127.0.0.1 for what a Prometheus sends and asks, or 0 for none.
     pub prometheus_port: u64,
     /// How many workers serve that port, each a thread.
@@ -263,6 +265,7 @@ fn serve<'a>(alloc: Global) -> Result<Command<'a>, AllocError>
         .arg(text(alloc, "keep", "D", KEEP))?
         .arg(count(alloc, "keep-gb", "GB", (1, 1048576), KEEP_GB))?
         .arg(count(alloc, "join-samples", "N", (1, 67108864), JOIN_SAMPLES))?
+        .arg(count(alloc, "reply-memory", "MB", (1, 1048576), REPLY_MEMORY))?
         .arg(flag(alloc, "read-only", READ_ONLY))?
         .arg(text(alloc, "guard", "FILE", GUARD))?
         .arg(text(alloc, "data", "DIR", DATA))?
@@ -407,11 +410,13 @@ fn serving_in<'a>(found: &ArgMatches<'a>) -> Serving<'a>
     let journal_mb = count_in(found, "journal-mb", 8);
     let keep_gb = count_in(found, "keep-gb", 0);
     let join_samples = count_in(found, "join-samples", 33_554_432);
+    let reply_memory = count_in(found, "reply-memory", 0);
     Serving {
         port,
         workers,
         requests,
         idle_seconds,
+        reply_memory,
         prometheus_port,
         prometheus_workers,
         status_port,

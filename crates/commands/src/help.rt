@@ -78,6 +78,9 @@ pub(crate) const REQUESTS: &str = "After how many connections a worker ends [def
 pub(crate) const IDLE: &str =
     "For how many seconds a client may be silent; 0 for ever [default: 30]";
 
+pub(crate) const REPLY_MEMORY: &str =
+    "How many MB the replies under way may take together, 1 to 1048576 [default: any number]";
+
 pub(crate) const PROMETHEUS_PORT: &str =
     "A port of 127.0.0.1 for the remote write and read of a Prometheus; 0 for none [default: none]";
 
@@ -202,6 +205,11 @@ behind N others is one that those do not admit. DIR/lock is locked as long as th
 A connection is served one request, and closed. A worker takes one connection after another; a
 client that gives no byte, or takes none, for the idle seconds is dropped. docs/HTTP.md of the
 project tells each reply and refusal.
+
+With --reply-memory MB, the answers under way to GET /select take no more than so many MB together,
+by an estimate: one that is longer is refused with H13 (503) at once, and one that finds no room
+waits for it, for the idle seconds, and is refused then. What the store itself has, and the replies
+of the port of Prometheus, come on top.
 
 A browser on this machine sends what any page tells it to, and each local user reaches the port.
 With --guard, a POST needs the field `Authorization: Bearer TOKEN`, with the token that is all of

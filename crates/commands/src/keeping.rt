@@ -106,7 +106,8 @@ fn check_nothing<H: Folder>(alloc: Global, disk: &mut H, folder: &str) -> Result
 
 /// The store that a folder has, if it has one. `None` only if it has no blocks either. Nothing is
 /// changed, but a journal of events alone is given a head.
-fn read_data<H: Folder>(
+fn read_data<R: Threads + Sync, H: Folder>(
+    rt: &R,
     alloc: Global,
     disk: &mut H,
     folder: &str,
@@ -125,7 +126,7 @@ fn read_data<H: Folder>(
         → LeavesOnly H.moment H.left_since disk.old disk.new (HasEither file) }
     ensures err { IfErr result (IsDataFault folder.now) }
 {
-    match open_store(alloc, disk) {
+    match open_store(rt, alloc, disk) {
         Ok(Some(found)) => Ok(Some(found)),
         Ok(None) => match check_nothing(alloc, disk, folder) {
             Ok(()) => Ok(None),
@@ -140,7 +141,8 @@ fn read_data<H: Folder>(
 }
 
 /// Reads the store that a folder of the host has, if it has one.
-fn read_host<F: ReadFiles>(
+fn read_host<R: Threads + Sync, F: ReadFiles>(
+    rt: &R,
     alloc: Global,
     files: &F,
     folder: &str,
@@ -152,7 +154,7 @@ fn read_host<F: ReadFiles>(
         return Err(cannot_write(alloc, folder));
     };
     let mut disk = HostFolder::new(host, alloc, folder);
-    let found = read_data(alloc, &mut disk, folder)?;
+    let found = read_data(rt, alloc, &mut disk, folder)?;
     Ok(found)
 }
 
@@ -173,11 +175,11 @@ fn read_watched<R: Threads + Clock + Sync, F: ReadFiles>(
     let (watch, ended) = (&watch, &over);
     let apart = || report_opening(rt, alloc, watch, ended);
     let here = || -> Result<Option<FoundStore>, Fault>
-        requires { IsSync F.row }
+        requires { IsSync R.row × IsSync F.row }
         ensures read { IfOk result IsFoundOnHost }
         ensures err { IfErr result (IsDataFault folder.entry.now) }
     {
-        let read = read_host(alloc, files, folder);
+        let read = read_host(rt, alloc, files, folder);
         ended.store(true, Ordering::SeqCst);
         read
     };
@@ -198,7 +200,7 @@ fn read_beside<R: Threads + Clock + Sync, F: ReadFiles>(
 {
     match beside {
         Some(listener) => read_watched(rt, alloc, files, folder, listener),
-        None => read_host(alloc, files, folder),
+        None => read_host(rt, alloc, files, folder),
     }
 }
 

@@ -59,7 +59,7 @@ fn answer_line<
             serve(rt, alloc, &followed, serving, directories, out)?;
         }
         Line::Journal(path) => list(alloc, files, path, out)?,
-        Line::Backup(from, folder) => backup(alloc, files, from, folder, out)?,
+        Line::Backup(from, folder) => backup(rt, alloc, files, from, folder, out)?,
     }
     Ok(Outcome::Done)
 }

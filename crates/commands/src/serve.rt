@@ -10,7 +10,7 @@ ghost use Rattle.commands.specs.Selecting.{KeepsAt};
 ghost use Rattle.commands.specs.ServingRuns.{listening_line, TellsPort, IsListening, IsServing};
 ghost use Rattle.commands.specs.ServingRuns.{IsStoreFault, IsServeFault, IsServingFault};
 ghost use Rattle.commands.specs.ServingRuns.{IsDirectoriesFault, IsWatchFault, passes_of};
-ghost use Rattle.commands.specs.ServingRuns.{remote_workers_of, seats_of};
+ghost use Rattle.commands.specs.ServingRuns.{remote_workers_of, seats_of, reply_bytes_of};
 ghost use Rattle.commands.specs.Guarding.{AreRulesOf};
 ghost use Rattle.commands.specs.Opening.{AreBlocksAt, IsOpeningFault};
 ghost use Rattle.std.specs.Thread.{IsSync};
@@ -85,10 +85,25 @@ fn tell_port<W: Write>(
     Ok(())
 }
 
+/// How many bytes one MB has.
+const MB: u64 = 1_000_000;
+
+/// The bytes of so many MB of replies, as far as they can be counted; any number of 0.
+fn reply_bytes_of(mb: u64) -> Option<u64>
+    ensures { result ≡ reply_bytes_of mb }
+{
+    if mb == 0 {
+        None
+    } else {
+        Some(mb.saturating_mul(MB))
+    }
+}
+
 fn terms_of(serving: Serving<'_>) -> Terms
     ensures requests { result.requests ≡ serving.entry.requests }
     ensures never { IfNone result.idle (serving.entry.idle_seconds ≡ 0) }
     ensures limit { IfSome result.idle (λ d. as_nanos d ≡ serving.entry.idle_seconds * 1000000000) }
+    ensures memory { result.reply_memory ≡ reply_bytes_of serving.entry.reply_memory }
 {
     let idle = match serving.idle_seconds {
         0 => None,
@@ -98,6 +113,7 @@ fn terms_of(serving: Serving<'_>) -> Terms
         requests: serving.requests,
         idle,
         version: OWN_VERSION,
+        reply_memory: reply_bytes_of(serving.reply_memory),
     }
 }
 

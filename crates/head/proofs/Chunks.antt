@@ -1,5 +1,5 @@
 -- Samples in chunks.
-use Rattle.std.specs.Prelude.{◌≡◌, ◌≤◌, ◌<◌, ◌+◌, ◌*◌, ℕ, ℤ, T, List, [], ◌∷◌, ◌++◌, length, nat_le, nat_lt, nat_eq, not}
+use Rattle.std.specs.Prelude.{◌≡◌, ◌≤◌, ◌<◌, ◌+◌, ◌*◌, ℕ, ℤ, T, List, [], ◌∷◌, ◌++◌, length, nat_le, nat_lt, nat_eq, not, false, min}
 use Rattle.std.specs.List.{list_all, flat_map}
 use Rattle.std.proofs.Common.{sym, ◌∙◌, ap, arith, length-append, append_assoc, append-nil}
 use Rattle.std.proofs.lemmas.List.Elements.{filter-append}
@@ -29,6 +29,14 @@ full_at r q s t n count is last at = grind (arith, nat_tests)
 
 pub full_below : (r s t n : ℕ) → n ≡ s * 120 + t → r ≡ s → t < 120 → r ≤ 8738 → (r ≡ 8738 → ⊥) → nat_eq r 8738 ≡ nat_le 1048576 n
 full_below r s t n count is fewer below not_at = grind (arith, nat_tests)
+
+-- a series that is not full has few samples
+pub few_in : (r s t n : ℕ) → n ≡ s * 120 + t → r ≡ s → nat_le 1048576 n ≡ false → r * 120 + t < 1048576
+few_in r s t n count is few = grind (arith, nat_tests)
+
+-- the samples of its chunks are all of them
+pub few_told : (r q s t n : ℕ) → n ≡ s * 120 + t → r ≡ s → q ≡ t → nat_le 1048576 n ≡ false → r * 120 + q ≡ min 1048576 n
+few_told r q s t n count is last few = grind (arith, nat_tests)
 
 -- what lies in a range of sealed chunks and of an open one
 pub within-joined_chunks : (from to : ℤ) (sealed : List (List (ℤ × ℤ))) (last : List (ℤ × ℤ)) → within from to (joined_chunks sealed []) ++ within from to last ≡ within from to (joined_chunks sealed last)

@@ -34,7 +34,7 @@ pub struct HeadView {
 
 impl HeadView {
     ghost use Rattle.std.specs.Prelude.{[]};
-    ghost use Rattle.head.specs.Shown.{series_of, part_of, copied_of};
+    ghost use Rattle.head.specs.Shown.{series_of, part_of, copied_of, sample_count_at};
     ghost use Rattle.head.specs.Heads.{HeadSeries};
     ghost use Rattle.head.specs.HeadRows.{numbered_row};
     ghost use Rattle.std.specs.Prelude.{◌+◌, slice_index_or};
@@ -164,6 +164,17 @@ impl HeadView {
         match self.series_at(reference) {
             Some(series) => series.samples_within(alloc, from, to),
             None => Ok(Vec::new(alloc)),
+        }
+    }
+
+    /// How many samples the series with this reference has; 0 for an unknown reference. None is
+    /// decoded.
+    pub fn sample_count_of(&self, reference: SeriesRef) -> usize
+        ensures { result ≡ sample_count_at (row_at reference (part_of self.now)) }
+    {
+        match self.series_at(reference) {
+            Some(series) => series.sample_count(),
+            None => 0,
         }
     }
 

@@ -1,7 +1,7 @@
 //! The samples of one label set, in packed chunks that versions share.
 
 ghost use Rattle.std.specs.Prelude.{◌≡◌, ◌<◌, ◌++◌, IfOk, OnOk, [], ◌∷◌, length, map, filter};
-ghost use Rattle.std.specs.Prelude.{nat_le, OnErr};
+ghost use Rattle.std.specs.Prelude.{nat_le, min, OnErr};
 ghost use Rattle.std.specs.Arc.{arc_value};
 ghost use Rattle.std.specs.Prelude.{T};
 ghost use Rattle.std.specs.Ordering.{int_cmp};
@@ -384,6 +384,16 @@ impl Series {
         let sealed = self.sealed.chunks().len();
         let last = MAX_SAMPLES / CHUNK;
         sealed > last || sealed == last && self.tail.len() >= MAX_SAMPLES % CHUNK
+    }
+
+    /// How many samples there are, at most [`MAX_SAMPLES`]. None is decoded.
+    pub(crate) fn sample_count(&self) -> usize
+        ensures { result ≡ min MAX_SAMPLES (length self.now.samples) }
+    {
+        if self.is_full() {
+            return MAX_SAMPLES;
+        }
+        self.sealed.chunks().len() * CHUNK + self.tail.len()
     }
 
     pub(crate) fn newest(&self) -> Sample

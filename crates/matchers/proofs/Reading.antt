@@ -1,7 +1,8 @@
 -- A compiled pattern finds a match exactly where the tree that its text is read as does.
 use Rattle.std.proofs.Common.{◌≡◌, ℕ, ◌<◌, ◌≤◌, true, List, All, length, Option, None, Some, IsSomeAnd, is_some, option_map, sym, ap, refl, ◌∙◌, IsUtf8}
-use Rattle.std.specs.Prelude.{option_and_then}
-use Rattle.regex.specs.Patterns.{Re, find_str, SameCaptures, Reads}
+use Rattle.std.specs.Prelude.{option_and_then, Result, Ok, Err, IfOk, is_ok}
+use Rattle.regex.specs.Patterns.{Re, find_str, default_config, SameCaptures, Reads}
+use Rattle.regex_hir.specs.declared.hir.Hir.{Hir}
 use Rattle.regex.specs.Strings.{regex_pattern}
 use Rattle.regex.specs.declared.string.regex.Regex.{Regex}
 use Rattle.regex_syntax.specs.Grammar.{Names, group_count}
@@ -28,6 +29,14 @@ some_read (Some found) most a names p = refl
 pub is_read : {r : Regex} {text : List ℕ} → IsBuiltOf r text → is_some (tree_of text) ≡ true
 unfolding Reads
 is_read built = some_read _ _ _ _ (rw (built.source, built.config) at built.read)
+
+-- a text of which a tree is given is read
+pub is_read_if : {P E : Type 0} (text : List ℕ) (hir : P → Hir) (names : P → Names) (r : Result P E)
+    → IfOk r (λ p. Reads default_config text (hir p) (names p)) → is_ok r ≡ true
+    → is_some (tree_of text) ≡ true
+unfolding Reads
+is_read_if text hir names (Ok p) reads given = some_read _ _ _ _ reads
+is_read_if text hir names (Err e) reads given = absurd (cc given)
 
 -- what was built of a pattern between its anchors finds its full matches
 pub finds_of_built : {r : Regex} {pattern : List ℕ} → IsBuiltOf r (anchored pattern) → FindsFullMatches (regex_pattern r) pattern

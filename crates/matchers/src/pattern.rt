@@ -2,9 +2,10 @@
 //! asked by its alternatives, and needs no `regex`.
 
 ghost use Rattle.std.specs.Prelude.{◌≡◌, ◌<◌, ◌↔◌, ◌⊎◌, length, string_bytes, IfOk, OnOk, IsErrOf};
+ghost use Rattle.std.specs.Prelude.{is_some, true, IsTrue};
 ghost use Rattle.regex.specs.Strings.{regex_pattern};
 ghost use Rattle.matchers.specs.Patterns.{anchored, IsPattern, IsRead, IsRefused, IsRefusedPattern};
-ghost use Rattle.matchers.specs.Patterns.{IsBuiltOf, FindsFullMatches};
+ghost use Rattle.matchers.specs.Patterns.{IsBuiltOf, FindsFullMatches, tree_of};
 ghost use Rattle.std.specs.Prelude.{ℕ, List};
 ghost use Rattle.matchers.specs.Built.{IsBuiltFor, SearchesFor};
 ghost use Rattle.matchers.specs.Limits.{IsPatternWithin, IsTooLong, IsRefusedWithin};
@@ -12,6 +13,7 @@ ghost use Rattle.matchers.specs.declared.limits.Limits.TheVariants as Limits;
 
 use crate::{Limits, MatcherError};
 use regex::Regex;
+use regex_syntax::{Config, parse};
 use std::alloc::{AllocError, Global};
 use std::marker::Model;
 use std::sync::Arc;
@@ -91,7 +93,28 @@ fn build(alloc: Global, text: &str) -> Result<Regex, MatcherError>
     }
 }
 
-/// The pattern between its anchors, once it was built alone.
+/// Whether the grammar of `regex` reads the text alone. `false` may also be want of memory.
+fn is_read(alloc: Global, text: &str) -> bool
+    ensures { IsTrue result → is_some (tree_of text.now) ≡ true }
+{
+    parse(alloc, text, &Config::default()).is_ok()
+}
+
+/// Refuses a text that `regex` does not read alone. Only such a text is built.
+fn check_alone(alloc: Global, text: &str) -> Result<(), MatcherError>
+    ensures read { OnOk result (is_some (tree_of text.now) ≡ true) }
+    ensures refused { IsErrOf result MatcherError.PatternRefused → IsRefused text.now }
+    ensures not_name { IsErrOf result MatcherError.BadName → ⊥ }
+    ensures not_long { IsErrOf result MatcherError.PatternTooLong → ⊥ }
+{
+    if is_read(alloc, text) {
+        return Ok(());
+    }
+    let _alone = build(alloc, text)?;
+    Ok(())
+}
+
+/// The pattern between its anchors, once it was read alone.
 fn build_anchored(alloc: Global, text: &str) -> Result<Regex, MatcherError>
     ensures finds { IfOk result (λ r. FindsFullMatches (regex_pattern r) text.now) }
     ensures read { OnOk result (IsRead text.now) }
@@ -100,15 +123,15 @@ fn build_anchored(alloc: Global, text: &str) -> Result<Regex, MatcherError>
     ensures not_name { IsErrOf result MatcherError.BadName → ⊥ }
     ensures not_long { IsErrOf result MatcherError.PatternTooLong → ⊥ }
 {
-    let _alone = build(alloc, text)?;
+    check_alone(alloc, text)?;
     let whole = anchor(alloc, text)?;
     let regex = build(alloc, whole.as_str())?;
     Ok(regex)
 }
 
 impl Pattern {
-    /// The pattern of a text: `M3` above 256 bytes, then `M2` where `regex` builds not both the
-    /// text and `^(?s:text)$`.
+    /// The pattern of a text: `M3` above 256 bytes, then `M2` if `regex` does not read the text, or
+    /// does not build `^(?s:text)$`.
     fn new(alloc: Global, text: String) -> Result<Pattern, MatcherError>
         ensures ok { IfOk result (λ p. p ≡ string_bytes text) }
         ensures read { OnOk result (IsPattern (string_bytes text)) }

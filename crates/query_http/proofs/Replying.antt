@@ -16,9 +16,10 @@ use Rattle.snapshots.specs.declared.entry.Entry.{Entry}
 use Rattle.snapshots.specs.Replays.{IsRefusedBy, IsOfStore}
 use Rattle.snapshots.specs.Seats.{SeatView}
 use Rattle.snapshots.specs.Views.{Known}
-use Rattle.snapshots.proofs.Prefixes.{prefix_self}
+use Rattle.snapshots.proofs.Prefixes.{prefix_self, prefix_trans}
+use mathlib.Core.List.{IsPrefix}
 use Rattle.requests.specs.declared.refusal.Cause.{Cause}
-use Rattle.requests.specs.declared.refusal.Refusal.TheVariants.{Refused, NotKept}
+use Rattle.requests.specs.declared.refusal.Refusal.TheVariants.{Refused, Unavailable, NotKept}
 use Rattle.requests.specs.declared.status.Status.{Status}
 use Rattle.requests.specs.declared.status.Status.TheVariants.{Done, Conflict}
 use Rattle.guard.specs.Judging.{no_rules}
@@ -35,7 +36,8 @@ use Rattle.answers.specs.Headline.{IsHeadline}
 use Rattle.answers.specs.MergedRows.{rows_of}
 use Rattle.query_http.specs.Reply.{text_of}
 use Rattle.answers.specs.Body.{body_text}
-use Rattle.query_http.specs.Serving.{Worker, IsIdle, IsReplyOfRefusal, IsQueryReply, IsEventReply}
+use Rattle.query_http.specs.Serving.{Worker, IsIdle, IsAnswerReply, IsReplyOfRefusal, IsQueryReply}
+use Rattle.query_http.specs.Serving.{IsEventReply}
 use Rattle.query_http.specs.Serving.{IsSilent, IsReply, Serves, refused_at, conflict_body}
 use Rattle.query_http.specs.Serving.{IsRefusedAfterHeld}
 use Rattle.query_http.specs.declared.engine.Served.{Served}
@@ -56,10 +58,60 @@ pub answer_replied : {E : Type 0} (opening : SnapshotParts) (query : QueryView)
     → IsHeadline opening query before after answer → IfOk result (λ r. r.status ≡ Done)
     → IfOk result (λ r.
     text_of r ≡ reply_text Done (body_text answer.parts.items (rows_of answer)))
-    → IfOk result (λ r. IsQueryReply opening query before after r.status (text_of r))
+    → IfOk result (λ r. IsAnswerReply opening query before after r.status (text_of r)
+    ⊎ IsReplyOfRefusal Unavailable r.status (text_of r))
 answer_replied opening query before after answer (Ok r) h number spelled =
     inl (record { answer = answer; headline = h; number = number; spelled = spelled })
 answer_replied opening query before after answer (Err e) h number spelled = tt
+
+-- an answer from a snapshot behind another one that the pass had taken
+later_headline : (opening : SnapshotParts) (query : QueryView) (before between after : Known)
+    (answer : AuditedAnswer) → IsPrefix before.seen between.seen → between.told ≡ before.told
+    → IsHeadline opening query between after answer → IsHeadline opening query before after answer
+later_headline opening query before between after answer seen told h = record {
+  seen = prefix_trans before.seen between.seen after.seen seen h.seen;
+  told = subst (λ (l : List Entry). IsPrefix l after.seen) told h.told;
+  snapshot = h.snapshot;
+  replay = h.replay;
+  rows = h.rows;
+  whole = h.whole;
+  parts = h.parts;
+}
+
+later_reply : (opening : SnapshotParts) (bounded : Bool) (query : QueryView)
+    (before between after : Known) (status : Status) (text : List ℕ)
+    → IsPrefix before.seen between.seen → between.told ≡ before.told
+    → IsAnswerReply opening query between after status text ⊎ IsReplyOfRefusal Unavailable status text
+    → IsQueryReply opening bounded query before after status text
+later_reply opening bounded query before between after status text seen told (inl h) =
+    inl (record {
+      answer = h.answer;
+      headline =
+          later_headline opening query before between after h.answer seen told h.headline;
+      number = h.number;
+      spelled = h.spelled;
+    })
+later_reply opening bounded query before between after status text seen told (inr h) = inr (inl h)
+
+-- without a bound there is room for each reply
+pub unbounded : (opening : SnapshotParts) (query : QueryView) (before after : Known)
+    (status : Status) (text : List ℕ)
+    → IsQueryReply opening false query before after status text
+    → IsAnswerReply opening query before after status text ⊎ IsReplyOfRefusal Unavailable status text
+unbounded opening query before after status text (inl h) = inl h
+unbounded opening query before after status text (inr (inl h)) = inr h
+unbounded opening query before after status text (inr (inr h)) = absurd (cc h.bound)
+
+-- the reply of a store to a query, whose pass had taken another snapshot before
+pub later_replied : {E : Type 0} (opening : SnapshotParts) (bounded : Bool) (query : QueryView)
+    (before between after : Known) (result : Result Reply E)
+    → IsPrefix before.seen between.seen → between.told ≡ before.told
+    → IfOk result (λ r. IsAnswerReply opening query between after r.status (text_of r)
+    ⊎ IsReplyOfRefusal Unavailable r.status (text_of r))
+    → IfOk result (λ r. IsQueryReply opening bounded query before after r.status (text_of r))
+later_replied opening bounded query before between after (Ok r) seen told h =
+    later_reply opening bounded query before between after r.status (text_of r) seen told h
+later_replied opening bounded query before between after (Err e) seen told h = tt
 
 -- of a refusal that is the store's own no more is said
 pub store_refused : (opening : SnapshotParts) (held : List Entry → Type 0) (seat : SeatView)
@@ -129,23 +181,23 @@ event_refused opening idle held event before after error (Err e) same found keep
     number spelled = tt
 
 -- a connection that got no reply
-pub silent_served : (Asks : List ℕ → Meaning → Type 0) (opening : SnapshotParts) (idle : Bool)
+pub silent_served : (Asks : List ℕ → Meaning → Type 0) (opening : SnapshotParts) (idle bounded : Bool)
     (held : List Entry → Type 0)
     (input : Option (List ℕ)) (before after : Worker)
     (old new : Option (List ℕ)) (how : Served) → IsSilent how
     → (how ≡ served.Closed → IfSome input (λ bytes. bytes ≡ []))
     → (how ≡ served.Closed → after ≡ before) → (how ≡ served.ReadFault → after ≡ before)
-    → IsIdle before after → Serves Asks opening idle held input before after old new how
-silent_served Asks opening idle held input before after old new (served.Replied status) p closed
+    → IsIdle before after → Serves Asks opening idle bounded held input before after old new how
+silent_served Asks opening idle bounded held input before after old new (served.Replied status) p closed
     unasked unread still = absurd p
-silent_served Asks opening idle held input before after old new served.WriteFault p closed unasked
+silent_served Asks opening idle bounded held input before after old new served.WriteFault p closed unasked
     unread still = absurd p
-silent_served Asks opening idle held input before after old new served.Closed p closed unasked
+silent_served Asks opening idle bounded held input before after old new served.Closed p closed unasked
     unread still =
     (closed refl, unasked refl)
-silent_served Asks opening idle held input before after old new served.ReadFault p closed unasked
+silent_served Asks opening idle bounded held input before after old new served.ReadFault p closed unasked
     unread still = unread refl
-silent_served Asks opening idle held input before after old new served.NoMemory p closed unasked
+silent_served Asks opening idle bounded held input before after old new served.NoMemory p closed unasked
     unread still = still
 
 same_idle : (before after : Worker) → after ≡ before → IsIdle before after
@@ -155,99 +207,99 @@ same_idle before after e = subst (λ (w : Worker). IsIdle before w) (sym e) (rec
   seen = prefix_self before.known.seen;
 })
 
-reply_idle : (rules : Rules) (opening : SnapshotParts) (idle : Bool) (held : List Entry → Type 0)
+reply_idle : (rules : Rules) (opening : SnapshotParts) (idle bounded : Bool) (held : List Entry → Type 0)
     (bytes : List ℕ) (before after : Worker) (status : Status) (text : List ℕ)
     → IsBarred rules bytes
-    → IsReply (MeansUnder rules) opening idle held (Some bytes) before after status text
+    → IsReply (MeansUnder rules) opening idle bounded held (Some bytes) before after status text
     → IsIdle before after
-reply_idle rules opening idle held bytes before after status text b (inl h) =
+reply_idle rules opening idle bounded held bytes before after status text b (inl h) =
     same_idle before after h.same
-reply_idle rules opening idle held bytes before after status text b (inr h) =
+reply_idle rules opening idle bounded held bytes before after status text b (inr h) =
     absurd (asks_nothing rules bytes h.request b h.means)
 
-barred_bytes : (rules : Rules) (opening : SnapshotParts) (idle : Bool)
+barred_bytes : (rules : Rules) (opening : SnapshotParts) (idle bounded : Bool)
     (held : List Entry → Type 0) (bytes : List ℕ) (before after : Worker)
     (old new : Option (List ℕ)) (how : Served) → IsBarred rules bytes
-    → Serves (MeansUnder rules) opening idle held (Some bytes) before after old new how
+    → Serves (MeansUnder rules) opening idle bounded held (Some bytes) before after old new how
     → IsIdle before after
-barred_bytes rules opening idle held bytes before after old new (served.Replied status) b h =
-    reply_idle rules opening idle held bytes before after status h.text b h.reply
-barred_bytes rules opening idle held bytes before after old new served.WriteFault b h =
-    reply_idle rules opening idle held bytes before after h.status h.text b h.reply
-barred_bytes rules opening idle held bytes before after old new served.Closed b h =
+barred_bytes rules opening idle bounded held bytes before after old new (served.Replied status) b h =
+    reply_idle rules opening idle bounded held bytes before after status h.text b h.reply
+barred_bytes rules opening idle bounded held bytes before after old new served.WriteFault b h =
+    reply_idle rules opening idle bounded held bytes before after h.status h.text b h.reply
+barred_bytes rules opening idle bounded held bytes before after old new served.Closed b h =
     same_idle before after h.1
-barred_bytes rules opening idle held bytes before after old new served.ReadFault b h =
+barred_bytes rules opening idle bounded held bytes before after old new served.ReadFault b h =
     same_idle before after h
-barred_bytes rules opening idle held bytes before after old new served.NoMemory b h = h
+barred_bytes rules opening idle bounded held bytes before after old new served.NoMemory b h = h
 
 -- what is not admitted changes nothing
-pub barred_idle : (rules : Rules) (opening : SnapshotParts) (idle : Bool)
+pub barred_idle : (rules : Rules) (opening : SnapshotParts) (idle bounded : Bool)
     (held : List Entry → Type 0) (input : Option (List ℕ))
     (before after : Worker) (old new : Option (List ℕ)) (how : Served)
-    → Serves (MeansUnder rules) opening idle held input before after old new how
+    → Serves (MeansUnder rules) opening idle bounded held input before after old new how
     → IfSome input (λ bytes. IsBarred rules bytes → IsIdle before after)
-barred_idle rules opening idle held None before after old new how h = tt
-barred_idle rules opening idle held (Some bytes) before after old new how h =
-    λ b. barred_bytes rules opening idle held bytes before after old new how b h
+barred_idle rules opening idle bounded held None before after old new how h = tt
+barred_idle rules opening idle bounded held (Some bytes) before after old new how h =
+    λ b. barred_bytes rules opening idle bounded held bytes before after old new how b h
 
 -- The same replies, where what bytes mean under no rules is what they mean.
-reply_unruled : (opening : SnapshotParts) (idle : Bool) (held : List Entry → Type 0)
+reply_unruled : (opening : SnapshotParts) (idle bounded : Bool) (held : List Entry → Type 0)
     (input : Option (List ℕ)) (before after : Worker) (status : Status) (text : List ℕ)
-    → IsReply (MeansUnder no_rules) opening idle held input before after status text
-    → IsReply Means opening idle held input before after status text
-reply_unruled opening idle held None before after status text (inl h) = inl (record {
+    → IsReply (MeansUnder no_rules) opening idle bounded held input before after status text
+    → IsReply Means opening idle bounded held input before after status text
+reply_unruled opening idle bounded held None before after status text (inl h) = inl (record {
   refusal = h.refusal;
   of_bytes = h.of_bytes;
   means = tt;
   refused = h.refused;
   same = h.same;
 })
-reply_unruled opening idle held (Some bytes) before after status text (inl h) = inl (record {
+reply_unruled opening idle bounded held (Some bytes) before after status text (inl h) = inl (record {
   refusal = h.refusal;
   of_bytes = h.of_bytes;
   means = means_unruled bytes (Err h.refusal) h.means;
   refused = h.refused;
   same = h.same;
 })
-reply_unruled opening idle held None before after status text (inr h) = inr (record {
+reply_unruled opening idle bounded held None before after status text (inr h) = inr (record {
   request = h.request;
   means = tt;
   fits = h.fits;
   done = h.done;
 })
-reply_unruled opening idle held (Some bytes) before after status text (inr h) = inr (record {
+reply_unruled opening idle bounded held (Some bytes) before after status text (inr h) = inr (record {
   request = h.request;
   means = means_unruled bytes (Ok h.request) h.means;
   fits = h.fits;
   done = h.done;
 })
 
-served_plain : (opening : SnapshotParts) (idle : Bool) (held : List Entry → Type 0)
+served_plain : (opening : SnapshotParts) (idle bounded : Bool) (held : List Entry → Type 0)
     (input : Option (List ℕ)) (before after : Worker)
     (old new : Option (List ℕ)) (how : Served)
-    → Serves (MeansUnder no_rules) opening idle held input before after old new how
-    → Serves Means opening idle held input before after old new how
-served_plain opening idle held input before after old new (served.Replied status) h = record {
+    → Serves (MeansUnder no_rules) opening idle bounded held input before after old new how
+    → Serves Means opening idle bounded held input before after old new how
+served_plain opening idle bounded held input before after old new (served.Replied status) h = record {
   text = h.text;
-  reply = reply_unruled opening idle held input before after status h.text h.reply;
+  reply = reply_unruled opening idle bounded held input before after status h.text h.reply;
   written = h.written;
 }
-served_plain opening idle held input before after old new served.WriteFault h = record {
+served_plain opening idle bounded held input before after old new served.WriteFault h = record {
   status = h.status;
   text = h.text;
-  reply = reply_unruled opening idle held input before after h.status h.text h.reply;
+  reply = reply_unruled opening idle bounded held input before after h.status h.text h.reply;
   written = h.written;
 }
-served_plain opening idle held input before after old new served.Closed h = h
-served_plain opening idle held input before after old new served.ReadFault h = h
-served_plain opening idle held input before after old new served.NoMemory h = h
+served_plain opening idle bounded held input before after old new served.Closed h = h
+served_plain opening idle bounded held input before after old new served.ReadFault h = h
+served_plain opening idle bounded held input before after old new served.NoMemory h = h
 
-pub served_unruled : (rules : Rules) (opening : SnapshotParts) (idle : Bool)
+pub served_unruled : (rules : Rules) (opening : SnapshotParts) (idle bounded : Bool)
     (held : List Entry → Type 0) (input : Option (List ℕ))
     (before after : Worker) (old new : Option (List ℕ)) (how : Served) → rules ≡ no_rules
-    → Serves (MeansUnder rules) opening idle held input before after old new how
-    → Serves Means opening idle held input before after old new how
-served_unruled rules opening idle held input before after old new how is h =
-    served_plain opening idle held input before after old new how
+    → Serves (MeansUnder rules) opening idle bounded held input before after old new how
+    → Serves Means opening idle bounded held input before after old new how
+served_unruled rules opening idle bounded held input before after old new how is h =
+    served_plain opening idle bounded held input before after old new how
     (subst (λ (r : Rules).
-    Serves (MeansUnder r) opening idle held input before after old new how) is h)
+    Serves (MeansUnder r) opening idle bounded held input before after old new how) is h)

@@ -5,6 +5,7 @@ use Rattle.requests.specs.declared.refusal.Refusal.TheVariants.{BadHead, HeadToo
 use Rattle.requests.specs.declared.refusal.Refusal.TheVariants.{Method, BadQuery, BadSelector}
 use Rattle.requests.specs.declared.refusal.Refusal.TheVariants.{BadBody, BodyTooLong, Refused}
 use Rattle.requests.specs.declared.refusal.Refusal.TheVariants.{Unavailable, NotKept, Guarded}
+use Rattle.requests.specs.declared.refusal.Refusal.TheVariants.{NoRoom}
 use Rattle.requests.specs.declared.request.Request.{Request}
 use Rattle.requests.specs.declared.request.Request.TheVariants.{Select, Write, Delete, Cut}
 use Rattle.requests.specs.declared.target.Path.{Path}
@@ -39,3 +40,4 @@ number_of (Refused cause) = 9
 number_of Unavailable = 10
 number_of NotKept = 11
 number_of Guarded = 12
+number_of NoRoom = 13

@@ -1,6 +1,6 @@
 -- What a request gets: the reply to it, and what the pass and the seat of its worker are then.
-use Rattle.std.specs.Prelude.{◌≡◌, ◌≢◌, ◌⊎◌, ℕ, Bool, false, List, [], Option, None, Some, Ok, Err}
-use Rattle.std.specs.Prelude.{IfSome, codes, ⊤}
+use Rattle.std.specs.Prelude.{◌≡◌, ◌≢◌, ◌⊎◌, ℕ, Bool, true, false, List, [], Option, None, Some}
+use Rattle.std.specs.Prelude.{Ok, Err, IfSome, codes, ⊤}
 use Rattle.std.specs.Io.KnownBytes.{Appends}
 use mathlib.Core.List.{IsPrefix}
 use Rattle.serde_json.specs.Written.{compact_text}
@@ -16,7 +16,7 @@ use Rattle.snapshots.specs.Replays.{EndsWith, AreAccepted, IsOfStore, IsRefusedA
 use Rattle.snapshots.specs.Seats.{SeatView, HasOneMoreEvent}
 use Rattle.snapshots.specs.Views.{Known}
 use Rattle.requests.specs.declared.refusal.Refusal.{Refusal}
-use Rattle.requests.specs.declared.refusal.Refusal.TheVariants.{Unavailable, NotKept}
+use Rattle.requests.specs.declared.refusal.Refusal.TheVariants.{Unavailable, NotKept, NoRoom}
 use Rattle.requests.specs.declared.request.Request.{Request}
 use Rattle.requests.specs.declared.request.Request.TheVariants as asks
 use Rattle.requests.specs.declared.status.Status.{Status}
@@ -61,10 +61,18 @@ pub record IsAnswerReply (opening : SnapshotParts) (query : QueryView) (before a
   pub number : status ≡ Done
   pub spelled : text ≡ reply_text Done (body_text answer.parts.items (rows_of answer))
 
--- the reply to a query: its answer, or that the store lends no snapshot
-abbrev pub IsQueryReply : SnapshotParts → QueryView → Known → Known → Status → List ℕ → Type 0
-IsQueryReply opening query before after status text =
-    IsAnswerReply opening query before after status text ⊎ IsReplyOfRefusal Unavailable status text
+-- The memory for replies has a bound, and no room for this one, by `H13`.
+pub record IsCrowdedReply (bounded : Bool) (status : Status) (text : List ℕ) : Type 0 where
+  pub bound : bounded ≡ true
+  pub refused : IsReplyOfRefusal NoRoom status text
+
+-- the reply to a query: its answer, or that the store lends no snapshot, or, only if the memory for
+-- replies is bounded, that it has no room
+abbrev pub IsQueryReply : SnapshotParts → Bool → QueryView → Known → Known → Status → List ℕ
+    → Type 0
+IsQueryReply opening bounded query before after status text =
+    IsAnswerReply opening query before after status text
+    ⊎ (IsReplyOfRefusal Unavailable status text ⊎ IsCrowdedReply bounded status text)
 
 -- the sample at which an event is refused, if it is a sample
 abbrev pub refused_at : CommitError → Option ℕ
@@ -135,16 +143,17 @@ IsEventReply opening idle held event before after status text =
     ⊎ (IsRefusedReply opening held event before after status text
     ⊎ IsUnkeptReply idle before after status text)
 
--- the reply to a request: to its query, or to the one event that it spells
-abbrev pub IsRequestReply : SnapshotParts → Bool → (List Entry → Type 0) → Request → Worker
+-- the reply to a request: to its query, or to the one event that it spells (`bounded`: whether the
+-- memory for replies is)
+abbrev pub IsRequestReply : SnapshotParts → Bool → Bool → (List Entry → Type 0) → Request → Worker
     → Worker → Status → List ℕ → Type 0
-IsRequestReply opening idle held (asks.Select query) before after status text =
-    IsQueryReply opening query before.known after.known status text × IsIdle before after
-IsRequestReply opening idle held (asks.Write rows) before after status text =
+IsRequestReply opening idle bounded held (asks.Select query) before after status text =
+    IsQueryReply opening bounded query before.known after.known status text × IsIdle before after
+IsRequestReply opening idle bounded held (asks.Write rows) before after status text =
     IsEventReply opening idle held (batch (batch_of_rows rows.items)) before after status text
-IsRequestReply opening idle held (asks.Delete matchers from to) before after status text =
+IsRequestReply opening idle bounded held (asks.Delete matchers from to) before after status text =
     IsEventReply opening idle held (deletion matchers.items from to) before after status text
-IsRequestReply opening idle held (asks.Cut t) before after status text =
+IsRequestReply opening idle bounded held (asks.Cut t) before after status text =
     IsEventReply opening idle held (cut t) before after status text
 
 -- What bytes mean is a parameter of what follows: `Means`, or under rules `MeansUnder`.
@@ -161,48 +170,50 @@ pub record TurnsAway (Asks : List ℕ → Meaning → Type 0) (input : Option (L
 
 -- the bytes that came ask a request, which is fit for a store, and this is the reply to it
 pub record DoesAsked (Asks : List ℕ → Meaning → Type 0) (opening : SnapshotParts)
-    (idle : Bool) (held : List Entry → Type 0) (input : Option (List ℕ)) (before after : Worker)
-    (status : Status) (text : List ℕ) : Type 0 where
+    (idle bounded : Bool) (held : List Entry → Type 0) (input : Option (List ℕ))
+    (before after : Worker) (status : Status) (text : List ℕ) : Type 0 where
   pub request : Request
   pub means : IfSome input (λ bytes. Asks bytes (Ok request))
   pub fits : IsFit request
-  pub done : IsRequestReply opening idle held request before after status text
+  pub done : IsRequestReply opening idle bounded held request before after status text
 
 -- the reply to the bytes that came
-abbrev pub IsReply : (List ℕ → Meaning → Type 0) → SnapshotParts → Bool → (List Entry → Type 0)
-    → Option (List ℕ) → Worker → Worker → Status → List ℕ → Type 0
-IsReply Asks opening idle held input before after status text =
+abbrev pub IsReply : (List ℕ → Meaning → Type 0) → SnapshotParts → Bool → Bool
+    → (List Entry → Type 0) → Option (List ℕ) → Worker → Worker → Status → List ℕ → Type 0
+IsReply Asks opening idle bounded held input before after status text =
     TurnsAway Asks input before after status text
-    ⊎ DoesAsked Asks opening idle held input before after status text
+    ⊎ DoesAsked Asks opening idle bounded held input before after status text
 
 -- the whole reply was written, and nothing else
 pub record Replies (Asks : List ℕ → Meaning → Type 0) (opening : SnapshotParts)
-    (idle : Bool) (held : List Entry → Type 0) (input : Option (List ℕ)) (before after : Worker)
-    (old new : Option (List ℕ)) (status : Status) : Type 0 where
+    (idle bounded : Bool) (held : List Entry → Type 0) (input : Option (List ℕ))
+    (before after : Worker) (old new : Option (List ℕ)) (status : Status) : Type 0 where
   pub text : List ℕ
-  pub reply : IsReply Asks opening idle held input before after status text
+  pub reply : IsReply Asks opening idle bounded held input before after status text
   pub written : Appends old new text
 
 -- less than the whole reply was written, a prefix of it, and nothing else
 pub record BeginsToReply (Asks : List ℕ → Meaning → Type 0) (opening : SnapshotParts)
-    (idle : Bool) (held : List Entry → Type 0) (input : Option (List ℕ)) (before after : Worker)
-    (old new : Option (List ℕ)) : Type 0 where
+    (idle bounded : Bool) (held : List Entry → Type 0) (input : Option (List ℕ))
+    (before after : Worker) (old new : Option (List ℕ)) : Type 0 where
   pub status : Status
   pub text : List ℕ
-  pub reply : IsReply Asks opening idle held input before after status text
+  pub reply : IsReply Asks opening idle bounded held input before after status text
   pub written : AppendsFront old new text
 
 -- how a connection was served, by what came and what was written
-abbrev pub Serves : (List ℕ → Meaning → Type 0) → SnapshotParts → Bool → (List Entry → Type 0)
-    → Option (List ℕ) → Worker → Worker → Option (List ℕ) → Option (List ℕ) → Served → Type 0
-Serves Asks opening idle held input before after old new (served.Replied status) =
-    Replies Asks opening idle held input before after old new status
-Serves Asks opening idle held input before after old new served.WriteFault =
-    BeginsToReply Asks opening idle held input before after old new
-Serves Asks opening idle held input before after old new served.Closed =
+abbrev pub Serves : (List ℕ → Meaning → Type 0) → SnapshotParts → Bool → Bool
+    → (List Entry → Type 0) → Option (List ℕ) → Worker → Worker → Option (List ℕ)
+    → Option (List ℕ) → Served → Type 0
+Serves Asks opening idle bounded held input before after old new (served.Replied status) =
+    Replies Asks opening idle bounded held input before after old new status
+Serves Asks opening idle bounded held input before after old new served.WriteFault =
+    BeginsToReply Asks opening idle bounded held input before after old new
+Serves Asks opening idle bounded held input before after old new served.Closed =
     IfSome input (λ bytes. bytes ≡ []) × (after ≡ before)
-Serves Asks opening idle held input before after old new served.ReadFault = after ≡ before
-Serves Asks opening idle held input before after old new served.NoMemory = IsIdle before after
+Serves Asks opening idle bounded held input before after old new served.ReadFault = after ≡ before
+Serves Asks opening idle bounded held input before after old new served.NoMemory =
+    IsIdle before after
 
 -- nothing was replied
 abbrev pub IsSilent : Served → Type 0

@@ -1,6 +1,6 @@
 //! What a request does to a store, and the reply that reports it.
 
-ghost use Rattle.std.specs.Prelude.{◌≡◌, ◌≢◌, ◌++◌, IfOk, OnErr, IfErr, IsTrue};
+ghost use Rattle.std.specs.Prelude.{◌≡◌, ◌≢◌, ◌⊎◌, ◌++◌, IfOk, OnErr, IfErr, IsTrue, true, false};
 ghost use mathlib.Core.List.{IsPrefix};
 ghost use Rattle.labels.specs.Contents.{is_time};
 ghost use Rattle.head.specs.BatchRows.{batch_of_rows};
@@ -9,20 +9,24 @@ ghost use Rattle.head.specs.Worlds.{batch, deletion, cut};
 ghost use Rattle.head.specs.declared.error.CommitError.TheVariants.{Journal, Memory};
 ghost use Rattle.requests.specs.Fitting.{IsFit};
 ghost use Rattle.requests.specs.Replies.{reply_text, done_text};
-ghost use Rattle.requests.specs.declared.refusal.Refusal.TheVariants.{NotKept};
+ghost use Rattle.requests.specs.declared.refusal.Refusal.TheVariants.{NotKept, Unavailable};
 ghost use Rattle.requests.specs.declared.status.Status.TheVariants.{Done, Conflict};
+ghost use Rattle.query_http.specs.Bounds.{is_bounded};
 ghost use Rattle.query_http.specs.Reply.{text_of};
 ghost use Rattle.answers.specs.Body.{body_text};
 ghost use Rattle.answers.specs.Kept.{whole_of};
 ghost use Rattle.answers.specs.MergedRows.{rows_of};
 ghost use Rattle.snapshots.specs.Keeping.{AreHeld, PublishesHeld};
 ghost use Rattle.query_http.specs.Serving.{worker, IsIdle, IsReplyOfRefusal, conflict_body};
-ghost use Rattle.query_http.specs.Serving.{IsQueryReply, IsEventReply, IsRequestReply};
+ghost use Rattle.query_http.specs.Serving.{IsAnswerReply, IsCrowdedReply, IsQueryReply, IsEventReply};
+ghost use Rattle.query_http.specs.Serving.{IsRequestReply};
 ghost use Rattle.query_http.specs.Serving.{refused_at as place_refused};
 
 use crate::buffers::Buffers;
 use crate::reply::Reply;
-use answers::{AnswerText, AskError, AuditedAnswer, answer_text, append_text, ask_by, length_of};
+use answers::{
+    AnswerText, AskError, AuditedAnswer, answer_text, append_text, ask_by, length_of, room_to_ask,
+};
 use head::CommitError;
 use keeper::Keeper;
 use labels::Row;
@@ -32,6 +36,7 @@ use snapshots::{Committer, Naming, OpenNaming, Pass, RowBatch, Seat};
 use std::alloc::{AllocError, Global};
 use std::sync::Wait;
 use std::thread::Threads;
+use std::time::Clock;
 
 /// The reply of a refusal.
 pub(crate) fn refusal_reply(alloc: Global, refusal: &Refusal) -> Result<Reply, AllocError>
@@ -62,6 +67,7 @@ fn joined_reply(
 ) -> Result<Reply, AllocError>
     ensures number { IfOk result (λ r. r.status ≡ Done) }
     ensures spelled { IfOk result (λ r. text_of r ≡ head.items ++ whole_of answer) }
+    ensures room { buffers.new.room ≡ buffers.old.room }
 {
     let mut head = head;
     append_text(&mut head, &answer)?;
@@ -79,6 +85,7 @@ fn answer_reply<R: Threads + Sync>(
     ensures number { IfOk result (λ r. r.status ≡ Done) }
     ensures spelled { IfOk result (λ r. (text_of r)
         ≡ reply_text Done (body_text answer.now.parts.items (rows_of answer.now))) }
+    ensures room { buffers.new.room ≡ buffers.old.room }
 {
     let rooms = buffers.take_rooms(alloc);
     let text = answer_text(rt, alloc, rooms, answer)?;
@@ -95,8 +102,29 @@ fn answer_reply<R: Threads + Sync>(
     })
 }
 
+/// Takes the room that the reply to a query needs, and says whether there was any. If the memory of
+/// replies is not bounded, it looks at nothing.
+fn take_room<J: Naming, R: Wait + Clock>(
+    rt: &R,
+    alloc: Global,
+    buffers: &mut Buffers,
+    pass: &mut Pass<J>,
+    query: &Query,
+) -> Result<bool, AskError>
+    ensures bounded { IfOk result (λ taken. taken ≡ false → is_bounded buffers.old ≡ true) }
+    ensures room { is_bounded buffers.new ≡ is_bounded buffers.old }
+    ensures told { pass.new.told ≡ pass.old.told }
+    ensures seen { IsPrefix pass.old.seen pass.new.seen }
+{
+    let Some(whole) = buffers.whole_room() else {
+        return Ok(true);
+    };
+    let bytes = room_to_ask(alloc, pass, query, whole)?;
+    Ok(buffers.take_room(rt, bytes))
+}
+
 /// Answers a query from the pass's next snapshot, or with `H10`.
-fn select<J: Naming, R: Threads + Sync>(
+fn answer_query<J: Naming, R: Threads + Sync>(
     rt: &R,
     alloc: Global,
     buffers: &mut Buffers,
@@ -104,12 +132,48 @@ fn select<J: Naming, R: Threads + Sync>(
     query: &Query,
 ) -> Result<Reply, AllocError>
     ensures reply { IfOk result (λ r.
-        IsQueryReply J.opening query.now pass.old pass.new r.status (text_of r)) }
+        IsAnswerReply J.opening query.now pass.old pass.new r.status (text_of r)
+        ⊎ IsReplyOfRefusal Unavailable r.status (text_of r)) }
     ensures told { pass.new.told ≡ pass.old.told }
     ensures seen { IsPrefix pass.old.seen pass.new.seen }
+    ensures room { buffers.new.room ≡ buffers.old.room }
 {
     match ask_by(rt, alloc, pass, query) {
         Ok(answer) => answer_reply(rt, alloc, buffers, &answer),
+        Err(AskError::Snapshot(_)) => refusal_reply(alloc, &Refusal::Unavailable),
+        Err(AskError::Memory) => Err(AllocError),
+    }
+}
+
+/// The reply that there is no room for one: `H13`, which the note tells too.
+fn crowded_reply(alloc: Global, buffers: &mut Buffers) -> Result<Reply, AllocError>
+    ensures reply { is_bounded buffers.old ≡ true
+        → IfOk result (λ r. IsCrowdedReply (is_bounded buffers.old) r.status (text_of r)) }
+    ensures room { buffers.new.room ≡ buffers.old.room }
+{
+    let refusal = Refusal::NoRoom;
+    buffers.note = buffers.note.crowded(&refusal);
+    refusal_reply(alloc, &refusal)
+}
+
+/// Answers a query from the pass's next snapshot, or with `H10`. If the memory of replies is
+/// bounded, it takes room for the reply before, and replies with `H13` if there is none.
+fn select<J: Naming, R: Wait + Threads + Clock + Sync>(
+    rt: &R,
+    alloc: Global,
+    buffers: &mut Buffers,
+    pass: &mut Pass<J>,
+    query: &Query,
+) -> Result<Reply, AllocError>
+    ensures reply { IfOk result (λ r. IsQueryReply J.opening (is_bounded buffers.old) query.now
+        pass.old pass.new r.status (text_of r)) }
+    ensures told { pass.new.told ≡ pass.old.told }
+    ensures seen { IsPrefix pass.old.seen pass.new.seen }
+    ensures room { is_bounded buffers.new ≡ is_bounded buffers.old }
+{
+    match take_room(rt, alloc, buffers, pass, query) {
+        Ok(true) => answer_query(rt, alloc, buffers, pass, query),
+        Ok(false) => crowded_reply(alloc, buffers),
         Err(AskError::Snapshot(_)) => refusal_reply(alloc, &Refusal::Unavailable),
         Err(AskError::Memory) => Err(AllocError),
     }
@@ -242,7 +306,7 @@ fn cut_at<J: OpenNaming, C: Wait + Drop, K: Keeper + Drop>(
 /// Does what a request asks. The pass learns a change that the store accepts, whatever becomes of
 /// the reply.
 pub(crate) fn act<J: OpenNaming, C: Wait + Drop, K: Keeper + Drop>(
-    rt: &(impl Wait + Threads + Sync),
+    rt: &(impl Wait + Threads + Clock + Sync),
     alloc: Global,
     buffers: &mut Buffers,
     request: Request,
@@ -251,11 +315,12 @@ pub(crate) fn act<J: OpenNaming, C: Wait + Drop, K: Keeper + Drop>(
     committer: &Committer<J, C, K>,
 ) -> Result<Reply, AllocError>
     requires { IsFit request }
-    ensures reply { IfOk result (λ r. IsRequestReply J.opening K.idle
+    ensures reply { IfOk result (λ r. IsRequestReply J.opening K.idle (is_bounded buffers.old)
         (AreHeld K.holds K.stays J.before)
         request (worker pass.old seat.old) (worker pass.new seat.new) r.status (text_of r)) }
     ensures held { PublishesHeld K.holds K.stays J.before seat.old seat.new }
     ensures idle { OnErr result (IsIdle (worker pass.old seat.old) (worker pass.new seat.new)) }
+    ensures room { is_bounded buffers.new ≡ is_bounded buffers.old }
 {
     match request {
         Request::Select(query) => select(rt, alloc, buffers, pass, &query),

@@ -1,13 +1,13 @@
 //! Serving one connection: a request is read, done and replied to.
 
-ghost use Rattle.std.specs.Prelude.{◌≡◌, [], Some, None, IfOk, IfErr, IfSome, OnErr, IsErrOf};
+ghost use Rattle.std.specs.Prelude.{◌≡◌, [], Some, None, false, IfOk, IfErr, IfSome, OnErr, IsErrOf};
 ghost use Rattle.requests.specs.Edge.{HasGrown};
 ghost use Rattle.requests.specs.Admitting.{MeansUnder, IsBarred};
 ghost use Rattle.requests.specs.Fitting.{IsFit};
 ghost use Rattle.requests.specs.Reading.{Means};
 ghost use Rattle.requests.specs.declared.status.Status.{Status};
 ghost use Rattle.snapshots.specs.Keeping.{AreHeld, PublishesHeld};
-ghost use Rattle.query_http.specs.Bounds.{IsBounded};
+ghost use Rattle.query_http.specs.Bounds.{IsBounded, is_bounded, HoldsNothing};
 ghost use Rattle.query_http.specs.Reply.{text_of};
 ghost use Rattle.query_http.specs.Serving.{worker, IsIdle, IsReplyOfRefusal, IsSilent, Serves};
 ghost use Rattle.query_http.specs.Serving.{IsRequestReply, IsReply};
@@ -24,6 +24,7 @@ use snapshots::{Committer, OpenNaming, Pass, Seat};
 use std::alloc::Global;
 use std::sync::Wait;
 use std::thread::Threads;
+use std::time::Clock;
 
 /// How a connection was served.
 #[derive(Clone, Copy, Debug, PartialEq, Eq, Drop)]
@@ -53,7 +54,7 @@ fn turn_away(alloc: Global, refusal: &Refusal) -> Result<Reply, Served>
 
 /// Does what a request asks, unless there is no memory.
 fn do_asked<J: OpenNaming, C: Wait + Drop, K: Keeper + Drop>(
-    rt: &(impl Wait + Threads + Sync),
+    rt: &(impl Wait + Threads + Clock + Sync),
     alloc: Global,
     buffers: &mut Buffers,
     request: Request,
@@ -62,12 +63,13 @@ fn do_asked<J: OpenNaming, C: Wait + Drop, K: Keeper + Drop>(
     committer: &Committer<J, C, K>,
 ) -> Result<Reply, Served>
     requires { IsFit request }
-    ensures reply { IfOk result (λ r. IsRequestReply J.opening K.idle
+    ensures reply { IfOk result (λ r. IsRequestReply J.opening K.idle (is_bounded buffers.old)
         (AreHeld K.holds K.stays J.before)
         request (worker pass.old seat.old) (worker pass.new seat.new) r.status (text_of r)) }
     ensures held { PublishesHeld K.holds K.stays J.before seat.old seat.new }
     ensures memory { IfErr result (λ s. s ≡ Served.NoMemory) }
     ensures idle { OnErr result (IsIdle (worker pass.old seat.old) (worker pass.new seat.new)) }
+    ensures room { is_bounded buffers.new ≡ is_bounded buffers.old }
 {
     match act(rt, alloc, buffers, request, pass, seat, committer) {
         Ok(reply) => Ok(reply),
@@ -77,7 +79,7 @@ fn do_asked<J: OpenNaming, C: Wait + Drop, K: Keeper + Drop>(
 
 /// Reads a request and does what it asks: the reply, or why there is none.
 fn reply_to<J: OpenNaming, C: Wait + Drop, K: Keeper + Drop, R: Inlet>(
-    rt: &(impl Wait + Threads + Sync),
+    rt: &(impl Wait + Threads + Clock + Sync),
     alloc: Global,
     rules: &Rules,
     buffers: &mut Buffers,
@@ -87,7 +89,7 @@ fn reply_to<J: OpenNaming, C: Wait + Drop, K: Keeper + Drop, R: Inlet>(
     committer: &Committer<J, C, K>,
 ) -> Result<Reply, Served>
     ensures reply { IfOk result (λ r. IsReply (MeansUnder rules.now) J.opening K.idle
-        (AreHeld K.holds K.stays J.before) (R.input reader.old)
+        (is_bounded buffers.old) (AreHeld K.holds K.stays J.before) (R.input reader.old)
         (worker pass.old seat.old) (worker pass.new seat.new) r.status (text_of r)) }
     ensures held { PublishesHeld K.holds K.stays J.before seat.old seat.new }
     ensures silent { IfErr result IsSilent }
@@ -100,6 +102,7 @@ fn reply_to<J: OpenNaming, C: Wait + Drop, K: Keeper + Drop, R: Inlet>(
         → worker pass.new seat.new ≡ worker pass.old seat.old }
     ensures reads { IsErrOf result Served.ReadFault
         → HasGrown (R.failed_reads reader.old) (R.failed_reads reader.new) }
+    ensures room { is_bounded buffers.new ≡ is_bounded buffers.old }
 {
     let asked = read_admitted_into(
         alloc,
@@ -126,7 +129,7 @@ fn reply_to<J: OpenNaming, C: Wait + Drop, K: Keeper + Drop, R: Inlet>(
 /// Reads one request, does what it asks and writes the reply.
 #[tactic(auto, using(crate::proofs::Replying::silent_served))]
 fn serve_next<J: OpenNaming, C: Wait + Drop, K: Keeper + Drop, R: Inlet, W: Outlet>(
-    rt: &(impl Wait + Threads + Sync),
+    rt: &(impl Wait + Threads + Clock + Sync),
     alloc: Global,
     rules: &Rules,
     buffers: &mut Buffers,
@@ -137,7 +140,7 @@ fn serve_next<J: OpenNaming, C: Wait + Drop, K: Keeper + Drop, R: Inlet, W: Outl
     committer: &Committer<J, C, K>,
 ) -> Served
     ensures serves { Serves (MeansUnder rules.now) J.opening K.idle
-        (AreHeld K.holds K.stays J.before)
+        (is_bounded buffers.old) (AreHeld K.holds K.stays J.before)
         (R.input reader.old) (worker pass.old seat.old) (worker pass.new seat.new)
         (W.output writer.old) (W.output writer.new) result }
     ensures held { PublishesHeld K.holds K.stays J.before seat.old seat.new }
@@ -150,6 +153,8 @@ fn serve_next<J: OpenNaming, C: Wait + Drop, K: Keeper + Drop, R: Inlet, W: Outl
     ensures noted { (status : Status) → result ≡ Served.Replied status
         → buffers.new.note.status ≡ Some status }
     ensures unnoted { IsSilent result → buffers.new.note.status ≡ None }
+    ensures given { HoldsNothing buffers.new }
+    ensures room { is_bounded buffers.new ≡ is_bounded buffers.old }
 {
     buffers.note = Note::none();
     let made = reply_to(rt, alloc, rules, buffers, reader, pass, seat, committer);
@@ -158,6 +163,7 @@ fn serve_next<J: OpenNaming, C: Wait + Drop, K: Keeper + Drop, R: Inlet, W: Outl
         Ok(reply) => reply,
         Err(served) => {
             buffers.note.status = None;
+            buffers.give_room(rt);
             return served;
         }
     };
@@ -167,6 +173,7 @@ fn serve_next<J: OpenNaming, C: Wait + Drop, K: Keeper + Drop, R: Inlet, W: Outl
         Err(_) => Served::WriteFault,
     };
     buffers.give_reply(reply);
+    buffers.give_room(rt);
     served
 }
 
@@ -176,11 +183,14 @@ fn serve_next<J: OpenNaming, C: Wait + Drop, K: Keeper + Drop, R: Inlet, W: Outl
 /// change is published. Several threads make the rows and the text of a long answer. The pass
 /// learns the receipt of a change before the reply is written. It reads as [`read_admitted_into`]
 /// does, so a request that the rules do not admit is refused and changes nothing (`barred`). It
-/// waits as [`Committer::commit`] does. What the buffers held before plays no part. At most
-/// [`MOST_KEPT`](crate::MOST_KEPT) bytes of each are kept. The buffers note the status of the reply
-/// (`noted`), and none if no reply was made (`unnoted`).
+/// waits as [`Committer::commit`] does. What the buffers held before plays no part, but for the
+/// room that they share with others ([`Buffers::sharing`]), if they do: before the reply to a query
+/// is made, it waits until this has room for the reply, and replies with `H13` if it has none.
+/// Nothing is held of that room at the end, however the connection ends (`given`). At most
+/// [`MOST_KEPT`](crate::MOST_KEPT) bytes of each buffer are kept. The buffers note the status of the
+/// reply (`noted`), and none if no reply was made (`unnoted`).
 pub fn serve_one_with<J: OpenNaming, C: Wait + Drop, K: Keeper + Drop, R: Inlet, W: Outlet>(
-    rt: &(impl Wait + Threads + Sync),
+    rt: &(impl Wait + Threads + Clock + Sync),
     alloc: Global,
     rules: &Rules,
     buffers: &mut Buffers,
@@ -191,7 +201,7 @@ pub fn serve_one_with<J: OpenNaming, C: Wait + Drop, K: Keeper + Drop, R: Inlet,
     committer: &Committer<J, C, K>,
 ) -> Served
     ensures serves { Serves (MeansUnder rules.now) J.opening K.idle
-        (AreHeld K.holds K.stays J.before)
+        (is_bounded buffers.old) (AreHeld K.holds K.stays J.before)
         (R.input reader.old) (worker pass.old seat.old) (worker pass.new seat.new)
         (W.output writer.old) (W.output writer.new) result }
     ensures held { PublishesHeld K.holds K.stays J.before seat.old seat.new }
@@ -204,6 +214,8 @@ pub fn serve_one_with<J: OpenNaming, C: Wait + Drop, K: Keeper + Drop, R: Inlet,
     ensures noted { (status : Status) → result ≡ Served.Replied status
         → buffers.new.note.status ≡ Some status }
     ensures unnoted { IsSilent result → buffers.new.note.status ≡ None }
+    ensures given { HoldsNothing buffers.new }
+    ensures room { is_bounded buffers.new ≡ is_bounded buffers.old }
     ensures barred { IfSome (R.input reader.old) (λ bytes. IsBarred rules.now bytes
         → IsIdle (worker pass.old seat.old) (worker pass.new seat.new)) }
 {
@@ -213,9 +225,9 @@ pub fn serve_one_with<J: OpenNaming, C: Wait + Drop, K: Keeper + Drop, R: Inlet,
 }
 
 /// Serves one connection as [`serve_one_with`] does, with buffers of its own and under no
-/// rules.
+/// rules. The memory of its reply is not bounded, so `H13` never comes.
 pub fn serve_one<J: OpenNaming, C: Wait + Drop, K: Keeper + Drop, R: Inlet, W: Outlet>(
-    rt: &(impl Wait + Threads + Sync),
+    rt: &(impl Wait + Threads + Clock + Sync),
     alloc: Global,
     reader: &mut R,
     writer: &mut W,
@@ -223,7 +235,7 @@ pub fn serve_one<J: OpenNaming, C: Wait + Drop, K: Keeper + Drop, R: Inlet, W: O
     seat: &mut Seat<J>,
     committer: &Committer<J, C, K>,
 ) -> Served
-    ensures serves { Serves Means J.opening K.idle (AreHeld K.holds K.stays J.before)
+    ensures serves { Serves Means J.opening K.idle false (AreHeld K.holds K.stays J.before)
         (R.input reader.old) (worker pass.old seat.old) (worker pass.new seat.new)
         (W.output writer.old) (W.output writer.new) result }
     ensures held { PublishesHeld K.holds K.stays J.before seat.old seat.new }

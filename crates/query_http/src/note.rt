@@ -13,7 +13,7 @@ use requests::{Path, Refusal, Request, Status};
 pub struct Note {
     /// The path that was asked for, if it is one.
     pub path: Option<Path>,
-    /// The number of the refusal of what came, as 3 of `H3`, if it asks nothing.
+    /// The number of the refusal of what came, as 3 of `H3`, if it asks nothing, or of `H13`.
     pub refusal: Option<u64>,
     /// How many samples were to be written.
     pub samples: u64,
@@ -70,6 +70,7 @@ fn number_of(refusal: &Refusal) -> u64
         Refusal::Unavailable => 10,
         Refusal::NotKept => 11,
         Refusal::Guarded => 12,
+        Refusal::NoRoom => 13,
     }
 }
 
@@ -99,6 +100,19 @@ impl Note {
             refusal: None,
             samples: samples_of(request),
             status: None,
+        }
+    }
+
+    /// The same, and that what is asked is refused so.
+    pub(crate) fn crowded(self, refusal: &Refusal) -> Note
+        ensures path { result.path ≡ self.path }
+        ensures refusal { result.refusal ≡ Some (number_of refusal.now) }
+        ensures samples { result.samples ≡ self.samples }
+        ensures status { result.status ≡ self.status }
+    {
+        Note {
+            refusal: Some(number_of(refusal)),
+            ..self
         }
     }
 

@@ -10,6 +10,7 @@ use Rattle.requests.specs.declared.refusal.Refusal.TheVariants.{Method, BadQuery
 use Rattle.requests.specs.declared.refusal.Refusal.TheVariants.{BadBody, BodyTooLong}
 use Rattle.requests.specs.declared.refusal.Refusal.TheVariants.{Refused as RefusedEvent}
 use Rattle.requests.specs.declared.refusal.Refusal.TheVariants.{Unavailable, NotKept, Guarded}
+use Rattle.requests.specs.declared.refusal.Refusal.TheVariants.{NoRoom}
 use Rattle.requests.specs.declared.request.Request.{Request}
 use Rattle.requests.specs.declared.request.ReadError.{ReadError}
 use Rattle.requests.specs.declared.request.ReadError.TheVariants.{Closed, Fault, Memory, Refused}
@@ -71,6 +72,7 @@ select_ends query (RefusedEvent cause) p = absurd p
 select_ends query Unavailable p = absurd p
 select_ends query NotKept p = absurd p
 select_ends query Guarded p = absurd p
+select_ends query NoRoom p = absurd p
 
 delete_ends : (body : List ℕ) (refusal : Refusal) → DeleteMeans body (Err refusal)
     → IsOfBytes refusal
@@ -86,6 +88,7 @@ delete_ends body (RefusedEvent cause) p = absurd p
 delete_ends body Unavailable p = absurd p
 delete_ends body NotKept p = absurd p
 delete_ends body Guarded p = absurd p
+delete_ends body NoRoom p = absurd p
 
 cut_ends : (body : List ℕ) (refusal : Refusal) → CutMeans body (Err refusal) → IsOfBytes refusal
 cut_ends body BadHead p = absurd p
@@ -100,6 +103,7 @@ cut_ends body (RefusedEvent cause) p = absurd p
 cut_ends body Unavailable p = absurd p
 cut_ends body NotKept p = absurd p
 cut_ends body Guarded p = absurd p
+cut_ends body NoRoom p = absurd p
 
 write_ends : (body : List ℕ) (refusal : Refusal) → WriteMeans body (Err refusal) → IsOfBytes refusal
 write_ends body BadHead p = absurd p
@@ -114,6 +118,7 @@ write_ends body (RefusedEvent cause) p = absurd p
 write_ends body Unavailable p = absurd p
 write_ends body NotKept p = absurd p
 write_ends body Guarded p = absurd p
+write_ends body NoRoom p = absurd p
 
 pub body_ends : (path : Path) (body : List ℕ) (refusal : Refusal) → BodyMeans path body
     (Err refusal) → IsOfBytes refusal

@@ -12,6 +12,7 @@ use Rattle.requests.specs.declared.refusal.Refusal.TheVariants.{Method, BadQuery
 use Rattle.requests.specs.declared.refusal.Refusal.TheVariants.{BadBody, BodyTooLong}
 use Rattle.requests.specs.declared.refusal.Refusal.TheVariants.{Refused as RefusedEvent}
 use Rattle.requests.specs.declared.refusal.Refusal.TheVariants.{Unavailable, NotKept, Guarded}
+use Rattle.requests.specs.declared.refusal.Refusal.TheVariants.{NoRoom}
 use Rattle.requests.specs.declared.request.ReadError.{ReadError}
 use Rattle.requests.specs.declared.request.ReadError.TheVariants.{Closed, Fault, Memory, Refused}
 use Rattle.requests.specs.Json.{json_of, are_many}
@@ -56,3 +57,4 @@ refused_delete body form is (Refused (RefusedEvent cause)) p = absurd p
 refused_delete body form is (Refused Unavailable) p = absurd p
 refused_delete body form is (Refused NotKept) p = absurd p
 refused_delete body form is (Refused Guarded) p = absurd p
+refused_delete body form is (Refused NoRoom) p = absurd p

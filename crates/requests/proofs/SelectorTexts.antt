@@ -11,6 +11,7 @@ use Rattle.requests.specs.declared.refusal.Refusal.TheVariants.{Method, BadQuery
 use Rattle.requests.specs.declared.refusal.Refusal.TheVariants.{BadBody, BodyTooLong}
 use Rattle.requests.specs.declared.refusal.Refusal.TheVariants.{Refused as RefusedEvent}
 use Rattle.requests.specs.declared.refusal.Refusal.TheVariants.{Unavailable, NotKept, Guarded}
+use Rattle.requests.specs.declared.refusal.Refusal.TheVariants.{NoRoom}
 use Rattle.requests.specs.declared.request.ReadError.{ReadError}
 use Rattle.requests.specs.declared.request.ReadError.TheVariants.{Closed, Fault, Memory, Refused}
 use Rattle.requests.specs.QueryStrings.{query_pairs, asked_in}
@@ -35,6 +36,7 @@ refused_select query form is (Refused (RefusedEvent cause)) p = absurd p
 refused_select query form is (Refused Unavailable) p = absurd p
 refused_select query form is (Refused NotKept) p = absurd p
 refused_select query form is (Refused Guarded) p = absurd p
+refused_select query form is (Refused NoRoom) p = absurd p
 
 -- what `Query::new` answers, of the numbers that it was passed
 pub no_query_error : (e : QueryError) (from to a b : ℤ) (ms : List MatcherView) → a ≡ from → b ≡ to

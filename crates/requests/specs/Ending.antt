@@ -6,6 +6,7 @@ use Rattle.requests.specs.declared.refusal.Refusal.TheVariants.{BadHead, HeadToo
 use Rattle.requests.specs.declared.refusal.Refusal.TheVariants.{Method, BadQuery, BadSelector}
 use Rattle.requests.specs.declared.refusal.Refusal.TheVariants.{BadBody, BodyTooLong, Refused}
 use Rattle.requests.specs.declared.refusal.Refusal.TheVariants.{Unavailable, NotKept, Guarded}
+use Rattle.requests.specs.declared.refusal.Refusal.TheVariants.{NoRoom}
 use Rattle.requests.specs.declared.request.ReadError.{ReadError}
 use Rattle.requests.specs.declared.request.ReadError.TheVariants as ends
 use Rattle.requests.specs.Edge.{HasGrown}
@@ -24,6 +25,7 @@ IsOfBytes (Refused cause) = ⊥
 IsOfBytes Unavailable = ⊥
 IsOfBytes NotKept = ⊥
 IsOfBytes Guarded = ⊤
+IsOfBytes NoRoom = ⊥
 
 -- where a refusal is the end, it is of what came
 abbrev pub EndsReading : ReadError → Type 0

@@ -13,6 +13,7 @@ use Rattle.requests.specs.declared.refusal.Refusal.TheVariants.{BadHead, HeadToo
 use Rattle.requests.specs.declared.refusal.Refusal.TheVariants.{Method, BadQuery, BadSelector}
 use Rattle.requests.specs.declared.refusal.Refusal.TheVariants.{BadBody, BodyTooLong, Refused}
 use Rattle.requests.specs.declared.refusal.Refusal.TheVariants.{Unavailable, NotKept, Guarded}
+use Rattle.requests.specs.declared.refusal.Refusal.TheVariants.{NoRoom}
 
 -- the number of a refusal
 abbrev pub code_of : Refusal → List ℕ
@@ -28,6 +29,7 @@ code_of (Refused cause) = codes "H9"
 code_of Unavailable = codes "H10"
 code_of NotKept = codes "H11"
 code_of Guarded = codes "H12"
+code_of NoRoom = codes "H13"
 
 -- the status of the reply to it
 abbrev pub status_of : Refusal → Status
@@ -43,6 +45,7 @@ status_of (Refused cause) = status.Conflict
 status_of Unavailable = status.ServiceUnavailable
 status_of NotKept = status.ServiceUnavailable
 status_of Guarded = status.Forbidden
+status_of NoRoom = status.ServiceUnavailable
 
 -- where a selector is refused, if a place is told
 abbrev pub place_of : SelectorError → Option ℕ
@@ -71,6 +74,7 @@ cause_of (Refused cause) = Some (told_cause cause)
 cause_of Unavailable = None
 cause_of NotKept = None
 cause_of Guarded = None
+cause_of NoRoom = None
 
 -- a refusal in a line, for people
 abbrev pub refusal_message : Refusal → List ℕ
@@ -86,3 +90,4 @@ refusal_message (Refused cause) = codes "H9: the store refuses the event: " ++ c
 refusal_message Unavailable = codes "H10: the store lends no snapshot"
 refusal_message NotKept = codes "H11: the event is not kept"
 refusal_message Guarded = codes "H12: the rules of the server do not admit it"
+refusal_message NoRoom = codes "H13: the memory for replies has no room for this one"

@@ -47,6 +47,9 @@ pub enum Refusal {
     /// `H12`: the rules of the server do not admit the request: it comes from a page of a browser,
     /// does not name this machine, or bears no token.
     Guarded,
+    /// `H13`: the memory for replies has no room for this one. Only a server that was given a bound
+    /// answers it.
+    NoRoom,
 }
 
 impl Refusal {
@@ -67,6 +70,7 @@ impl Refusal {
             Refusal::Unavailable => "H10",
             Refusal::NotKept => "H11",
             Refusal::Guarded => "H12",
+            Refusal::NoRoom => "H13",
         }
     }
 
@@ -82,7 +86,7 @@ impl Refusal {
             Refusal::Method => Status::MethodNotAllowed,
             Refusal::BodyTooLong => Status::ContentTooLarge,
             Refusal::Refused(_) => Status::Conflict,
-            Refusal::Unavailable | Refusal::NotKept => Status::ServiceUnavailable,
+            Refusal::Unavailable | Refusal::NotKept | Refusal::NoRoom => Status::ServiceUnavailable,
             Refusal::Guarded => Status::Forbidden,
         }
     }
@@ -127,6 +131,7 @@ impl fmt::Display for Refusal {
             Refusal::Unavailable => write!(f, "H10: the store lends no snapshot"),
             Refusal::NotKept => write!(f, "H11: the event is not kept"),
             Refusal::Guarded => write!(f, "H12: the rules of the server do not admit it"),
+            Refusal::NoRoom => write!(f, "H13: the memory for replies has no room for this one"),
         }
     }
 }

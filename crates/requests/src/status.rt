@@ -22,7 +22,8 @@ pub enum Status {
     ContentTooLarge,
     /// 431: the head is too long.
     HeadTooLarge,
-    /// 503: the store lends no snapshot, or cannot keep an event.
+    /// 503: the store lends no snapshot, or cannot keep an event, or the memory for replies has no
+    /// room.
     ServiceUnavailable,
 }
 

@@ -80,48 +80,48 @@ event_farther opening idle held event before after status text (inr (inl h)) =
 event_farther opening idle held event before after status text (inr (inr h)) =
     same_farther before after h.same
 
-asked_farther : (opening : SnapshotParts) (idle : Bool) (held : List Entry → Type 0)
+asked_farther : (opening : SnapshotParts) (idle bounded : Bool) (held : List Entry → Type 0)
     (request : Request) (before after : Worker) (status : Status) (text : List ℕ)
-    → IsRequestReply opening idle held request before after status text → IsFarther before after 1
-asked_farther opening idle held (asks.Select query) before after status text h =
+    → IsRequestReply opening idle bounded held request before after status text → IsFarther before after 1
+asked_farther opening idle bounded held (asks.Select query) before after status text h =
     idle_farther before after h.1
-asked_farther opening idle held (asks.Write samples) before after status text h =
+asked_farther opening idle bounded held (asks.Write samples) before after status text h =
     event_farther opening idle held _ before after status text h
-asked_farther opening idle held (asks.Delete matchers from to) before after status text h =
+asked_farther opening idle bounded held (asks.Delete matchers from to) before after status text h =
     event_farther opening idle held _ before after status text h
-asked_farther opening idle held (asks.Cut t) before after status text h =
+asked_farther opening idle bounded held (asks.Cut t) before after status text h =
     event_farther opening idle held _ before after status text h
 
-reply_farther : (rules : Rules) (opening : SnapshotParts) (idle : Bool)
+reply_farther : (rules : Rules) (opening : SnapshotParts) (idle bounded : Bool)
     (held : List Entry → Type 0) (input : Option (List ℕ)) (before after : Worker)
     (status : Status) (text : List ℕ)
-    → IsReply (MeansUnder rules) opening idle held input before after status text
+    → IsReply (MeansUnder rules) opening idle bounded held input before after status text
     → IsFarther before after 1
-reply_farther rules opening idle held input before after status text (inl h) =
+reply_farther rules opening idle bounded held input before after status text (inl h) =
     same_farther before after h.same
-reply_farther rules opening idle held input before after status text (inr h) =
-    asked_farther opening idle held h.request before after status text h.done
+reply_farther rules opening idle bounded held input before after status text (inr h) =
+    asked_farther opening idle bounded held h.request before after status text h.done
 
-serves_farther : (rules : Rules) (opening : SnapshotParts) (idle : Bool)
+serves_farther : (rules : Rules) (opening : SnapshotParts) (idle bounded : Bool)
     (held : List Entry → Type 0) (input : Option (List ℕ)) (before after : Worker)
     (old new : Option (List ℕ)) (s : Served)
-    → Serves (MeansUnder rules) opening idle held input before after old new s
+    → Serves (MeansUnder rules) opening idle bounded held input before after old new s
     → IsFarther before after 1
-serves_farther rules opening idle held input before after old new (served.Replied status) h =
-    reply_farther rules opening idle held input before after status h.text h.reply
-serves_farther rules opening idle held input before after old new served.WriteFault h =
-    reply_farther rules opening idle held input before after h.status h.text h.reply
-serves_farther rules opening idle held input before after old new served.Closed h =
+serves_farther rules opening idle bounded held input before after old new (served.Replied status) h =
+    reply_farther rules opening idle bounded held input before after status h.text h.reply
+serves_farther rules opening idle bounded held input before after old new served.WriteFault h =
+    reply_farther rules opening idle bounded held input before after h.status h.text h.reply
+serves_farther rules opening idle bounded held input before after old new served.Closed h =
     same_farther before after h.1
-serves_farther rules opening idle held input before after old new served.ReadFault h =
+serves_farther rules opening idle bounded held input before after old new served.ReadFault h =
     same_farther before after h
-serves_farther rules opening idle held input before after old new served.NoMemory h =
+serves_farther rules opening idle bounded held input before after old new served.NoMemory h =
     idle_farther before after h
 
 -- a connection takes its worker no farther than one event
-pub served_farther : (rules : Rules) (opening : SnapshotParts) (idle : Bool)
+pub served_farther : (rules : Rules) (opening : SnapshotParts) (idle bounded : Bool)
     (held : List Entry → Type 0) (before after : Worker) (s : Session)
-    → IsServed rules opening idle held before after s → IsFarther before after 1
-served_farther rules opening idle held before after s h =
-    serves_farther rules opening idle held s.input before after h.output s.ending.written
+    → IsServed rules opening idle bounded held before after s → IsFarther before after 1
+served_farther rules opening idle bounded held before after s h =
+    serves_farther rules opening idle bounded held s.input before after h.output s.ending.written
     s.ending.served h.serves

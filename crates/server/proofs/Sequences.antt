@@ -10,15 +10,15 @@ use Rattle.server.specs.Sessions.{Session, Ending, IsServed, AreServed, Arrives,
 use Rattle.server.specs.Sessions.{AreAdded}
 use Rattle.server.specs.Working.{Works}
 
-served_more : (rules : Rules) (opening : SnapshotParts) (idle : Bool) (held : List Entry → Type 0)
+served_more : (rules : Rules) (opening : SnapshotParts) (idle bounded : Bool) (held : List Entry → Type 0)
     (before between after : Worker) (ss : List Session) (s : Session)
-    → AreServed rules opening idle held before ss between
-    → IsServed rules opening idle held between after s
-    → AreServed rules opening idle held before (ss ++ s ∷ []) after
-served_more rules opening idle held before between after [] s e one =
-    (after, subst (λ (w : Worker). IsServed rules opening idle held w after s) e one, refl)
-served_more rules opening idle held before between after (t ∷ ss) s h one =
-    (h.0, h.1, served_more rules opening idle held h.0 between after ss s h.2 one)
+    → AreServed rules opening idle bounded held before ss between
+    → IsServed rules opening idle bounded held between after s
+    → AreServed rules opening idle bounded held before (ss ++ s ∷ []) after
+served_more rules opening idle bounded held before between after [] s e one =
+    (after, subst (λ (w : Worker). IsServed rules opening idle bounded held w after s) e one, refl)
+served_more rules opening idle bounded held before between after (t ∷ ss) s h one =
+    (h.0, h.1, served_more rules opening idle bounded held h.0 between after ss s h.2 one)
 
 first_more : (coming mid left : Option (List (List ℕ))) (ss : List Session) (s : Session)
     → AreFirstToCome coming mid ss → Arrives mid left s.input
@@ -48,20 +48,20 @@ added_more (Some old) (Some mid) (Some new) xs ys h more =
     more ∙ ap (λ (l : List Ending). l ++ ys) h ∙ append_assoc old xs ys
 
 -- a connection more was served
-pub works_more : (rules : Rules) (opening : SnapshotParts) (idle : Bool)
+pub works_more : (rules : Rules) (opening : SnapshotParts) (idle bounded : Bool)
     (held : List Entry → Type 0) (before between after : Worker)
     (coming mid left : Option (List (List ℕ)))
     (past told ended : Option (List Ending)) (count : ℕ) (s : Session)
-    → Works rules opening idle held before between coming mid past told count
-    → IsServed rules opening idle held between after s
+    → Works rules opening idle bounded held before between coming mid past told count
+    → IsServed rules opening idle bounded held between after s
     → Arrives mid left s.input → AreAdded told ended (s.ending ∷ [])
-    → Works rules opening idle held before after coming left past ended (count + 1)
-works_more rules opening idle held before between after coming mid left past told ended count s done
+    → Works rules opening idle bounded held before after coming left past ended (count + 1)
+works_more rules opening idle bounded held before between after coming mid left past told ended count s done
     one here added = record {
       sessions = done.sessions ++ s ∷ [];
       counted = length-append done.sessions (s ∷ []) ∙ ap (λ (n : ℕ). n + 1) done.counted;
       served =
-          served_more rules opening idle held before between after done.sessions s done.served one;
+          served_more rules opening idle bounded held before between after done.sessions s done.served one;
       first = first_more coming mid left done.sessions s done.first here;
       told =
           subst (λ (l : List Ending). AreAdded past ended l)
@@ -79,12 +79,12 @@ none_added None = tt
 none_added (Some old) = sym (append-nil old)
 
 -- no connection was served
-pub works_none : (rules : Rules) (opening : SnapshotParts) (idle : Bool)
+pub works_none : (rules : Rules) (opening : SnapshotParts) (idle bounded : Bool)
     (held : List Entry → Type 0) (before : Worker)
     (coming : Option (List (List ℕ)))
     (past : Option (List Ending))
-    → Works rules opening idle held before before coming coming past past 0
-works_none rules opening idle held before coming past = record {
+    → Works rules opening idle bounded held before before coming coming past past 0
+works_none rules opening idle bounded held before coming past = record {
   sessions = [];
   counted = refl;
   served = refl;

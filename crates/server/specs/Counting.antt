@@ -1,5 +1,5 @@
 -- What one connection adds to what is counted.
-use Rattle.std.specs.Prelude.{ℕ, Option, None, Some}
+use Rattle.std.specs.Prelude.{ℕ, Option, None, Some, unwrap_or}
 use Rattle.requests.specs.declared.status.Status.{Status}
 use Rattle.requests.specs.declared.status.Status.TheVariants.{Done, BadRequest, Forbidden, NotFound}
 use Rattle.requests.specs.declared.status.Status.TheVariants.{MethodNotAllowed, Conflict}
@@ -11,7 +11,7 @@ use Rattle.query_http.specs.declared.note.Note.{Note}
 use Rattle.server.specs.declared.tally.Event.{Event}
 use Rattle.server.specs.declared.tally.Event.TheVariants.{Batch, Deletion, Cutting, Nothing}
 
--- the number of the refusal in a reply with the status 503, by the path: the store lends no
+-- the number of the refusal of a store in a reply with the status 503, by the path: it lends no
 -- snapshot to a query, with 10, or does not keep an event, with 11
 abbrev pub refusal_unavailable : Option Path → ℕ
 refusal_unavailable None = 10
@@ -20,8 +20,13 @@ refusal_unavailable (Some Write) = 11
 refusal_unavailable (Some Delete) = 11
 refusal_unavailable (Some Cut) = 11
 
+-- the number of the refusal in a reply with the status 503: the one that is noted, which is 13, that
+-- the memory for replies has no room, or that of a store
+abbrev pub refusal_noted : Note → ℕ
+refusal_noted note = unwrap_or note.refusal (refusal_unavailable note.path)
+
 -- the number of the refusal in a reply with this status: the store refuses with 9, with 10 or with
--- 11; every other refusal is of what came
+-- 11; every other refusal is of what came, or 13
 abbrev pub refusal_told : Note → Status → Option ℕ
 refusal_told note Done = note.refusal
 refusal_told note BadRequest = note.refusal
@@ -31,7 +36,7 @@ refusal_told note MethodNotAllowed = note.refusal
 refusal_told note Conflict = Some 9
 refusal_told note ContentTooLarge = note.refusal
 refusal_told note HeadTooLarge = note.refusal
-refusal_told note ServiceUnavailable = Some (refusal_unavailable note.path)
+refusal_told note ServiceUnavailable = Some (refusal_noted note)
 
 -- the event that a request of a path publishes
 abbrev pub event_at : Option Path → ℕ → Event

@@ -22,22 +22,22 @@ abbrev pub IsFresh : Option (List ℕ) → Type 0
 IsFresh output = IfSome output (λ bytes. bytes ≡ [])
 
 -- the connection was served by this worker: one request was read, under these rules, done and
--- replied to (`idle`: whether the store keeps nothing; `held`: which lists of events a keeper of
--- its kind has come to hold)
-pub record IsServed (rules : Rules) (opening : SnapshotParts) (idle : Bool)
+-- replied to (`idle`: whether the store keeps nothing; `bounded`: whether the memory for replies is;
+-- `held`: which lists of events a keeper of its kind has come to hold)
+pub record IsServed (rules : Rules) (opening : SnapshotParts) (idle bounded : Bool)
     (held : List Entry → Type 0) (before after : Worker) (s : Session) : Type 0 where
   pub output : Option (List ℕ)
   pub fresh : IsFresh output
-  pub serves : Serves (MeansUnder rules) opening idle held s.input before after output
+  pub serves : Serves (MeansUnder rules) opening idle bounded held s.input before after output
       s.ending.written s.ending.served
 
 -- the connections were served one after another, each by the worker as the one before left it
-abbrev pub AreServed : Rules → SnapshotParts → Bool → (List Entry → Type 0) → Worker
+abbrev pub AreServed : Rules → SnapshotParts → Bool → Bool → (List Entry → Type 0) → Worker
     → List Session → Worker → Type 0
-AreServed rules opening idle held before [] after = after ≡ before
-AreServed rules opening idle held before (s ∷ ss) after =
-    (between : Worker) × IsServed rules opening idle held before between s
-    × AreServed rules opening idle held between ss after
+AreServed rules opening idle bounded held before [] after = after ≡ before
+AreServed rules opening idle bounded held before (s ∷ ss) after =
+    (between : Worker) × IsServed rules opening idle bounded held before between s
+    × AreServed rules opening idle bounded held between ss after
 
 -- the next of the connections to come was taken, and this came on it
 abbrev pub Arrives : Option (List (List ℕ)) → Option (List (List ℕ)) → Option (List ℕ) → Type 0

@@ -9,13 +9,13 @@ use Rattle.server.specs.Sessions.{Session, Ending, AreServed, AreFirstToCome, Ar
 
 -- The worker served so many connections, one after another, the first of those that were to come,
 -- and each ended as its connection was served.
-pub record Works (rules : Rules) (opening : SnapshotParts) (idle : Bool)
+pub record Works (rules : Rules) (opening : SnapshotParts) (idle bounded : Bool)
     (held : List Entry → Type 0) (before after : Worker)
     (coming left : Option (List (List ℕ))) (past ended : Option (List Ending))
     (count : ℕ) : Type 0 where
   pub sessions : List Session
   pub counted : length sessions ≡ count
-  pub served : AreServed rules opening idle held before sessions after
+  pub served : AreServed rules opening idle bounded held before sessions after
   pub first : AreFirstToCome coming left sessions
   pub told : AreAdded past ended (map (λ s. s.ending) sessions)
 

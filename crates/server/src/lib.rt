@@ -7,9 +7,10 @@
 //! the connection before left them (`specs/Sessions.antt`). It says also that there are as many
 //! connections as asked unless no more come, and what was written to each. Its [`Shift`] says under
 //! which rules it worked, so a clause names them for sockets too. A worker's buffers are kept from
-//! connection to connection, and play no part in the contract. [`Sockets`] are connections of the
-//! system, with limits of time: a client that is silent or gone costs its own connection and no
-//! other. [`serve_watched`] also answers those that ask at a status port for the state of the
+//! connection to connection. They play no part in the contract but that they say whether the memory
+//! for replies is bounded: only then may a query be refused for lack of room. [`Sockets`] are
+//! connections of the system, with limits of time: a client that is silent or gone costs its own
+//! connection and no other. [`serve_watched`] also answers those that ask at a status port for the state of the
 //! server ([`Watch`]), each by [`answer_client`]. Each worker counts in a [`Tally`] of its own. One
 //! thread may cut the store by a [`Schedule`], and tend its blocks ([`Upkeep`]).
 //!
@@ -17,7 +18,9 @@
 //!
 //! ```
 //! let rules = Rules::none();
-//! let shift = work(rt, alloc, &rules, connections, &mut pass, &mut seat, &committer, 9);
+//! let mut buffers = Buffers::new(alloc);
+//! let (seat, pass) = (&mut seat, &mut pass);
+//! let shift = work(rt, alloc, &rules, &mut buffers, connections, pass, seat, &committer, 9);
 //! assert_eq!(rt; shift.served(), 2);
 //! ```
 //!
@@ -39,6 +42,7 @@ mod pool;
 mod receiving;
 mod server_state;
 mod shapes;
+mod sharing;
 mod socket;
 mod sockets;
 mod status;

@@ -54,7 +54,12 @@ fn places_of<J: Naming>(
             return Err(AllocError);
         };
         let tally = Arc::new(alloc, Tally::new(alloc)?)?;
-        places.push(Place { pass, seat, tally })?;
+        places.push(Place {
+            pass,
+            seat,
+            tally,
+            holder: None,
+        })?;
     }
     Ok(places)
 }

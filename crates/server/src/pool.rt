@@ -10,6 +10,7 @@ use crate::place::Place;
 use crate::places::Workers;
 use crate::receiving::{receive_all, threads_with};
 use crate::server_state::{Memory, Watch, report_open};
+use crate::sharing::{buffers_of, share_room};
 use crate::sockets::Sockets;
 use crate::tally::Tally;
 use crate::tending::{is_tended, tend_while};
@@ -33,6 +34,9 @@ pub struct Terms {
     pub idle: Option<Duration>,
     /// The version of the program, as the port of Prometheus reports it.
     pub version: &'static str,
+    /// How many bytes the replies of the first port that are under way may take together. None is
+    /// any number.
+    pub reply_memory: Option<u64>,
 }
 
 /// The listeners of a server.
@@ -66,13 +70,16 @@ fn work_at<
         mut pass,
         mut seat,
         tally,
+        holder,
     } = place;
     let mut sockets = Sockets::new(rt, alloc, listener, terms.idle, &tally);
+    let mut buffers = buffers_of(alloc, holder);
     let most = terms.requests;
     work(
         rt,
         alloc,
         rules,
+        &mut buffers,
         &mut sockets,
         &mut pass,
         &mut seat,
@@ -246,7 +253,8 @@ where
 /// its own. Returns what each worker of the first port has done, under these rules and for as many
 /// connections as the terms ask for. Other workers serve the port of Prometheus, under the same
 /// rules and terms. What is written to its connections is the 503 of the room in front of them or
-/// the reply of the store to the bytes that came. What a reply reports is kept by then.
+/// the reply of the store to the bytes that came. What a reply reports is kept by then. If the terms
+/// bound the memory for replies, the workers of the first port share it.
 ///
 /// `NoThread` is returned before any connection is accepted, if that many threads cannot be made.
 /// `NoListener` is returned if a worker has ended because there is no listener any more.
@@ -278,6 +286,7 @@ where
         spare: _,
         caretaker,
     } = workers;
+    let places = share_room(rt, alloc, places, terms.reply_memory, terms.idle)?;
     if !is_tended::<J, K>(caretaker.as_ref()) {
         return run_ports(
             rt, alloc, &committer, places, receivers, listeners, rules, terms,
@@ -377,6 +386,7 @@ where
         receivers.as_slice(),
         caretaker.as_ref(),
     )?;
+    let places = share_room(rt, alloc, places, terms.reply_memory, terms.idle)?;
     let seen = (spare.pop(), tallies, places.len() as u64);
     let over = AtomicBool::new(false);
     let (shared, ended) = (&committer, &over);

@@ -217,7 +217,12 @@ fn receivers_of<'a, J: OpenNaming, C: Wait + Drop, K: Keeper + Drop, B: Ruling, 
     ensures { IfOk result (λ receivers. vec_len receivers ≡ vec_len places) }
 {
     let mut receivers = Vec::new(alloc);
-    for Place { pass, seat, tally } in places {
+    for Place {
+        pass,
+        seat,
+        tally,
+        holder: _,
+    } in places {
         receivers.push(Receiver {
             rt,
             alloc,

@@ -2,8 +2,8 @@
 
 use crate::status::{Report, answer_status};
 use crate::tally::Tally;
-use head::Snapshot;
-use labels::{MAX_TIME, MIN_TIME, SeriesRef};
+use head::HeadView;
+use labels::{MIN_TIME, SeriesRef};
 use server_metrics::{Counts, State};
 use snapshots::{Naming, Pass};
 use std::alloc::Global;
@@ -80,29 +80,24 @@ pub fn report_opening<R: Clock, M: Memory>(
     answer_status(rt, alloc, watch.listener, over, &mut report);
 }
 
-/// How many series and samples a head has, if there is memory to count them. Its series are
-/// numbered from 1.
-fn head_counts(alloc: Global, snapshot: &Snapshot) -> Option<(u64, u64)> {
+/// How many series and samples a head has. Its series are numbered from 1. It looks at each of
+/// them, and copies no sample.
+fn head_counts(head: &HeadView) -> (u64, u64) {
     let (mut series, mut samples) = (0u64, 0u64);
     for number in 1..u32::MAX {
         let reference = SeriesRef::new(number);
-        if snapshot.head().labels_of(reference).is_none() {
+        if head.labels_of(reference).is_none() {
             break;
         }
-        let head = snapshot.head();
-        let Ok(all) = head.samples_of(alloc, reference, MIN_TIME, MAX_TIME) else {
-            return None;
-        };
         series = series.saturating_add(1);
-        samples = samples.saturating_add(all.len() as u64);
+        samples = samples.saturating_add(head.sample_count_of(reference) as u64);
     }
-    Some((series, samples))
+    (series, samples)
 }
 
 /// The state of a server whose blocks are open.
 #[derive(Drop)]
 struct Open<'a, 'b, M, J: Naming> {
-    alloc: Global,
     watch: &'a Watch<'b, M>,
     pass: Option<Pass<J>>,
     tallies: Vec<Arc<Tally>>,
@@ -152,9 +147,7 @@ impl<M: Memory, J: Naming> Report for Open<'_, '_, M, J> {
         let Ok(snapshot) = pass.snapshot() else {
             return None;
         };
-        let Some((series, samples)) = head_counts(self.alloc, &snapshot) else {
-            return None;
-        };
+        let (series, samples) = head_counts(snapshot.head());
         Some(State {
             series,
             samples,
@@ -177,7 +170,6 @@ pub(crate) fn report_open<R: Clock, M: Memory, J: Naming>(
     workers: u64,
 ) {
     let mut report = Open {
-        alloc,
         watch,
         pass,
         tallies,

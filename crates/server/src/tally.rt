@@ -1,7 +1,8 @@
 //! What a worker counts, while others read it.
 
 ghost use Rattle.std.specs.Prelude.{◌≡◌};
-ghost use Rattle.server.specs.Counting.{event_at, event_of, refusal_told, refusal_unavailable};
+ghost use Rattle.server.specs.Counting.{event_at, event_of, refusal_told, refusal_noted};
+ghost use Rattle.server.specs.Counting.{refusal_unavailable};
 
 use query_http::Note;
 use requests::{Path, Status};
@@ -118,14 +119,25 @@ enum Event {
     Nothing,
 }
 
-/// The number of the refusal that a reply of 503 has, by the path. The store lends no snapshot, or
-/// does not keep an event.
+/// The number of the refusal that a reply of 503 has of a store, by the path. The store lends no
+/// snapshot, or does not keep an event.
 fn refusal_unavailable(path: Option<Path>) -> u64
     ensures { result ≡ refusal_unavailable path }
 {
     match path {
         Some(Path::Write | Path::Delete | Path::Cut) => 11,
         Some(Path::Select) | None => 10,
+    }
+}
+
+/// The number of the refusal that a reply of 503 has: the one that is noted, which is that of a
+/// reply without room, or that of a store.
+fn refusal_noted(note: Note) -> u64
+    ensures { result ≡ refusal_noted note }
+{
+    match note.refusal {
+        Some(number) => number,
+        None => refusal_unavailable(note.path),
     }
 }
 
@@ -136,7 +148,7 @@ fn refusal_of(note: Note, status: Status) -> Option<u64>
 {
     match status {
         Status::Conflict => Some(9),
-        Status::ServiceUnavailable => Some(refusal_unavailable(note.path)),
+        Status::ServiceUnavailable => Some(refusal_noted(note)),
         _ => note.refusal,
     }
 }
@@ -177,7 +189,7 @@ impl Tally {
             delete,
             cut,
             other,
-            refusals: Cells::new(alloc, 12)?,
+            refusals: Cells::new(alloc, 13)?,
             batches: AtomicU64::new(0),
             deletions: AtomicU64::new(0),
             cuts: AtomicU64::new(0),

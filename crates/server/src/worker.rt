@@ -2,6 +2,7 @@
 
 ghost use Rattle.std.specs.Prelude.{◌≡◌, ◌<◌, ◌≤◌};
 ghost use Rattle.snapshots.specs.Keeping.{AreHeld, PublishesHeld};
+ghost use Rattle.query_http.specs.Bounds.{is_bounded};
 ghost use Rattle.query_http.specs.Serving.{worker};
 ghost use Rattle.server.specs.Sessions.{IsOver};
 ghost use Rattle.server.specs.Working.{Works, IsFarther};
@@ -14,6 +15,7 @@ use snapshots::{Committer, OpenNaming, Pass, Seat};
 use std::alloc::Global;
 use std::sync::Wait;
 use std::thread::Threads;
+use std::time::Clock;
 
 /// What a worker has done when it ends. Only [`work`] makes one.
 #[derive(Clone, Copy)]
@@ -42,18 +44,21 @@ impl<'a> Shift<'a> {
 /// will come.
 ///
 /// Each is served by [`serve_one_with`] under these rules, with the pass and the seat as the
-/// connection before left them, and in the same buffers.
+/// connection before left them, and in the same buffers. Whether the memory for replies is bounded
+/// is for the buffers to say.
 pub fn work<'a, J: OpenNaming, C: Wait + Drop, K: Keeper + Drop, A: Connections>(
-    rt: &(impl Wait + Threads + Sync),
+    rt: &(impl Wait + Threads + Clock + Sync),
     alloc: Global,
     rules: &'a Rules,
+    buffers: &mut Buffers,
     connections: &mut A,
     pass: &mut Pass<J>,
     seat: &mut Seat<J>,
     committer: &Committer<J, C, K>,
     most: u64,
 ) -> Shift<'a>
-    ensures works { Works rules.now J.opening K.idle (AreHeld K.holds K.stays J.before)
+    ensures works { Works rules.now J.opening K.idle (is_bounded buffers.old)
+        (AreHeld K.holds K.stays J.before)
         (worker pass.old seat.old) (worker pass.new seat.new)
         (A.coming connections.old) (A.coming connections.new)
         (A.past connections.old) (A.past connections.new) result.served }
@@ -65,7 +70,6 @@ pub fn work<'a, J: OpenNaming, C: Wait + Drop, K: Keeper + Drop, A: Connections>
     ensures over { result.served < most → IsOver (A.coming connections.new) }
     ensures ruled { result.rules.now ≡ rules.now }
 {
-    let mut buffers = Buffers::new(alloc);
     for done in 0..most {
         let Some((mut reader, mut writer)) = connections.accept() else {
             return Shift {
@@ -77,7 +81,7 @@ pub fn work<'a, J: OpenNaming, C: Wait + Drop, K: Keeper + Drop, A: Connections>
             rt,
             alloc,
             rules,
-            &mut buffers,
+            buffers,
             &mut reader,
             &mut writer,
             pass,

@@ -16,7 +16,7 @@ pub record IsNothing (counts : Counts) : Type 0 where
   pub delete : IsUnasked counts.delete
   pub cut : IsUnasked counts.cut
   pub other : IsUnasked counts.other
-  pub refusals : counts.refusals ≡ replicate 12 0
+  pub refusals : counts.refusals ≡ replicate 13 0
   pub batches : counts.batches ≡ 0
   pub deletions : counts.deletions ≡ 0
   pub cuts : counts.cuts ≡ 0

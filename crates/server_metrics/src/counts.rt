@@ -14,7 +14,7 @@ pub struct Counts {
     /// Requests of no path, and what was no request.
     pub other: PathCounts,
     /// Refusals by number, by their [`place_of_refusal`].
-    pub refusals: [u64; 12],
+    pub refusals: [u64; 13],
     /// Batches, deletions and cuts that the store accepted.
     pub batches: u64,
     pub deletions: u64,
@@ -59,7 +59,7 @@ impl Counts {
             delete: PathCounts::none(),
             cut: PathCounts::none(),
             other: PathCounts::none(),
-            refusals: [0; 12],
+            refusals: [0; 13],
             batches: 0,
             deletions: 0,
             cuts: 0,
@@ -131,7 +131,7 @@ pub(crate) fn port_statuses() -> &'static [u64]
 pub(crate) fn refusal_numbers() -> &'static [u64]
     ensures { result.now ≡ refusals }
 {
-    &[1, 2, 3, 4, 5, 6, 7, 8, 9, 10, 11, 12]
+    &[1, 2, 3, 4, 5, 6, 7, 8, 9, 10, 11, 12, 13]
 }
 
 /// The place of a status in [`PathCounts::replies`], if replies have it.

@@ -23,6 +23,7 @@ use block::Block;
 use data_folder::{Folder, JOURNAL};
 use head::{Snapshot, replay};
 use std::alloc::Global;
+use std::thread::Threads;
 use store_folder::{FoundJournal, FoundStore, StartError, has_blocks};
 
 /// What was copied.
@@ -89,7 +90,8 @@ fn copy_found<G: Folder + Drop>(
 }
 
 /// Reads the store of the source, and copies it into a folder without a journal.
-fn copy_into<F: Folder, G: Folder + Drop>(
+fn copy_into<R: Threads + Sync, F: Folder, G: Folder + Drop>(
+    rt: &R,
     alloc: Global,
     source: &mut F,
     again: &mut F,
@@ -121,7 +123,7 @@ fn copy_into<F: Folder, G: Folder + Drop>(
         ⊎ DeniesRead F.shows F.kept source.old source.new e.0)) }
     ensures told { IfErr result (λ e. IsOfStart e.0) }
 {
-    match read_settled(alloc, source, again) {
+    match read_settled(rt, alloc, source, again) {
         Ok(store) => copy_found(alloc, store, target),
         Err(fault) => Err((fault, target)),
     }
@@ -174,7 +176,8 @@ fn check_target<G: Folder>(alloc: Global, target: &mut G) -> Result<(), CopyFaul
 /// back too.
 ///
 /// It takes memory for the store, as a start does, and for the file of its journal once more.
-pub fn copy_store<F: Folder, G: Folder + Drop>(
+pub fn copy_store<R: Threads + Sync, F: Folder, G: Folder + Drop>(
+    rt: &R,
     alloc: Global,
     source: &mut F,
     again: &mut F,
@@ -230,7 +233,7 @@ pub fn copy_store<F: Folder, G: Folder + Drop>(
 {
     let mut target = target;
     match check_target(alloc, &mut target) {
-        Ok(()) => copy_into(alloc, source, again, target),
+        Ok(()) => copy_into(rt, alloc, source, again, target),
         Err(fault) => Err((fault, target)),
     }
 }

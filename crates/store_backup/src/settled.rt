@@ -11,6 +11,7 @@ ghost use Rattle.store_folder.specs.Finding.{IsFoundStore};
 use crate::error::CopyFault;
 use data_folder::{Folder, JOURNAL};
 use std::alloc::Global;
+use std::thread::Threads;
 use store_folder::{FoundStore, StartError, read_store};
 
 /// The file of a folder's journal.
@@ -33,7 +34,8 @@ fn journal_of<F: Folder>(alloc: Global, folder: &mut F) -> Result<Vec<u8>, CopyF
 /// The store of a folder, of which `source` and `again` are two views: it is read by the one, and
 /// then its journal by the other. Nothing is changed. `Changed` where that journal does not begin
 /// with what was read of it first, whatever was read in between.
-pub(crate) fn read_settled<F: Folder>(
+pub(crate) fn read_settled<R: Threads + Sync, F: Folder>(
+    rt: &R,
     alloc: Global,
     source: &mut F,
     again: &mut F,
@@ -56,7 +58,7 @@ pub(crate) fn read_settled<F: Folder>(
         Ok(first) => first,
         Err(fault) => return Err(fault),
     };
-    let read = read_store(alloc, source);
+    let read = read_store(rt, alloc, source);
     let last = match journal_of(alloc, again) {
         Ok(last) => last,
         Err(fault) => return Err(fault),

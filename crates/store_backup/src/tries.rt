@@ -10,11 +10,13 @@ use crate::copying::{Copied, copy_store};
 use crate::error::CopyFault;
 use data_folder::Folder;
 use std::alloc::Global;
+use std::thread::Threads;
 
 /// Copies the store of a folder into another one, as [`copy_store`] does, by two views of the
 /// first. Where it has changed meanwhile, it begins again, by the next two; the fault is `Changed`
 /// if that does not do by the last ones either.
-pub fn copy_between<F: Folder, G: Folder + Drop>(
+pub fn copy_between<R: Threads + Sync, F: Folder, G: Folder + Drop>(
+    rt: &R,
     alloc: Global,
     views: &mut [(F, F)],
     target: G,
@@ -33,7 +35,7 @@ pub fn copy_between<F: Folder, G: Folder + Drop>(
 {
     let mut target = target;
     for view in views.iter_mut() {
-        match copy_store(alloc, &mut view.0, &mut view.1, target) {
+        match copy_store(rt, alloc, &mut view.0, &mut view.1, target) {
             Ok(done) => return Ok(done),
             Err((fault, left)) => match fault {
                 CopyFault::Changed => target = left,

@@ -18,6 +18,18 @@ use block::{Block, BlockError, Range};
 use data_folder::Folder;
 use head_record::BlockPlace;
 use std::alloc::{AllocError, Global};
+use std::thread::Threads;
+
+/// How many threads open a block: four for each of four processors.
+const THREADS: usize = 16;
+
+/// A block whose chunks file has fewer bytes is opened by the calling thread alone.
+const LONG: usize = 262_144;
+
+/// How many threads open a block with a chunks file of this many bytes.
+fn threads_for(chunks: usize) -> usize {
+    if chunks < LONG { 1 } else { THREADS }
+}
 
 /// The bytes of the files of a block.
 #[derive(Drop)]
@@ -33,8 +45,9 @@ pub struct BlockBytes {
 }
 
 /// The block that files spell, or the first check that fails, as `Range::read_meta` and
-/// `Block::open` have them.
-fn open_files(
+/// `Block::open_by` have them.
+fn open_files<R: Threads + Sync>(
+    rt: &R,
     alloc: Global,
     meta: &[u8],
     index: &[u8],
@@ -61,14 +74,21 @@ fn open_files(
     })) }
 {
     match Range::read_meta(alloc, meta) {
-        Ok(range) => Block::open(alloc, range, index, chunks, tombstones),
+        Ok(range) => {
+            let threads = threads_for(chunks.len());
+            Block::open_by(rt, threads, alloc, range, index, chunks, tombstones)
+        }
         Err(error) => Err(error),
     }
 }
 
 /// The block that its files spell, or the first check that fails: `B2` of `meta.json`, then those
-/// of `Block::open`.
-pub fn open_block(alloc: Global, files: BlockBytes) -> Result<Block, BlockError>
+/// of `Block::open`. Several threads make them; the answer does not depend on these.
+pub fn open_block<R: Threads + Sync>(
+    rt: &R,
+    alloc: Global,
+    files: BlockBytes,
+) -> Result<Block, BlockError>
     // The range and the part are what the files spell.
     ensures found { IfOk result (λ b. SpellBlock (files_in files) (part_in b)) }
     // Files that spell a block are opened, unless memory runs out.
@@ -82,7 +102,7 @@ pub fn open_block(alloc: Global, files: BlockBytes) -> Result<Block, BlockError>
         chunks,
         tombstones,
     } = files;
-    open_files(alloc, &meta, &index, chunks, &tombstones)
+    open_files(rt, alloc, &meta, &index, chunks, &tombstones)
 }
 
 /// The name of a file of the block with this number.
@@ -162,7 +182,8 @@ fn read_files<F: Folder>(
 }
 
 /// The block at a place.
-fn read_block<F: Folder>(
+fn read_block<R: Threads + Sync, F: Folder>(
+    rt: &R,
     alloc: Global,
     folder: &mut F,
     place: BlockPlace,
@@ -180,7 +201,7 @@ fn read_block<F: Folder>(
         DeniesBlock F.shows F.kept F.failed folder.new place e) }
 {
     match read_files(alloc, folder, place) {
-        Ok(files) => match open_block(alloc, files) {
+        Ok(files) => match open_block(rt, alloc, files) {
             Ok(block) => Ok(block),
             Err(error) => Err(BlockFault::Refused(error)),
         },
@@ -188,8 +209,10 @@ fn read_block<F: Folder>(
     }
 }
 
-/// The blocks at these places, in their order; or the first that is not opened, and why.
-pub fn read_blocks<F: Folder>(
+/// The blocks at these places, in their order; or the first that is not opened, and why. One is read
+/// after another, and each is opened by several threads.
+pub fn read_blocks<R: Threads + Sync, F: Folder>(
+    rt: &R,
     alloc: Global,
     folder: &mut F,
     places: &[BlockPlace],
@@ -212,7 +235,7 @@ pub fn read_blocks<F: Folder>(
     let mut blocks = Vec::new(alloc);
     for place in places {
         let number = place.folder();
-        match read_block(alloc, folder, *place) {
+        match read_block(rt, alloc, folder, *place) {
             Ok(block) => match blocks.push(block) {
                 Ok(()) => {}
                 Err(_) => {

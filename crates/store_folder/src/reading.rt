@@ -28,6 +28,7 @@ use crate::journals::{FoundJournal, read_journal};
 use block::Block;
 use data_folder::{Folder, JOURNAL};
 use std::alloc::Global;
+use std::thread::Threads;
 
 /// A store that lies in a folder, not yet replayed.
 #[derive(Drop)]
@@ -38,7 +39,8 @@ pub struct FoundStore {
     pub blocks: Vec<Block>,
 }
 
-fn with_blocks<F: Folder>(
+fn with_blocks<R: Threads + Sync, F: Folder>(
+    rt: &R,
     alloc: Global,
     folder: &mut F,
     journal: FoundJournal,
@@ -57,13 +59,14 @@ fn with_blocks<F: Folder>(
         → GivesFound (F.failed folder.new) journal.head parts journal.events.items result }
     ensures refused { IfErr result (λ e. DeniesStore F.shows F.kept F.failed folder.new e) }
 {
-    match read_blocks(alloc, folder, journal.head.places()) {
+    match read_blocks(rt, alloc, folder, journal.head.places()) {
         Ok(blocks) => Ok(FoundStore { journal, blocks }),
         Err(fault) => Err(StartError::Block(fault)),
     }
 }
 
-fn with_file<F: Folder>(
+fn with_file<R: Threads + Sync, F: Folder>(
+    rt: &R,
     alloc: Global,
     folder: &mut F,
     file: &[u8],
@@ -82,12 +85,13 @@ fn with_file<F: Folder>(
     ensures refused { IfErr result (λ e. DeniesStore F.shows F.kept F.failed folder.new e) }
 {
     match read_journal(alloc, file) {
-        Ok(journal) => with_blocks(alloc, folder, journal, file),
+        Ok(journal) => with_blocks(rt, alloc, folder, journal, file),
         Err(error) => Err(StartError::Journal(error)),
     }
 }
 
-fn with_found<F: Folder>(
+fn with_found<R: Threads + Sync, F: Folder>(
+    rt: &R,
     alloc: Global,
     folder: &mut F,
     file: Vec<u8>,
@@ -106,7 +110,7 @@ fn with_found<F: Folder>(
         → GivesStore (F.failed folder.new) saved parts events result }
     ensures refused { IfErr result (λ e. DeniesStore F.shows F.kept F.failed folder.new e) }
 {
-    match with_file(alloc, folder, &file) {
+    match with_file(rt, alloc, folder, &file) {
         Ok(store) => Ok(Some(store)),
         Err(error) => Err(error),
     }
@@ -114,7 +118,8 @@ fn with_found<F: Folder>(
 
 /// The store that a folder has, or `None` if it has no journal. Nothing in the folder is changed;
 /// the files are synced before they are read, so a crash leaves them.
-pub fn read_store<F: Folder>(
+pub fn read_store<R: Threads + Sync, F: Folder>(
+    rt: &R,
     alloc: Global,
     folder: &mut F,
 ) -> Result<Option<FoundStore>, StartError>
@@ -138,7 +143,7 @@ pub fn read_store<F: Folder>(
 {
     match folder.read(alloc, JOURNAL) {
         Ok(found) => match found {
-            Some(file) => with_found(alloc, folder, file),
+            Some(file) => with_found(rt, alloc, folder, file),
             None => Ok(None),
         },
         Err(_) => Err(StartError::Medium),
@@ -146,7 +151,8 @@ pub fn read_store<F: Folder>(
 }
 
 /// The store of a folder whose journal has this file.
-fn open_file<F: Folder>(
+fn open_file<R: Threads + Sync, F: Folder>(
+    rt: &R,
     alloc: Global,
     folder: &mut F,
     file: &[u8],
@@ -179,14 +185,15 @@ fn open_file<F: Folder>(
     if begins_plain(file) {
         adopt(alloc, folder, file)
     } else {
-        with_file(alloc, folder, file)
+        with_file(rt, alloc, folder, file)
     }
 }
 
 /// The store that a folder has, as [`read_store`] gives it. A journal of events alone, as it was
 /// before a journal had a head, is first given the head of a store that has nothing, if it is not
 /// refused; else nothing in the folder is changed.
-pub fn open_store<F: Folder>(
+pub fn open_store<R: Threads + Sync, F: Folder>(
+    rt: &R,
     alloc: Global,
     folder: &mut F,
 ) -> Result<Option<FoundStore>, StartError>
@@ -241,7 +248,7 @@ pub fn open_store<F: Folder>(
 {
     match folder.read(alloc, JOURNAL) {
         Ok(found) => match found {
-            Some(file) => match open_file(alloc, folder, &file) {
+            Some(file) => match open_file(rt, alloc, folder, &file) {
                 Ok(store) => Ok(Some(store)),
                 Err(error) => Err(error),
             },

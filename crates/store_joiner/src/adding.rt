@@ -36,6 +36,7 @@ use data_folder::{Folder, RollError};
 use head::Snapshot;
 use std::alloc::Global;
 use std::marker::Brand;
+use std::thread::Threads;
 use store_folder::{
     Beginning, FoundStore, RollFault, StartError, StartedStore, begin_store, has_blocks, open_store,
 };
@@ -114,7 +115,8 @@ fn has_values(store: &FoundStore, values: Values) -> bool
 
 /// Adds the blocks of an opening, whose values mean this, to a store that was found, after what its
 /// journal has was saved.
-fn add_found<F: Folder + Drop>(
+fn add_found<R: Threads + Sync, F: Folder + Drop>(
+    rt: &R,
     alloc: Global,
     found: Found<F>,
     opening: &Snapshot,
@@ -168,7 +170,7 @@ fn add_found<F: Folder + Drop>(
     if !has_values(&found.store, values) {
         return Err((ChangeFault::Meaning, found.folder));
     }
-    match save(alloc, found) {
+    match save(rt, alloc, found) {
         Ok(saved) => add_saved::<Brand, F>(alloc, saved, opening),
         Err(fault) => Err(fault),
     }
@@ -199,7 +201,11 @@ fn begin<N: Beginning, F: Folder + Drop>(alloc: Global, folder: F) -> Result<F, 
 }
 
 /// Begins the store of a folder that has no journal, and reads it again.
-fn begin_again<F: Folder + Drop>(alloc: Global, folder: F) -> Result<Found<F>, (ChangeFault, F)>
+fn begin_again<R: Threads + Sync, F: Folder + Drop>(
+    rt: &R,
+    alloc: Global,
+    folder: F,
+) -> Result<Found<F>, (ChangeFault, F)>
     requires sound { F.sound folder ≡ true }
     requires none { F.shows folder journal_name None × F.kept folder journal_name 0 }
     ensures sound { IfOk result (λ x. F.sound x.folder ≡ true) }
@@ -223,14 +229,18 @@ fn begin_again<F: Folder + Drop>(alloc: Global, folder: F) -> Result<Found<F>, (
         (λ e. KeepsForeign F.shows F.kept folder e.1) }
 {
     match begin::<Brand, F>(alloc, folder) {
-        Ok(folder) => read_again(alloc, folder),
+        Ok(folder) => read_again(rt, alloc, folder),
         Err(fault) => Err(fault),
     }
 }
 
 /// Begins the store of a folder that has no journal, if it has no blocks either: who has lost a
 /// journal shall not lose the blocks as well.
-fn begin_found<F: Folder + Drop>(alloc: Global, folder: F) -> Result<Found<F>, (ChangeFault, F)>
+fn begin_found<R: Threads + Sync, F: Folder + Drop>(
+    rt: &R,
+    alloc: Global,
+    folder: F,
+) -> Result<Found<F>, (ChangeFault, F)>
     requires sound { F.sound folder ≡ true }
     requires none { F.shows folder journal_name None × F.kept folder journal_name 0 }
     ensures sound { IfOk result (λ found. F.sound found.folder ≡ true) }
@@ -265,14 +275,15 @@ fn begin_found<F: Folder + Drop>(alloc: Global, folder: F) -> Result<Found<F>, (
 {
     let mut folder = folder;
     match has_blocks(alloc, &mut folder) {
-        Ok(false) => begin_again(alloc, folder),
+        Ok(false) => begin_again(rt, alloc, folder),
         Ok(true) | Err(_) => Err((ChangeFault::NoStore, folder)),
     }
 }
 
 /// Begins the store of a folder that has neither a journal nor blocks, and adds the blocks of an
 /// opening to it.
-fn add_first<F: Folder + Drop>(
+fn add_first<R: Threads + Sync, F: Folder + Drop>(
+    rt: &R,
     alloc: Global,
     folder: F,
     opening: &Snapshot,
@@ -315,8 +326,8 @@ fn add_first<F: Folder + Drop>(
     if !values.is_same(Values::Whole) {
         return Err((ChangeFault::Meaning, folder));
     }
-    match begin_found(alloc, folder) {
-        Ok(found) => add_found(alloc, found, opening, values),
+    match begin_found(rt, alloc, folder) {
+        Ok(found) => add_found(rt, alloc, found, opening, values),
         Err(fault) => Err(fault),
     }
 }
@@ -326,7 +337,8 @@ fn add_first<F: Folder + Drop>(
 /// is saved first. A folder that has neither a journal nor blocks gets a store of whole numbers.
 /// How many blocks it then has, and the folder, which an `Err` gives back too. When `Meaning` and
 /// `Unfit` come is not promised.
-pub fn add_to_store<F: Folder + Drop>(
+pub fn add_to_store<R: Threads + Sync, F: Folder + Drop>(
+    rt: &R,
     alloc: Global,
     folder: F,
     opening: &Snapshot,
@@ -487,10 +499,10 @@ pub fn add_to_store<F: Folder + Drop>(
         (λ e. KeepsForeign F.shows F.kept folder e.1) }
 {
     let mut folder = folder;
-    match open_store(alloc, &mut folder) {
+    match open_store(rt, alloc, &mut folder) {
         Ok(opened) => match opened {
-            Some(store) => add_found(alloc, Found { folder, store }, opening, values),
-            None => add_first(alloc, folder, opening, values),
+            Some(store) => add_found(rt, alloc, Found { folder, store }, opening, values),
+            None => add_first(rt, alloc, folder, opening, values),
         },
         Err(error) => Err((ChangeFault::Open(error), folder)),
     }

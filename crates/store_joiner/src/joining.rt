@@ -34,6 +34,7 @@ use data_folder::{Folder, RollError};
 use head::{ResumeError, Snapshot};
 use std::alloc::Global;
 use std::marker::Brand;
+use std::thread::Threads;
 use store_folder::{Beginning, FoundStore, RollFault, StartError, StoreJournal, open_store};
 
 /// How many blocks a store had, and how many it has.
@@ -183,7 +184,8 @@ fn join_saved<N: Beginning, F: Folder + Drop>(
 }
 
 /// Joins the blocks of a store that was found, after what its journal has was saved.
-fn join_found<F: Folder + Drop>(
+fn join_found<R: Threads + Sync, F: Folder + Drop>(
+    rt: &R,
     alloc: Global,
     found: Found<F>,
 ) -> Result<(BlockCounts, F), (ChangeFault, F)>
@@ -235,7 +237,7 @@ fn join_found<F: Folder + Drop>(
         (λ x. KeepsForeign F.shows F.kept found.folder x.1)
         (λ e. KeepsForeign F.shows F.kept found.folder e.1) }
 {
-    match save(alloc, found) {
+    match save(rt, alloc, found) {
         Ok(saved) => join_saved::<Brand, F>(alloc, saved),
         Err(fault) => Err(fault),
     }
@@ -245,7 +247,8 @@ fn join_found<F: Folder + Drop>(
 /// saved first. How many blocks it had and has, and the folder, which an `Err` gives back too.
 ///
 /// It takes memory for the rows of all blocks.
-pub fn join_store<F: Folder + Drop>(
+pub fn join_store<R: Threads + Sync, F: Folder + Drop>(
+    rt: &R,
     alloc: Global,
     folder: F,
 ) -> Result<(BlockCounts, F), (ChangeFault, F)>
@@ -383,9 +386,9 @@ pub fn join_store<F: Folder + Drop>(
         (λ e. KeepsForeign F.shows F.kept folder e.1) }
 {
     let mut folder = folder;
-    match open_store(alloc, &mut folder) {
+    match open_store(rt, alloc, &mut folder) {
         Ok(opened) => match opened {
-            Some(store) => join_found(alloc, Found { folder, store }),
+            Some(store) => join_found(rt, alloc, Found { folder, store }),
             None => Err((ChangeFault::NoStore, folder)),
         },
         Err(error) => Err((ChangeFault::Open(error), folder)),

@@ -21,6 +21,7 @@ use crate::error::ChangeFault;
 use data_folder::{Folder, RollError};
 use std::alloc::Global;
 use std::marker::Brand;
+use std::thread::Threads;
 use store_folder::{Beginning, FoundStore, RollFault, StartedStore, read_store, resume_store};
 
 /// A folder, and the store that was found in it.
@@ -31,7 +32,8 @@ pub(crate) struct Found<F: Drop> {
 }
 
 /// The store of a folder, of which the journal has no events. Nothing is changed.
-pub(crate) fn read_again<F: Folder + Drop>(
+pub(crate) fn read_again<R: Threads + Sync, F: Folder + Drop>(
+    rt: &R,
     alloc: Global,
     folder: F,
 ) -> Result<Found<F>, (ChangeFault, F)>
@@ -50,7 +52,7 @@ pub(crate) fn read_again<F: Folder + Drop>(
     ensures later { IfErr result (λ e. IsLater e.0) }
 {
     let mut folder = folder;
-    match read_store(alloc, &mut folder) {
+    match read_store(rt, alloc, &mut folder) {
         Ok(found) => match found {
             Some(store) => {
                 if store.journal.events.is_empty() {
@@ -130,7 +132,8 @@ fn save_events<N: Beginning, F: Folder + Drop>(
 }
 
 /// A store with what its journal has saved: the journal has no events.
-pub(crate) fn save<F: Folder + Drop>(
+pub(crate) fn save<R: Threads + Sync, F: Folder + Drop>(
+    rt: &R,
     alloc: Global,
     found: Found<F>,
 ) -> Result<Found<F>, (ChangeFault, F)>
@@ -190,7 +193,7 @@ pub(crate) fn save<F: Folder + Drop>(
         return Ok(found);
     }
     match save_events::<Brand, F>(alloc, found) {
-        Ok(folder) => read_again(alloc, folder),
+        Ok(folder) => read_again(rt, alloc, folder),
         Err(fault) => Err(fault),
     }
 }

@@ -11,6 +11,7 @@ use std::alloc::Global;
 use std::marker::Brand;
 use std::sync::Wait;
 use std::thread::Threads;
+use std::time::Clock;
 
 /// More bytes than a reply of these tests has.
 const ROOM: usize = 2000;
@@ -18,7 +19,7 @@ const ROOM: usize = 2000;
 /// How a connection is served, in pieces of seven bytes, and what is written. There is nothing if
 /// there is no memory to write to.
 fn serve<J: OpenNaming, R: Wait + Drop>(
-    rt: &(impl Wait + Threads + Sync),
+    rt: &(impl Wait + Threads + Clock + Sync),
     alloc: Global,
     store: &mut EmptyStore<J, R>,
     input: &[u8],
@@ -56,7 +57,7 @@ fn serve<J: OpenNaming, R: Wait + Drop>(
 
 /// The same, but a connection that is refused memory, and gets nothing, is made again.
 fn serve_again<J: OpenNaming, R: Wait + Drop>(
-    rt: &(impl Wait + Threads + Sync),
+    rt: &(impl Wait + Threads + Clock + Sync),
     alloc: Global,
     store: &mut EmptyStore<J, R>,
     input: &[u8],
@@ -163,7 +164,7 @@ const SESSION: &[(&[u8], &[u8])] = &[
 
 /// Whether a request gets this reply.
 fn is_replied<J: OpenNaming, R: Wait + Drop>(
-    rt: &(impl Wait + Threads + Sync),
+    rt: &(impl Wait + Threads + Clock + Sync),
     alloc: Global,
     store: &mut EmptyStore<J, R>,
     input: &[u8],
@@ -177,7 +178,7 @@ fn is_replied<J: OpenNaming, R: Wait + Drop>(
 
 /// Whether each request of the session gets its reply.
 fn are_replied<J: OpenNaming, R: Wait + Drop>(
-    rt: &(impl Wait + Threads + Sync),
+    rt: &(impl Wait + Threads + Clock + Sync),
     alloc: Global,
     store: &mut EmptyStore<J, R>,
 ) -> bool {
@@ -190,7 +191,7 @@ fn are_replied<J: OpenNaming, R: Wait + Drop>(
 }
 
 /// The same of a store that is opened for it, or nothing if none was opened.
-fn is_session<J: Naming, R: Wait + Threads + Sync>(
+fn is_session<J: Naming, R: Wait + Threads + Clock + Sync>(
     rt: &R,
     alloc: Global,
     store: Store,
@@ -203,7 +204,7 @@ fn is_session<J: Naming, R: Wait + Threads + Sync>(
 }
 
 /// The same of a new store, which is opened again if that was refused memory.
-fn is_held<R: Wait + Threads + Sync>(rt: &R, alloc: Global) -> Option<bool> {
+fn is_held<R: Wait + Threads + Clock + Sync>(rt: &R, alloc: Global) -> Option<bool> {
     match is_session::<Brand, R>(rt, alloc, Store::new()) {
         None => is_session::<Brand, R>(rt, alloc, Store::new()),
         held => held,

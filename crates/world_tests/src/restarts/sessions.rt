@@ -14,6 +14,7 @@ use block_folder::Values;
 use head::Snapshot;
 use logged_folder::LoggedFolder;
 use std::alloc::Global;
+use std::thread::Threads;
 use store_folder::{Beginning, begin_store};
 
 /// What a session came to.
@@ -124,7 +125,8 @@ fn is_kept<N: Beginning>(alloc: Global, store: &mut Store<N>, wish: Wish) -> Res
 }
 
 /// Commits an event, and looks at each crash meanwhile. Returns how many starts that takes.
-fn commit<N: Beginning>(
+fn commit<R: Threads + Sync, N: Beginning>(
+    rt: &R,
     alloc: Global,
     store: &mut Store<N>,
     number: usize,
@@ -143,11 +145,12 @@ fn commit<N: Beginning>(
         after,
         answer,
     };
-    step.look(alloc, store.folder(), from)
+    step.look(rt, alloc, store.folder(), from)
 }
 
 /// Looks at each crash while the store is saved, which changes nothing that a start reports.
-fn look_at_roll<N: Beginning>(
+fn look_at_roll<R: Threads + Sync, N: Beginning>(
+    rt: &R,
     alloc: Global,
     store: &Store<N>,
     at: Before,
@@ -161,11 +164,12 @@ fn look_at_roll<N: Beginning>(
         after: text_of(alloc, store.snapshot())?,
         answer,
     };
-    step.look(alloc, store.folder(), from)
+    step.look(rt, alloc, store.folder(), from)
 }
 
 /// Saves the store if that is worth it, and looks at each crash meanwhile.
-fn roll_if_due<N: Beginning>(
+fn roll_if_due<R: Threads + Sync, N: Beginning>(
+    rt: &R,
     alloc: Global,
     store: &mut Store<N>,
     number: usize,
@@ -179,12 +183,13 @@ fn roll_if_due<N: Beginning>(
     }
     let answer = at.answer(store, saved.is_ok())?;
     ended.count_roll(answer);
-    ended.count(look_at_roll(alloc, store, at, answer, from)?);
+    ended.count(look_at_roll(rt, alloc, store, at, answer, from)?);
     Ok(())
 }
 
 /// All steps of a session after the beginning.
-fn run_steps<N: Beginning>(
+fn run_steps<R: Threads + Sync, N: Beginning>(
+    rt: &R,
     alloc: Global,
     store: &mut Store<N>,
     from: usize,
@@ -192,15 +197,16 @@ fn run_steps<N: Beginning>(
 ) -> Result<(), Fault> {
     for (place, wish) in SESSION.iter().enumerate() {
         let number = place.saturating_add(1);
-        ended.count(commit(alloc, store, number, *wish, from)?);
-        roll_if_due(alloc, store, number, from, ended)?;
+        ended.count(commit(rt, alloc, store, number, *wish, from)?);
+        roll_if_due(rt, alloc, store, number, from, ended)?;
     }
     ended.changes = store.folder().entries();
     Ok(())
 }
 
 /// Looks at each crash while a store is begun.
-fn look_at_begin(
+fn look_at_begin<R: Threads + Sync>(
+    rt: &R,
     alloc: Global,
     folder: &LoggedFolder,
     answer: Answer,
@@ -216,12 +222,13 @@ fn look_at_begin(
         after: text_of(alloc, &opening)?,
         answer,
     };
-    step.look(alloc, folder, from)
+    step.look(rt, alloc, folder, from)
 }
 
 /// Runs a session over a folder of which `before` calls go well, and then `failing` calls fail.
 /// Looks at each crash in it that comes after at least `from` changes.
-pub fn run_session<N: Beginning>(
+pub fn run_session<R: Threads + Sync, N: Beginning>(
+    rt: &R,
     alloc: Global,
     before: u64,
     failing: u64,
@@ -234,11 +241,11 @@ pub fn run_session<N: Beginning>(
     match begin_store::<N, LoggedFolder>(alloc, folder, Values::Whole, MOST) {
         Ok(started) => {
             let mut store = Running::of(started);
-            ended.count(look_at_begin(alloc, store.folder(), Answer::Done, from)?);
-            run_steps(alloc, &mut store, from, &mut ended)?;
+            ended.count(look_at_begin(rt, alloc, store.folder(), Answer::Done, from)?);
+            run_steps(rt, alloc, &mut store, from, &mut ended)?;
         }
         Err((_, folder)) => {
-            ended.count(look_at_begin(alloc, &folder, Answer::Closed, from)?);
+            ended.count(look_at_begin(rt, alloc, &folder, Answer::Closed, from)?);
             ended.changes = folder.entries();
         }
     }

@@ -13,6 +13,7 @@ use data_folder::Folder;
 use logged_folder::LoggedFolder;
 use std::alloc::Global;
 use std::marker::Brand;
+use std::thread::Threads;
 use store_folder::{Beginning, FoundStore, StoreKeeper, open_store, resume_store};
 
 /// After how many bytes of events a journal is begun anew.
@@ -54,11 +55,11 @@ fn told_of<N: Beginning, F: Folder + Drop>(
 }
 
 /// What a start reports of a folder: no text if it has no store, and `None` if it is refused.
-fn told<F: Folder + Drop>(alloc: Global, folder: F) -> Option<String>
+fn told<R: Threads + Sync, F: Folder + Drop>(rt: &R, alloc: Global, folder: F) -> Option<String>
     requires { F.sound folder ≡ true }
 {
     let mut folder = folder;
-    match open_store(alloc, &mut folder) {
+    match open_store(rt, alloc, &mut folder) {
         Ok(Some(found)) => told_of::<Brand, F>(alloc, folder, found),
         Ok(None) => Some(String::new(alloc)),
         Err(_) => None,
@@ -66,18 +67,27 @@ fn told<F: Folder + Drop>(alloc: Global, folder: F) -> Option<String>
 }
 
 /// Whether a store takes a further event, and a start finds it.
-fn takes_more<N: Beginning>(alloc: Global, store: &mut Store<N>) -> Option<bool> {
+fn takes_more<R: Threads + Sync, N: Beginning>(
+    rt: &R,
+    alloc: Global,
+    store: &mut Store<N>,
+) -> Option<bool> {
     let event = event_of(alloc, ONE_MORE)?;
     store.commit(alloc, &event).ok()?;
     let folder = store.folder();
     let left = folder.left(folder.entries(), 0).ok()?;
-    let found = told(alloc, left)?;
+    let found = told(rt, alloc, left)?;
     let after = tell(alloc, store.snapshot())?;
     Some(found.as_str() == after.as_str())
 }
 
 /// What a start reports of what was found in a folder, and goes on with, or else `None`.
-fn go_on<N: Beginning>(alloc: Global, folder: LoggedFolder, found: FoundStore) -> Option<String>
+fn go_on<R: Threads + Sync, N: Beginning>(
+    rt: &R,
+    alloc: Global,
+    folder: LoggedFolder,
+    found: FoundStore,
+) -> Option<String>
     requires sound { logged_sound folder ≡ true }
     requires found { IsFoundStore ⟦<LoggedFolder as Folder>⟧.shows
         ⟦<LoggedFolder as Folder>⟧.kept found.journal (map part_in found.blocks.items) folder }
@@ -85,7 +95,7 @@ fn go_on<N: Beginning>(alloc: Global, folder: LoggedFolder, found: FoundStore) -
 {
     let mut store = resume::<N, LoggedFolder>(alloc, folder, found)?;
     let text = tell(alloc, store.snapshot())?;
-    if takes_more(alloc, &mut store)? {
+    if takes_more(rt, alloc, &mut store)? {
         return Some(text);
     }
     None
@@ -93,12 +103,12 @@ fn go_on<N: Beginning>(alloc: Global, folder: LoggedFolder, found: FoundStore) -
 
 /// What a start reports of a folder, and goes on with: no text if it has no store, and `None` if it
 /// is refused, or does not go on.
-pub fn start(alloc: Global, folder: LoggedFolder) -> Option<String>
+pub fn start<R: Threads + Sync>(rt: &R, alloc: Global, folder: LoggedFolder) -> Option<String>
     requires { logged_sound folder ≡ true }
 {
     let mut folder = folder;
-    match open_store(alloc, &mut folder) {
-        Ok(Some(found)) => go_on::<Brand>(alloc, folder, found),
+    match open_store(rt, alloc, &mut folder) {
+        Ok(Some(found)) => go_on::<R, Brand>(rt, alloc, folder, found),
         Ok(None) => Some(String::new(alloc)),
         Err(_) => None,
     }

@@ -4,6 +4,7 @@ use crate::restarts::fault::Fault;
 use crate::restarts::starts::start;
 use logged_folder::LoggedFolder;
 use std::alloc::Global;
+use std::thread::Threads;
 
 /// How a step was answered.
 #[derive(Clone, Copy, Debug, PartialEq, Eq, Drop)]
@@ -45,8 +46,9 @@ impl Step {
 
     /// Looks at what a start makes of what a crash leaves after this many changes, with this many
     /// bytes that were not synced.
-    fn look_at(
+    fn look_at<R: Threads + Sync>(
         &self,
+        rt: &R,
         alloc: Global,
         folder: &LoggedFolder,
         entries: usize,
@@ -56,7 +58,7 @@ impl Step {
         let Ok(left) = folder.left(entries, unsynced) else {
             return Err(Fault::Session);
         };
-        let Some(told) = start(alloc, left) else {
+        let Some(told) = start(rt, alloc, left) else {
             return Err(fault);
         };
         if self.allows(entries >= folder.entries(), told.as_str()) {
@@ -67,29 +69,36 @@ impl Step {
 
     /// Looks at a crash after this many changes: with none of the bytes that were not synced, one,
     /// half of them, all but one, and all. Returns how many starts that takes.
-    fn look_after(
+    fn look_after<R: Threads + Sync>(
         &self,
+        rt: &R,
         alloc: Global,
         folder: &LoggedFolder,
         entries: usize,
     ) -> Result<usize, Fault> {
         let all = folder.unsynced(entries);
         if all == 0 {
-            self.look_at(alloc, folder, entries, 0)?;
+            self.look_at(rt, alloc, folder, entries, 0)?;
             return Ok(1);
         }
         for few in [0, 1, all / 2, all - 1, all] {
-            self.look_at(alloc, folder, entries, few)?;
+            self.look_at(rt, alloc, folder, entries, few)?;
         }
         Ok(5)
     }
 
     /// Looks at each crash in the step and after it that comes after at least `from` changes.
     /// Returns how many starts that takes.
-    pub fn look(&self, alloc: Global, folder: &LoggedFolder, from: usize) -> Result<usize, Fault> {
+    pub fn look<R: Threads + Sync>(
+        &self,
+        rt: &R,
+        alloc: Global,
+        folder: &LoggedFolder,
+        from: usize,
+    ) -> Result<usize, Fault> {
         let mut starts = 0usize;
         for entries in from.max(self.first)..=folder.entries() {
-            starts = starts.saturating_add(self.look_after(alloc, folder, entries)?);
+            starts = starts.saturating_add(self.look_after(rt, alloc, folder, entries)?);
         }
         Ok(starts)
     }

@@ -21,7 +21,7 @@ returns-then-size-le-SHORT-clause-spelled g c =
     IfOk-weaker c.joined_reply.result _ _
     (λ r h. h ∙ put_together _ body text c.in_ok-size.size
     (c.in_ok-append_success_head.ensures
-    ∙ ap (λ (s : List ℕ). s ++ success_head c.in_ok-size.size) c.take_head-head.ensures)
+    ∙ ap (λ (s : List ℕ). s ++ success_head c.in_ok-size.size) c.take_head-head.ensures.empty)
     c.in_ok-size.ensures
     c.in_ok-text.ensures)
     c.joined_reply.ensures.spelled
@@ -32,6 +32,6 @@ returns-clause-spelled g c =
     let text = body_text c.args.answer.now.parts.items (rows_of c.args.answer.now) in
     put_together _ body text c.in_ok-size.size
     (c.in_ok-append_success_head.ensures
-    ∙ ap (λ (s : List ℕ). s ++ success_head c.in_ok-size.size) c.take_head-head.ensures)
+    ∙ ap (λ (s : List ℕ). s ++ success_head c.in_ok-size.size) c.take_head-head.ensures.empty)
     c.in_ok-size.ensures
     c.in_ok-text.ensures

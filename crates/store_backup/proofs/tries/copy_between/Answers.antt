@@ -166,7 +166,7 @@ returns-clause-tried g c = record {
 -- each view is sound before its try
 
 pub copy_store-requires-clause-source : goal.copy_store-requires-clause-source
-copy_store-requires-clause-source g c =
+copy_store-requires-clause-source g c κs within =
     let sound = g.F.Folder.sound in
     let i = c.loop-view.view-index in
     let x = c.view-item.result in
@@ -175,7 +175,7 @@ copy_store-requires-clause-source g c =
     c.loop-view-test.true c.requires.views).0
 
 pub copy_store-requires-clause-again : goal.copy_store-requires-clause-again
-copy_store-requires-clause-again g c =
+copy_store-requires-clause-again g c κs within =
     let sound = g.F.Folder.sound in
     let i = c.loop-view.view-index in
     let x = c.view-item.result in

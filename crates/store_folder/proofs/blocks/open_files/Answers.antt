@@ -3,30 +3,30 @@ use Rattle.store_folder.proofs.OpenedBlocks.{exact_so, fails_so, ok_and, only_bl
 use Rattle.store_folder.proofs.blocks.open_files.Goals as goal
 
 pub returns-in-Ok-clause-found : goal.returns-in-Ok-clause-found
-returns-in-Ok-clause-found c =
+returns-in-Ok-clause-found g c =
     let files : BlockFiles = record {
       meta = c.args.meta.now;
       index = c.args.index.now;
       chunks = c.args.chunks.items;
       tombstones = c.args.tombstones.now;
     } in
-    ok_and c.open.result _ _ _
+    ok_and c.open_by.result _ _ _
     (λ b is block. opened files c.in-Ok.range b c.in-Ok.ensures is block)
-    c.open.ensures.range c.open.ensures.found
+    c.open_by.ensures.range c.open_by.ensures.found
 
 pub returns-in-Ok-clause-only : goal.returns-in-Ok-clause-only
-returns-in-Ok-clause-only c part s =
+returns-in-Ok-clause-only g c part s =
     let files : BlockFiles = record {
       meta = c.args.meta.now;
       index = c.args.index.now;
       chunks = c.args.chunks.items;
       tombstones = c.args.tombstones.now;
     } in
-    only_block files c.in-Ok.range part c.open.result c.in-Ok.ensures c.open.ensures.range
-    c.open.ensures.only s
+    only_block files c.in-Ok.range part c.open_by.result c.in-Ok.ensures c.open_by.ensures.range
+    c.open_by.ensures.only s
 
 pub returns-in-Err-clause-only : goal.returns-in-Err-clause-only
-returns-in-Err-clause-only c part s =
+returns-in-Err-clause-only g c part s =
     let files : BlockFiles = record {
       meta = c.args.meta.now;
       index = c.args.index.now;
@@ -36,17 +36,17 @@ returns-in-Err-clause-only c part s =
     only_range files part c.in-Err.error c.in-Err.ensures s
 
 pub returns-in-Ok-clause-exact : goal.returns-in-Ok-clause-exact
-returns-in-Ok-clause-exact c =
+returns-in-Ok-clause-exact g c =
     let files : BlockFiles = record {
       meta = c.args.meta.now;
       index = c.args.index.now;
       chunks = c.args.chunks.items;
       tombstones = c.args.tombstones.now;
     } in
-    exact_so files c.in-Ok.range c.open.result c.in-Ok.ensures c.open.ensures.exact
+    exact_so files c.in-Ok.range c.open_by.result c.in-Ok.ensures c.open_by.ensures.exact
 
 pub returns-in-Err-clause-exact : goal.returns-in-Err-clause-exact
-returns-in-Err-clause-exact c =
+returns-in-Err-clause-exact g c =
     let files : BlockFiles = record {
       meta = c.args.meta.now;
       index = c.args.index.now;

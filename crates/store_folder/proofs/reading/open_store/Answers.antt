@@ -11,7 +11,7 @@ use Rattle.store_folder.proofs.Refusals.{plain_refused, store_refused}
 use Rattle.store_folder.proofs.reading.open_store.Goals as goal
 
 pub open_file-requires-clause-has : goal.open_file-requires-clause-has
-open_file-requires-clause-has g c =
+open_file-requires-clause-has g c κs within =
     let f = g.F.Folder in
     let old = c.args.folder.now in
     let read = c.read.new.self in

@@ -7,7 +7,7 @@ use Rattle.store_folder.specs.Holding.{AreAt}
 use Rattle.store_folder.proofs.reading.with_file.Goals as goal
 
 pub with_blocks-requires-clause-journal : goal.with_blocks-requires-clause-journal
-with_blocks-requires-clause-journal g c = c.in-Ok.ensures.found
+with_blocks-requires-clause-journal g c κs within = c.in-Ok.ensures.found
 
 pub returns-in-Err-clause-untouched : goal.returns-in-Err-clause-untouched
 returns-in-Err-clause-untouched g c =

@@ -5,7 +5,7 @@ use Rattle.store_folder.specs.Journals.{IsJournalOf}
 use Rattle.store_folder.proofs.reading.with_found.Goals as goal
 
 pub with_file-requires-clause-has : goal.with_file-requires-clause-has
-with_file-requires-clause-has g c =
+with_file-requires-clause-has g c κs within =
     let f = g.F.Folder in
     subst (λ (bytes : List ℕ). HasFile f.shows f.kept journal_name bytes c.args.folder.now)
     (sym c.deref.ensures.value) c.requires.has

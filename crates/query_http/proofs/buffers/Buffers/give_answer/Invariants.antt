@@ -5,3 +5,4 @@ use Rattle.query_http.proofs.buffers.Buffers.give_answer.Given as goal
 abbrev pub invariant-loop-piece : goal.invariant-loop-piece
 invariant-loop-piece l =
     (IsBounded l.fn.self → IsBounded l.self) × (l.self.note ≡ l.fn.self.note)
+    × (l.self.room ≡ l.fn.self.room)

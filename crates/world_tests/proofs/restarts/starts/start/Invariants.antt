@@ -5,5 +5,5 @@ use Rattle.world_tests.proofs.restarts.starts.start.Given as goal
 
 -- what the head and the blocks that were found say
 abbrev pub ghosts-go_on : goal.ghosts-go_on
-ghosts-go_on a =
+ghosts-go_on g a =
     record { first = origin_of a.found.journal.head (map part_in a.found.blocks.items) }

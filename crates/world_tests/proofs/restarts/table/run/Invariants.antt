@@ -4,4 +4,4 @@ use Rattle.world_tests.proofs.restarts.table.run.Given as goal
 
 -- a store of whole numbers that has nothing
 abbrev pub ghosts-run_session : goal.ghosts-run_session
-ghosts-run_session a = record { first = beginning Whole }
+ghosts-run_session g a = record { first = beginning Whole }
