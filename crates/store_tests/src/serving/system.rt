@@ -80,6 +80,7 @@ fn serve_all<
     let terms = Terms {
         requests: 2,
         idle: Some(Duration::from_secs(1)),
+        reply_memory: None,
         version: "test",
     };
     let listeners = Listeners {
