@@ -6,8 +6,8 @@
 //! puts a query to a store that others change meanwhile. Its answer is that of the next snapshot of
 //! a pass, after all events that the pass had seen or whose receipts it had learnt. [`body`] is the
 //! text of an answer, as compact JSON, byte for byte. [`answer_text`] keeps it so that rows that it
-//! has twice are in memory once. [`room_to_ask`] tells about how much memory an answer takes, before
-//! it is made.
+//! has twice are in memory once. [`room_to_ask`] tells about how much memory an answer takes,
+//! before it is made.
 //!
 //! Of a `snapshot` whose head has one sample, 1 at time 10, of the series `up`:
 //!

@@ -57,8 +57,8 @@ counts_app =
 -- [--data DIR] [--quiet] [DIR]...
 abbrev pub serve_app : App
 serve_app =
-    with_rule (with_rule (with_rule (with_rule (with_rule (with_rule (with_rule (with_rule (with_rule
-    counts_app (text_rule (codes "keep"))) (count_rule (codes "keep-gb") 1 1048576))
+    with_rule (with_rule (with_rule (with_rule (with_rule (with_rule (with_rule (with_rule
+    (with_rule counts_app (text_rule (codes "keep"))) (count_rule (codes "keep-gb") 1 1048576))
     (count_rule (codes "join-samples") 1 67108864)) (count_rule (codes "reply-memory") 1 1048576))
     (flag_rule (codes "read-only"))) (text_rule (codes "guard"))) (text_rule (codes "data")))
     (flag_rule (codes "quiet"))) directories_rule

@@ -18,8 +18,8 @@ ghost use Rattle.answers.specs.Kept.{whole_of};
 ghost use Rattle.answers.specs.MergedRows.{rows_of};
 ghost use Rattle.snapshots.specs.Keeping.{AreHeld, PublishesHeld};
 ghost use Rattle.query_http.specs.Serving.{worker, IsIdle, IsReplyOfRefusal, conflict_body};
-ghost use Rattle.query_http.specs.Serving.{IsAnswerReply, IsCrowdedReply, IsQueryReply, IsEventReply};
-ghost use Rattle.query_http.specs.Serving.{IsRequestReply};
+ghost use Rattle.query_http.specs.Serving.{IsAnswerReply, IsCrowdedReply, IsQueryReply};
+ghost use Rattle.query_http.specs.Serving.{IsEventReply, IsRequestReply};
 ghost use Rattle.query_http.specs.Serving.{refused_at as place_refused};
 
 use crate::buffers::Buffers;

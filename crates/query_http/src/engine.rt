@@ -1,6 +1,7 @@
 //! Serving one connection: a request is read, done and replied to.
 
-ghost use Rattle.std.specs.Prelude.{◌≡◌, [], Some, None, false, IfOk, IfErr, IfSome, OnErr, IsErrOf};
+ghost use Rattle.std.specs.Prelude.{◌≡◌, [], Some, None, false};
+ghost use Rattle.std.specs.Prelude.{IfOk, IfErr, IfSome, OnErr, IsErrOf};
 ghost use Rattle.requests.specs.Edge.{HasGrown};
 ghost use Rattle.requests.specs.Admitting.{MeansUnder, IsBarred};
 ghost use Rattle.requests.specs.Fitting.{IsFit};
@@ -187,8 +188,8 @@ fn serve_next<J: OpenNaming, C: Wait + Drop, K: Keeper + Drop, R: Inlet, W: Outl
 /// room that they share with others ([`Buffers::sharing`]), if they do: before the reply to a query
 /// is made, it waits until this has room for the reply, and replies with `H13` if it has none.
 /// Nothing is held of that room at the end, however the connection ends (`given`). At most
-/// [`MOST_KEPT`](crate::MOST_KEPT) bytes of each buffer are kept. The buffers note the status of the
-/// reply (`noted`), and none if no reply was made (`unnoted`).
+/// [`MOST_KEPT`](crate::MOST_KEPT) bytes of each buffer are kept. The buffers note the status of
+/// the reply (`noted`), and none if no reply was made (`unnoted`).
 pub fn serve_one_with<J: OpenNaming, C: Wait + Drop, K: Keeper + Drop, R: Inlet, W: Outlet>(
     rt: &(impl Wait + Threads + Clock + Sync),
     alloc: Global,

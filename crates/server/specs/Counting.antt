@@ -20,8 +20,8 @@ refusal_unavailable (Some Write) = 11
 refusal_unavailable (Some Delete) = 11
 refusal_unavailable (Some Cut) = 11
 
--- the number of the refusal in a reply with the status 503: the one that is noted, which is 13, that
--- the memory for replies has no room, or that of a store
+-- the number of the refusal in a reply with the status 503: the one that is noted, which is 13,
+-- that the memory for replies has no room, or that of a store
 abbrev pub refusal_noted : Note → ℕ
 refusal_noted note = unwrap_or note.refusal (refusal_unavailable note.path)
 

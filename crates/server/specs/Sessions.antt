@@ -22,8 +22,8 @@ abbrev pub IsFresh : Option (List ℕ) → Type 0
 IsFresh output = IfSome output (λ bytes. bytes ≡ [])
 
 -- the connection was served by this worker: one request was read, under these rules, done and
--- replied to (`idle`: whether the store keeps nothing; `bounded`: whether the memory for replies is;
--- `held`: which lists of events a keeper of its kind has come to hold)
+-- replied to (`idle`: whether the store keeps nothing; `bounded`: whether the memory for replies
+-- is; `held`: which lists of events a keeper of its kind has come to hold)
 pub record IsServed (rules : Rules) (opening : SnapshotParts) (idle bounded : Bool)
     (held : List Entry → Type 0) (before after : Worker) (s : Session) : Type 0 where
   pub output : Option (List ℕ)

@@ -10,9 +10,9 @@
 //! connection to connection. They play no part in the contract but that they say whether the memory
 //! for replies is bounded: only then may a query be refused for lack of room. [`Sockets`] are
 //! connections of the system, with limits of time: a client that is silent or gone costs its own
-//! connection and no other. [`serve_watched`] also answers those that ask at a status port for the state of the
-//! server ([`Watch`]), each by [`answer_client`]. Each worker counts in a [`Tally`] of its own. One
-//! thread may cut the store by a [`Schedule`], and tend its blocks ([`Upkeep`]).
+//! connection and no other. [`serve_watched`] also answers those that ask at a status port for the
+//! state of the server ([`Watch`]), each by [`answer_client`]. Each worker counts in a [`Tally`] of
+//! its own. One thread may cut the store by a [`Schedule`], and tend its blocks ([`Upkeep`]).
 //!
 //! The loop of a worker over two `connections` in memory:
 //!

@@ -253,8 +253,8 @@ where
 /// its own. Returns what each worker of the first port has done, under these rules and for as many
 /// connections as the terms ask for. Other workers serve the port of Prometheus, under the same
 /// rules and terms. What is written to its connections is the 503 of the room in front of them or
-/// the reply of the store to the bytes that came. What a reply reports is kept by then. If the terms
-/// bound the memory for replies, the workers of the first port share it.
+/// the reply of the store to the bytes that came. What a reply reports is kept by then. If the
+/// terms bound the memory for replies, the workers of the first port share it.
 ///
 /// `NoThread` is returned before any connection is accepted, if that many threads cannot be made.
 /// `NoListener` is returned if a worker has ended because there is no listener any more.

@@ -209,8 +209,8 @@ fn read_block<R: Threads + Sync, F: Folder>(
     }
 }
 
-/// The blocks at these places, in their order; or the first that is not opened, and why. One is read
-/// after another, and each is opened by several threads.
+/// The blocks at these places, in their order; or the first that is not opened, and why. One is
+/// read after another, and each is opened by several threads.
 pub fn read_blocks<R: Threads + Sync, F: Folder>(
     rt: &R,
     alloc: Global,
